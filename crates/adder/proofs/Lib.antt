@@ -1,0 +1,12 @@
+pub mod Division
+pub mod Size
+pub mod Sticky
+pub mod RoundOff
+pub mod Held
+pub mod Bounds
+pub mod Rounded
+pub mod Canonical
+pub mod Align
+pub mod FiniteSum
+pub mod RowBit
+pub mod Causes

@@ -1,0 +1,45 @@
+-- `adder::result::words_cause` meets its contract. Assumes nothing.
+use mathlib.Core.Path.{_≡_, refl, sym, ap, ap₂, _∙_, subst}
+use Prim.Native.Nat.{ℕ, zero, suc, _+_, _-_, _*_, _/_, _%_, _^_, _≤_, _<_}
+use native.Mathlib.Omega.{arith}
+use Rattle.format.specs.Cause.{first}
+use Rattle.format.specs.Format.{Supported, wordBits, formatCause, operationCause, modeCause, wordCause}
+use Rattle.adder.proofs.Causes.{first-kept}
+use borrow.Author.Needs.{needs}
+use Rattle.adder.proofs.result.words_cause.Statement.{statement}
+use Rattle.adder.proofs.result.words_cause.Tie as tie
+
+returns : tie.Need-returns
+returns c = first-kept (c .before .args .before) (first (wordCause (wordBits (c .before .args .format)) (c .before .args .a)) (wordCause (wordBits (c .before .args .format)) (c .before .args .b))) (c .if1 .taken)
+
+add-width : tie.Need-add-width
+add-width c = let ok = c .before .before .pre (c .before .if1 .left) in omega (arith, ok .w-most, ok .f-most)
+
+add-width-2 : tie.Need-add-width-2
+add-width-2 c = let ok = c .before .before .pre (c .before .if1 .left) in omega (arith, ok .w-most, ok .f-most)
+
+word-cause-requires : tie.Need-word-cause-requires
+word-cause-requires c κs = search needs
+
+word-cause-requires-2 : tie.Need-word-cause-requires-2
+word-cause-requires-2 c κs = search needs
+
+first-requires : tie.Need-first-requires
+first-requires c κs = search needs
+
+returns-2 : tie.Need-returns-2
+returns-2 c =
+    let s = c .before .before .before .before .before in
+    rw (c .before .before .before .before .if1 .left) (c .first .ensures ∙ ap₂ first (c .before .before .word-cause .ensures) (c .before .word-cause2 .ensures))
+
+pub words-cause-spec : {M : Type 1} → statement M
+words-cause-spec =
+    tie.close
+    (tie.spec
+    returns
+    add-width
+    add-width-2
+    word-cause-requires
+    word-cause-requires-2
+    first-requires
+    returns-2)

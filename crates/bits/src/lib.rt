@@ -1,0 +1,32 @@
+// Single bits, low parts and quotients of a 64-bit word, for any position.
+ghost use mathlib.Core.Path.{_≡_};
+ghost use Prim.Native.Nat.{_/_, _%_, _^_};
+ghost use Rattle.bits.specs.Bit.{bit};
+
+// Bit i of x; 0 from position 64 on.
+pub fn bit_at(x: u64, i: u64) -> u64
+    ensures { λ r. ⌜ r ≡ bit x i ⌝ }
+{
+    if i < 64 { (x >> i) % 2 } else { 0 }
+}
+
+// 2^k, as far as a word holds it.
+pub fn power(k: u64) -> u64
+    ensures { λ r. ⌜ r ≡ 2 ^ k % 2 ^ 64 ⌝ }
+{
+    if k < 64 { 1 << k } else { 0 }
+}
+
+// x without its low k bits.
+pub fn high(x: u64, k: u64) -> u64
+    ensures { λ r. ⌜ r ≡ x / 2 ^ k ⌝ }
+{
+    if k < 64 { x >> k } else { 0 }
+}
+
+// The low k bits of x.
+pub fn low(x: u64, k: u64) -> u64
+    ensures { λ r. ⌜ r ≡ x % 2 ^ k ⌝ }
+{
+    if k < 64 { x % (1 << k) } else { x }
+}

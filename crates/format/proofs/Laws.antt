@@ -1,0 +1,64 @@
+-- What it means that a check names no cause. Assumes nothing.
+use mathlib.Core.Path.{_≡_, refl, sym}
+use mathlib.Core.Bool.{Bool, true, false, _&&_, and-eq-true-iff}
+use mathlib.Core.Logic.{_↔_}
+use Prim.Native.Nat.{ℕ, zero, suc, _^_, _≤_, _<_}
+use native.Mathlib.Nat.{suc-ne-zero}
+use borrow.Author.Tests.{ltb-true, leb-true, lt-ltb, le-leb}
+use lib.Dec.{ltb, leb}
+use Rattle.format.specs.declared.Format.{Format}
+use Rattle.format.specs.Cause.{unless, first}
+use Rattle.format.specs.Limits.{leastExponentBits, mostExponentBits, leastFractionBits, mostFractionBits, mostOperation, mostMode, within}
+use Rattle.format.specs.Format.{Supported, formatCause, operationCause, modeCause, wordCause}
+
+-- the first of two causes is none exactly when both are none
+pub first-none : (m n : ℕ) → first m n ≡ 0 ↔ ((m ≡ 0) × (n ≡ 0))
+first-none zero n = (λ e. (refl, e), λ b. b .1)
+first-none (suc m) n = (λ e. absurd (suc-ne-zero m e), λ b. b .0)
+
+-- a test that names the cause suc n names none exactly when it holds
+pub unless-none : (t : Bool) (n : ℕ) → unless t (suc n) ≡ 0 ↔ (t ≡ true)
+unless-none true n = (λ e. refl, λ e. refl)
+unless-none false n = (λ e. absurd (suc-ne-zero n e), λ e. absurd (mathlib.Core.Bool.false≢true e))
+
+pub within-holds : (least most n : ℕ) → within least most n ≡ true ↔ ((least ≤ n) × (n ≤ most))
+within-holds least most n = (
+  λ e. let b = and-eq-true-iff (leb least n) (leb n most) .0 e in (leb-true least n (b .0), leb-true n most (b .1)),
+  λ b. and-eq-true-iff (leb least n) (leb n most) .1 (le-leb least n (b .0), le-leb n most (b .1)),
+)
+
+pub format-none : (F : Format) → formatCause F ≡ 0 ↔ Supported F
+unfolding formatCause
+format-none F = (
+  λ e.
+      let b = first-none (unless (within leastExponentBits mostExponentBits (F .w)) 1) (unless (within leastFractionBits mostFractionBits (F .f)) 2) .0 e in
+      let w = within-holds leastExponentBits mostExponentBits (F .w) .0 (unless-none (within leastExponentBits mostExponentBits (F .w)) 0 .0 (b .0)) in
+      let f = within-holds leastFractionBits mostFractionBits (F .f) .0 (unless-none (within leastFractionBits mostFractionBits (F .f)) 1 .0 (b .1)) in
+      record { w-least = w .0; w-most = w .1; f-least = f .0; f-most = f .1 },
+  λ s.
+      first-none (unless (within leastExponentBits mostExponentBits (F .w)) 1) (unless (within leastFractionBits mostFractionBits (F .f)) 2) .1 (
+        unless-none (within leastExponentBits mostExponentBits (F .w)) 0 .1 (within-holds leastExponentBits mostExponentBits (F .w) .1 (s .w-least, s .w-most)),
+        unless-none (within leastFractionBits mostFractionBits (F .f)) 1 .1 (within-holds leastFractionBits mostFractionBits (F .f) .1 (s .f-least, s .f-most)),
+      ),
+)
+
+pub operation-none : (op : ℕ) → operationCause op ≡ 0 ↔ (op ≤ mostOperation)
+unfolding operationCause
+operation-none op = (
+  λ e. leb-true op mostOperation (unless-none (leb op mostOperation) 2 .0 e),
+  λ h. unless-none (leb op mostOperation) 2 .1 (le-leb op mostOperation h),
+)
+
+pub mode-none : (m : ℕ) → modeCause m ≡ 0 ↔ (m ≤ mostMode)
+unfolding modeCause
+mode-none m = (
+  λ e. leb-true m mostMode (unless-none (leb m mostMode) 3 .0 e),
+  λ h. unless-none (leb m mostMode) 3 .1 (le-leb m mostMode h),
+)
+
+pub word-none : (width x : ℕ) → wordCause width x ≡ 0 ↔ (x < 2 ^ width)
+unfolding wordCause
+word-none width x = (
+  λ e. ltb-true x (2 ^ width) (unless-none (ltb x (2 ^ width)) 5 .0 e),
+  λ h. unless-none (ltb x (2 ^ width)) 5 .1 (lt-ltb x (2 ^ width) h),
+)

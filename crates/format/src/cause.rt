@@ -1,0 +1,28 @@
+// The numbers of document 01's table "Causes and replies". 0 stands for no cause.
+
+// w below 2 or above 8
+pub const EXPONENT_BITS: u64 = 1;
+// f below 2 or above 23
+pub const FRACTION_BITS: u64 = 2;
+// operation above 1
+pub const OPERATION: u64 = 3;
+// mode above 3
+pub const MODE: u64 = 4;
+// mask bit above its width, or value outside care
+pub const MASK: u64 = 5;
+// operand, proposed or random word above its width
+pub const WORD: u64 = 6;
+// no case fits
+pub const NO_CASE: u64 = 7;
+// record cut short
+pub const CUT: u64 = 8;
+// map bit 6 or 7 set
+pub const MAP: u64 = 9;
+// field that says its default
+pub const DEFAULT: u64 = 10;
+// buffer too short for the record
+pub const BUFFER: u64 = 11;
+// N outside 1 to 32
+pub const LENGTH: u64 = 12;
+// two masks fix one bit unlike
+pub const CLASH: u64 = 13;

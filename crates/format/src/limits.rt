@@ -1,0 +1,16 @@
+// The limits of the plain numbers, each in this one place.
+pub const LEAST_EXPONENT_BITS: u64 = 2;
+
+pub const MOST_EXPONENT_BITS: u64 = 8;
+
+pub const LEAST_FRACTION_BITS: u64 = 2;
+
+pub const MOST_FRACTION_BITS: u64 = 23;
+
+pub const MOST_OPERATION: u64 = 1;
+
+pub const MOST_MODE: u64 = 3;
+// Whole numbers: their length.
+pub const LEAST_LENGTH: u64 = 1;
+
+pub const MOST_LENGTH: u64 = 32;
