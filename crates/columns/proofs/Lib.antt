@@ -1,0 +1,8 @@
+pub mod Agree
+pub mod Carry
+pub mod Borrow
+pub mod Some
+pub mod Reach
+pub mod Closest
+pub mod Pair
+pub mod Follow

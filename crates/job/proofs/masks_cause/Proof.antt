@@ -1,0 +1,63 @@
+-- `job::masks_cause` meets its contract. Assumes nothing.
+use borrow.Author.Needs.{needs}
+use mathlib.Core.Path.{ap₂, _∙_}
+use Rattle.format.specs.Cause.{first}
+use Rattle.job.specs.Job.{masksCause}
+use Rattle.job.proofs.masks_cause.Statement.{statement}
+use Rattle.job.proofs.masks_cause.Tie as tie
+
+add-width : tie.Need-add-width
+add-width c = search needs
+
+add-width-2 : tie.Need-add-width-2
+add-width-2 c = search needs
+
+add-precision : tie.Need-add-precision
+add-precision c = search needs
+
+mask-cause-requires : tie.Need-mask-cause-requires
+mask-cause-requires c κs = search needs
+
+mask-cause-requires-2 : tie.Need-mask-cause-requires-2
+mask-cause-requires-2 c κs = search needs
+
+mask-cause-requires-3 : tie.Need-mask-cause-requires-3
+mask-cause-requires-3 c κs = search needs
+
+mask-cause-requires-4 : tie.Need-mask-cause-requires-4
+mask-cause-requires-4 c κs = search needs
+
+first-requires : tie.Need-first-requires
+first-requires c κs = search needs
+
+first-requires-2 : tie.Need-first-requires-2
+first-requires-2 c κs = search needs
+
+first-requires-3 : tie.Need-first-requires-3
+first-requires-3 c κs = search needs
+
+returns : tie.Need-returns
+unfolding masksCause
+returns c =
+    let b = c .before .before .before in
+    c .first3 .ensures
+    ∙ ap₂ first (b .before .before .before .mask-cause .ensures)
+    (c .before .first2 .ensures
+    ∙ ap₂ first (b .before .before .mask-cause2 .ensures)
+    (c .before .before .first .ensures ∙ ap₂ first (b .before .mask-cause3 .ensures) (b .mask-cause4 .ensures)))
+
+pub masks-cause-spec : {M : Type 1} → statement M
+masks-cause-spec =
+    tie.close
+    (tie.spec
+    add-width
+    add-width-2
+    add-precision
+    mask-cause-requires
+    mask-cause-requires-2
+    mask-cause-requires-3
+    mask-cause-requires-4
+    first-requires
+    first-requires-2
+    first-requires-3
+    returns)
