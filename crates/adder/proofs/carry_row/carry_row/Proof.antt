@@ -28,14 +28,14 @@ returns c =
 operands-requires : tie.Need-operands-requires
 operands-requires c κs =
     let s = c .before .before in
-    let fit = row-none (s .args .format) (s .args .operation) (s .args .a) (s .args .b) (sym (c .before .row-cause .ensures) ∙ c .if1 .left) in
+    let fit = row-none (s .args .format) (s .args .operation) (s .args .a) (s .args .b) .0 (sym (c .before .row-cause .ensures) ∙ c .if1 .left) in
     (fit .supported, fit .operation-fits, fit .b-fits)
 
 kind-row-requires : tie.Need-kind-row-requires
 kind-row-requires c κs =
     let s = c .before .before .before in
     let F = s .args .format in
-    let fit = row-none F (s .args .operation) (s .args .a) (s .args .b) (sym (c .before .before .row-cause .ensures) ∙ c .before .if1 .left) in
+    let fit = row-none F (s .args .operation) (s .args .a) (s .args .b) .0 (sym (c .before .before .row-cause .ensures) ∙ c .before .if1 .left) in
     (fit .supported, rw (c .operands .ensures .0) (operand-sound F (s .args .a)), rw (c .operands .ensures .1) (operand-sound F (effective F (s .args .operation) (s .args .b))))
 
 returns-2 : tie.Need-returns-2

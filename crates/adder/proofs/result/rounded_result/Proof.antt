@@ -28,14 +28,14 @@ returns c =
 operands-requires : tie.Need-operands-requires
 operands-requires c κs =
     let s = c .before .before in
-    let fit = result-none (s .args .format) (s .args .operation) (s .args .mode) (s .args .a) (s .args .b) (sym (c .before .result-cause .ensures) ∙ c .if1 .left) .0 in
+    let fit = result-none (s .args .format) (s .args .operation) (s .args .mode) (s .args .a) (s .args .b) .0 (sym (c .before .result-cause .ensures) ∙ c .if1 .left) .0 in
     (fit .supported, fit .operation-fits, fit .b-fits)
 
 kind-sum-requires : tie.Need-kind-sum-requires
 kind-sum-requires c κs =
     let s = c .before .before .before in
     let F = s .args .format in
-    let fit = result-none F (s .args .operation) (s .args .mode) (s .args .a) (s .args .b) (sym (c .before .before .result-cause .ensures) ∙ c .before .if1 .left) .0 in
+    let fit = result-none F (s .args .operation) (s .args .mode) (s .args .a) (s .args .b) .0 (sym (c .before .before .result-cause .ensures) ∙ c .before .if1 .left) .0 in
     (fit .supported, rw (c .operands .ensures .0) (operand-sound F (s .args .a)), rw (c .operands .ensures .1) (operand-sound F (effective F (s .args .operation) (s .args .b))))
 
 returns-2 : tie.Need-returns-2

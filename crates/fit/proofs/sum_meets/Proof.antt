@@ -1,0 +1,48 @@
+-- `fit::sum_meets` meets its contract: the result of a valid job is a word. Assumes nothing.
+use mathlib.Core.Path.{_≡_, refl, sym, ap, ap₂, _∙_, subst}
+use Prim.Native.Nat.{ℕ, zero, suc, _+_, _-_, _*_, _/_, _%_, _^_, _≤_, _<_}
+use native.Mathlib.Omega.{arith}
+use mathlib.Core.Bool.{Bool, _&&_}
+use lib.Dec.{eqb}
+use Rattle.adder.specs.declared.Reply.the-variants.{Word, Refused}
+use Rattle.adder.specs.Result.{result}
+use Rattle.adder.proofs.Causes.{result-word}
+use Rattle.fit.proofs.Laws.{words-fit}
+use borrow.Author.Needs.{needs}
+use Rattle.fit.proofs.sum_meets.Statement.{statement}
+use Rattle.fit.proofs.sum_meets.Tie as tie
+
+rounded-result-requires : tie.Need-rounded-result-requires
+rounded-result-requires c κs = search needs
+
+enum-known-word : tie.Need-enum-known-word
+enum-known-word c = search needs
+
+meets-requires : tie.Need-meets-requires
+meets-requires c κs = search needs
+
+enum-told : tie.Need-enum-told
+enum-told c = search needs
+
+returns : tie.Need-returns
+returns c = 
+    let s = c .before .before .before .before .before in
+    let j = s .args .job in
+    let r = result-word (j .format) (j .operation) (j .mode) (s .args .a) (s .args .b) (words-fit j (s .pre .0) (s .args .a) (s .args .b) (s .pre .1) (s .pre .2)) (s .pre .0 .mode) in
+    let e = sym (c .before .before .word .given .1) ∙ c .before .before .before .before .rounded-result .ensures ∙ r in
+    let w : c .before .before .word .given .0 .0 ≡ result (j .format) (j .operation) (j .mode) (s .args .a) (s .args .b) = cc in
+    ap₂ (λ (n : ℕ) (t : Bool). eqb n (s .args .c) && t) w (c .meets .ensures)
+
+returns-2 : tie.Need-returns-2
+returns-2 c = 
+    let s = c .before .before .before in
+    let j = s .args .job in
+    let r = result-word (j .format) (j .operation) (j .mode) (s .args .a) (s .args .b) (words-fit j (s .pre .0) (s .args .a) (s .args .b) (s .pre .1) (s .pre .2)) (s .pre .0 .mode) in
+    let e = sym (c .enum-told .given .1) ∙ c .before .before .rounded-result .ensures ∙ r in
+    let z : _≡_ {A = ℕ} 0 1 = cc in
+    absurd (omega arith)
+
+pub sum-meets-spec : {M : Type 1} → statement M
+sum-meets-spec =
+    tie.close
+    (tie.spec rounded-result-requires enum-known-word meets-requires enum-told returns returns-2)
