@@ -28,7 +28,7 @@ reaches N q ρ P below = go (decLt q N)
         le-leb (N * P) (q * P + ρ) (omega arith) ∙ sym (le-leb N q (omega arith))
 
 -- half of a comparison with a sticky bit
-halved : (l r s : ℕ) → s < 2 → ltb (2 * l) (2 * r + s) ≡ ltb l (r + s)
+pub halved : (l r s : ℕ) → s < 2 → ltb (2 * l) (2 * r + s) ≡ ltb l (r + s)
 halved l r s h = go (decLt l (r + s))
   where
     go : Dec (l < r + s) → ltb (2 * l) (2 * r + s) ≡ ltb l (r + s)

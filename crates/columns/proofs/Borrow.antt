@@ -77,17 +77,16 @@ module _ (x y b0 : ℕ) (hb : b0 < 2) (h : y + b0 ≤ x) where
       go (suc zero) e l = borrow-one x y b0 i (omega (arith, whole 1 e, mod-lt d (pow-pos i)))
       go (suc (suc q)) e l = absurd (omega arith)
 
+  back-bit : (i : ℕ) → bit x i ≡ (bit (x - (y + b0)) i + bit y i + carry (x - (y + b0)) y b0 i) % 2
+  back-bit i = ap (λ (u : ℕ). bit u i) (sym back) ∙ sum-bit (x - (y + b0)) y b0 i
+
   pub difference-bit : (i : ℕ) → bit (x - (y + b0)) i ≡ (bit x i + bit y i + borrow x y b0 i) % 2
-  difference-bit i =
-      let d = x - (y + b0) in
-      let e : bit x i ≡ (bit d i + bit y i + carry d y b0 i) % 2 = ap (λ (u : ℕ). bit u i) (sym back) ∙ sum-bit d y b0 i in
-      omega (arith, bit-lt d i, borrow-carry i)
+  difference-bit i = omega (arith, back-bit i, bit-lt (x - (y + b0)) i, borrow-carry i)
 
   difference-suc : (i : ℕ) → borrow x y b0 (suc i) ≡ (1 - bit x i + bit y i + borrow x y b0 i) / 2
   difference-suc i =
       let d = x - (y + b0) in
-      let e : bit x i ≡ (bit d i + bit y i + carry d y b0 i) % 2 = ap (λ (u : ℕ). bit u i) (sym back) ∙ sum-bit d y b0 i in
-      omega (arith, bit-lt d i, bit-lt y i, borrow-carry i, borrow-carry (suc i), carry-suc d y b0 i, borrow-lt x y b0 i)
+      omega (arith, back-bit i, bit-lt d i, bit-lt y i, borrow-carry i, borrow-carry (suc i), carry-suc d y b0 i, borrow-lt x y b0 i)
 
 -- ---- modulo 2^n: the low n columns read only the low n bits, so that 2^n may be lent from above
 

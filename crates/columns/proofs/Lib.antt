@@ -4,5 +4,6 @@ pub mod Borrow
 pub mod Some
 pub mod Reach
 pub mod Closest
+pub mod Narrow
 pub mod Pair
 pub mod Follow

@@ -59,10 +59,13 @@ fits-true j a b c words = (
   where
     A : Bool
     A = meets a (j .a)
+
     B : Bool
     B = meets b (j .b)
+
     S : Bool
     S = sumMeets j a b c
+
     R : Bool
     R = rowMeets (rowOf (j .format) (j .operation) a b) (j .carries)
 
@@ -88,5 +91,6 @@ case-none j a b c = (
   where
     width : ℕ
     width = wordBits (j .format)
+
     cause : ℕ → ℕ
     cause x = wordCause width x

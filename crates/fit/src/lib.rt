@@ -33,7 +33,10 @@ pub fn case_cause(job: Job, a: u64, b: u64, c: u64) -> u64
         return cause;
     }
     let width = job.format.w + job.format.f + 1;
-    first(word_cause(width, a), first(word_cause(width, b), word_cause(width, c)))
+    first(
+        word_cause(width, a),
+        first(word_cause(width, b), word_cause(width, c)),
+    )
 }
 
 // Whether a row agrees with the carry mask; where there is no row, only a mask that fixes no bit does.

@@ -25,7 +25,7 @@ enum-told : tie.Need-enum-told
 enum-told c = search needs
 
 returns : tie.Need-returns
-returns c = 
+returns c =
     let s = c .before .before .before .before .before in
     let j = s .args .job in
     let r = row-row (j .format) (j .operation) (s .args .a) (s .args .b) (words-fit j (s .pre .0) (s .args .a) (s .args .b) (s .pre .1) (s .pre .2)) in
@@ -34,7 +34,7 @@ returns c =
     c .row-meets .ensures ∙ ap (λ (n : row.Row). rowMeets n (j .carries)) w
 
 returns-2 : tie.Need-returns-2
-returns-2 c = 
+returns-2 c =
     let s = c .before .before .before in
     let j = s .args .job in
     let r = row-row (j .format) (j .operation) (s .args .a) (s .args .b) (words-fit j (s .pre .0) (s .args .a) (s .args .b) (s .pre .1) (s .pre .2)) in

@@ -16,19 +16,19 @@ job-cause-requires c κs = search needs
 
 returns : tie.Need-returns
 unfolding caseCause
-returns c = 
+returns c =
     let s = c .before .before in
     let F = s .args .job .format in
     first-kept (c .before .job-cause .result) (first (wordCause (wordBits F) (s .args .a)) (first (wordCause (wordBits F) (s .args .b)) (wordCause (wordBits F) (s .args .c)))) (c .if1 .taken)
     ∙ ap (λ (n : ℕ). first n (first (wordCause (wordBits F) (s .args .a)) (first (wordCause (wordBits F) (s .args .b)) (wordCause (wordBits F) (s .args .c))))) (c .before .job-cause .ensures)
 
 add-width : tie.Need-add-width
-add-width c = 
+add-width c =
     let ok = job-none (c .before .before .before .args .job) .0 (sym (c .before .before .job-cause .ensures) ∙ c .before .if1 .left) .format in
     omega (arith, ok .w-most, ok .f-most)
 
 add-width-2 : tie.Need-add-width-2
-add-width-2 c = 
+add-width-2 c =
     let ok = job-none (c .before .before .before .args .job) .0 (sym (c .before .before .job-cause .ensures) ∙ c .before .if1 .left) .format in
     omega (arith, ok .w-most, ok .f-most)
 
@@ -49,7 +49,7 @@ first-requires-2 c κs = search needs
 
 returns-2 : tie.Need-returns-2
 unfolding caseCause
-returns-2 c = 
+returns-2 c =
     rw (sym (c .before .before .before .before .before .before .before .job-cause .ensures) ∙ c .before .before .before .before .before .before .if1 .left)
     (c .first2 .ensures ∙ ap₂ first (c .before .before .before .before .word-cause .ensures) (c .before .first .ensures ∙ ap₂ first (c .before .before .before .word-cause2 .ensures) (c .before .before .word-cause3 .ensures)))
 

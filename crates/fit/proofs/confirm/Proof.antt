@@ -17,12 +17,12 @@ case-cause-requires : tie.Need-case-cause-requires
 case-cause-requires c κs = search needs
 
 returns : tie.Need-returns
-returns c = 
+returns c =
     let a = c .before .before .args in
     refused (c .before .case-cause .result) (fits (a .job) (a .a) (a .b) (a .c)) (c .if1 .taken) ∙ ap (λ (n : ℕ). answerFor n (fits (a .job) (a .a) (a .b) (a .c))) (c .before .case-cause .ensures)
 
 fits-requires : tie.Need-fits-requires
-fits-requires c κs = 
+fits-requires c κs =
     let a = c .before .before .args in
     let h = case-none (a .job) (a .a) (a .b) (a .c) .0 (sym (c .before .case-cause .ensures) ∙ c .if1 .left) in
     (h .0, h .1 .a-word, h .1 .b-word, h .1 .c-word)

@@ -20,7 +20,7 @@ carries-meet-requires c κs = search needs
 
 returns : tie.Need-returns
 unfolding fits
-returns c = 
+returns c =
     ap₂ _&&_ (ap₂ _&&_ (ap₂ _&&_ (c .before .before .before .meets .ensures) (c .before .before .meets2 .ensures)) (c .before .sum-meets .ensures)) (c .carries-meet .ensures)
 
 pub fits-spec : {M : Type 1} → statement M

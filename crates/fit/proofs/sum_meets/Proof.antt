@@ -25,7 +25,7 @@ enum-told : tie.Need-enum-told
 enum-told c = search needs
 
 returns : tie.Need-returns
-returns c = 
+returns c =
     let s = c .before .before .before .before .before in
     let j = s .args .job in
     let r = result-word (j .format) (j .operation) (j .mode) (s .args .a) (s .args .b) (words-fit j (s .pre .0) (s .args .a) (s .args .b) (s .pre .1) (s .pre .2)) (s .pre .0 .mode) in
@@ -34,7 +34,7 @@ returns c =
     ap₂ (λ (n : ℕ) (t : Bool). eqb n (s .args .c) && t) w (c .meets .ensures)
 
 returns-2 : tie.Need-returns-2
-returns-2 c = 
+returns-2 c =
     let s = c .before .before .before in
     let j = s .args .job in
     let r = result-word (j .format) (j .operation) (j .mode) (s .args .a) (s .args .b) (words-fit j (s .pre .0) (s .args .a) (s .args .b) (s .pre .1) (s .pre .2)) (s .pre .0 .mode) in

@@ -1,0 +1,8 @@
+pub mod Exact
+pub mod Fixing
+pub mod Roles
+pub mod Settling
+pub mod Choosing
+pub mod Taken
+pub mod Replies
+pub mod Cases

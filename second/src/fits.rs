@@ -1,0 +1,86 @@
+//! Conditions, the definition of a fitting case, and confirmation (document 01, "Masks and
+//! choice").
+
+use crate::arith::Adder;
+use crate::format::Refusal;
+use crate::mask::Mask;
+use crate::row::row;
+
+/// What a job asks of a case: all of the job but its random words. Numbers stand as they
+/// came in and are checked by `check`.
+#[derive(Clone, Copy, Debug, PartialEq, Eq)]
+pub struct Conditions {
+    pub w: u64,
+    pub f: u64,
+    pub operation: u64,
+    pub mode: u64,
+    pub a: Mask,
+    pub b: Mask,
+    pub c: Mask,
+    pub carries: Mask,
+}
+
+impl Conditions {
+    /// Conditions that fix no bit.
+    pub fn free(w: u64, f: u64, operation: u64, mode: u64) -> Conditions {
+        Conditions {
+            w,
+            f,
+            operation,
+            mode,
+            a: Mask::FREE,
+            b: Mask::FREE,
+            c: Mask::FREE,
+            carries: Mask::FREE,
+        }
+    }
+
+    /// Refuses with 1 to 5, in this order.
+    pub fn check(&self) -> Result<Adder, Refusal> {
+        let adder = Adder::new(self.w, self.f, self.operation, self.mode)?;
+        for mask in [self.a, self.b, self.c] {
+            mask.check(adder.format.width())?;
+        }
+        self.carries.check(adder.format.precision())?;
+        Ok(adder)
+    }
+}
+
+/// A case with its row.
+#[derive(Clone, Copy, Debug, PartialEq, Eq)]
+pub struct Case {
+    pub a: u64,
+    pub b: u64,
+    pub c: u64,
+    pub row: Option<u64>,
+}
+
+impl Case {
+    /// The case that two words make, with c the rounded result.
+    pub fn of(adder: &Adder, a: u64, b: u64) -> Case {
+        Case {
+            a,
+            b,
+            c: adder.result(a, b),
+            row: row(adder.format, adder.operation, a, b),
+        }
+    }
+
+    /// Whether the words and the row agree with every fixed bit.
+    pub fn meets(&self, conditions: &Conditions) -> bool {
+        conditions.a.is_met(self.a)
+            && conditions.b.is_met(self.b)
+            && conditions.c.is_met(self.c)
+            && conditions.carries.is_met_by_row(self.row)
+    }
+}
+
+/// Whether the proposed case fits. Refuses with 1 to 6; a case that does not fit is a no.
+pub fn confirm(conditions: &Conditions, a: u64, b: u64, c: u64) -> Result<bool, Refusal> {
+    let adder = conditions.check()?;
+    for word in [a, b, c] {
+        adder.format.check_word(word)?;
+    }
+    let case = Case::of(&adder, a, b);
+    Ok(case.c == c && case.meets(conditions))
+}

@@ -1,0 +1,39 @@
+//! A second implementation of document 01, written from that document alone.
+//!
+//! It exists to be compared with the first one, so it shares no code with it and
+//! prefers the obvious way to the fast one: exact sums on wide integers, rounding by
+//! comparison with the two neighbouring numbers, and search by trying every pair.
+//!
+//! The files, lowest first:
+//!
+//! - `format`: limits, refusal numbers, the fixed words of a format
+//! - `wide`: whole numbers of 320 bits
+//! - `operand`: the kinds of operand and their magnitudes in smallest steps
+//! - `arith`: the rounded result
+//! - `row`: the carry row
+//! - `mask`: masks, well formed, met, joined, and the words that meet one
+//! - `fits`: conditions, the definition of a fitting case, confirmation
+//! - `choice`: jobs and the generator by trying pairs
+//! - `table`: the same search for many jobs over one small format
+//! - `whole`: the whole-number generator
+//! - `record`: job records and job files
+//! - `listing`: what the listing program prints
+//! - `random`: a small deterministic random generator
+//! - `sample`: random words, pairs and jobs that favour hard places
+
+#![forbid(unsafe_code)]
+
+pub mod arith;
+pub mod choice;
+pub mod fits;
+pub mod format;
+pub mod listing;
+pub mod mask;
+pub mod operand;
+pub mod random;
+pub mod record;
+pub mod row;
+pub mod sample;
+pub mod table;
+pub mod whole;
+pub mod wide;

@@ -1,0 +1,164 @@
+//! Random words, pairs and jobs that favour hard places: close exponents, cancellation,
+//! subnormal numbers, ties, overflow, special words. For test programs.
+
+use crate::arith::Adder;
+use crate::choice::Job;
+use crate::fits::{Case, Conditions};
+use crate::format::{Format, LARGEST_F, LARGEST_W, SMALLEST_F, SMALLEST_W};
+use crate::mask::Mask;
+use crate::random::Random;
+
+/// A word of the format, often with a special exponent or a special fraction.
+pub fn word(random: &mut Random, format: Format) -> u64 {
+    let top = (1 << format.exponent_bits()) - 1;
+    let exponent = match random.below(8) {
+        0 => random.below(3),
+        1 => top - random.below(3),
+        _ => random.bits(format.exponent_bits()),
+    };
+    let fraction = fraction(random, format);
+    compose(random, format, exponent as i64, fraction)
+}
+
+/// A pair of words of the format.
+pub fn pair(random: &mut Random, format: Format) -> (u64, u64) {
+    let a = word(random, format);
+    let b = match random.below(8) {
+        0 => word(random, format),
+        1 => at_distance(random, format, a, 3, 0),
+        2 | 3 => at_distance(random, format, a, format.precision() + 4, 0),
+        // From here on the lower operand lies wholly below the other's last bits.
+        4 => at_distance(random, format, a, 5, format.precision() - 2),
+        5 => nearly(random, format, a),
+        6 => return among(random, format, 0),
+        _ => return among(random, format, (1 << format.exponent_bits()) - 4),
+    };
+    if random.one_in(2) {
+        (a, b)
+    } else {
+        (b, a)
+    }
+}
+
+/// A fraction: random, empty, full, one bit, few bits, or ones at one end.
+fn fraction(random: &mut Random, format: Format) -> u64 {
+    let f = format.fraction_bits();
+    let full = (1 << f) - 1;
+    match random.below(8) {
+        0 => 0,
+        1 => full,
+        2 => 1 << random.below(u64::from(f)),
+        3 => full - (1 << random.below(u64::from(f))),
+        4 => random.bits(f) & random.bits(f) & random.bits(f),
+        5 => full >> random.below(u64::from(f)),
+        _ => random.bits(f),
+    }
+}
+
+/// A word with a random sign; an exponent outside the field is moved to its nearest end.
+fn compose(random: &mut Random, format: Format, exponent: i64, fraction: u64) -> u64 {
+    let exponent = exponent.clamp(0, (1 << format.exponent_bits()) - 1) as u64;
+    let index = (exponent << format.fraction_bits()) + fraction;
+    format.signed(random.one_in(2), index)
+}
+
+fn exponent_of(format: Format, word: u64) -> i64 {
+    ((word & (format.sign_bit() - 1)) >> format.fraction_bits()) as i64
+}
+
+/// A word whose exponent lies `least` to `least + spread` − 1 below that of `a`.
+fn at_distance(random: &mut Random, format: Format, a: u64, spread: u32, least: u32) -> u64 {
+    let distance = u64::from(least) + random.below(u64::from(spread));
+    let fraction = fraction(random, format);
+    compose(
+        random,
+        format,
+        exponent_of(format, a) - distance as i64,
+        fraction,
+    )
+}
+
+/// A word a few places from `a` in the order of magnitudes, with a random sign.
+fn nearly(random: &mut Random, format: Format, a: u64) -> u64 {
+    let index = (a & (format.sign_bit() - 1)) as i64 + random.below(9) as i64 - 4;
+    let index = index.clamp(0, format.sign_bit() as i64 - 1) as u64;
+    format.signed(random.one_in(2), index)
+}
+
+/// Two words with exponents in the four from `low` on.
+fn among(random: &mut Random, format: Format, low: i64) -> (u64, u64) {
+    let mut one = || {
+        let exponent = low + random.below(4) as i64;
+        let fraction = fraction(random, format);
+        compose(random, format, exponent, fraction)
+    };
+    (one(), one())
+}
+
+/// w, f, operation and mode, each anywhere within its limits.
+pub fn numbers(random: &mut Random) -> [u64; 4] {
+    let mut between = |low, high| low + random.below(high - low + 1);
+    [
+        between(SMALLEST_W, LARGEST_W),
+        between(SMALLEST_F, LARGEST_F),
+        between(0, 1),
+        between(0, 3),
+    ]
+}
+
+/// A job that is not refused with 1 to 6. Its masks take their values from a true case,
+/// and in one of two jobs one fixed bit is turned, so that both answers are frequent. In
+/// each of the masks of a and b about `care_a_b` of 8 bits are fixed.
+pub fn job(random: &mut Random, numbers: [u64; 4], care_a_b: u64) -> Job {
+    let [w, f, operation, mode] = numbers;
+    let adder = Adder::new(w, f, operation, mode).expect("numbers within their limits");
+    let width = adder.format.width();
+    let (a, b) = pair(random, adder.format);
+    let case = Case::of(&adder, a, b);
+    let care_c = 2 + random.below(7);
+    let care_row = random.below(5);
+    let mut conditions = Conditions::free(w, f, operation, mode);
+    conditions.a = mask_around(random, case.a, width, care_a_b);
+    conditions.b = mask_around(random, case.b, width, care_a_b);
+    conditions.c = mask_around(random, case.c, width, care_c);
+    if let Some(row) = case.row {
+        conditions.carries = mask_around(random, row, adder.format.precision(), care_row);
+    }
+    if random.one_in(2) {
+        turn(random, &mut conditions);
+    }
+    let words = match random.below(3) {
+        0 => [0, 0],
+        _ => [random.bits(width), random.bits(width)],
+    };
+    Job { conditions, words }
+}
+
+/// A mask that a word meets, with about `care` of 8 bits fixed.
+fn mask_around(random: &mut Random, word: u64, width: u32, care: u64) -> Mask {
+    let care = (0..width)
+        .filter(|_| random.below(8) < care)
+        .map(|i| 1 << i)
+        .sum();
+    Mask {
+        care,
+        value: word & care,
+    }
+}
+
+/// Turns one bit among those that the masks of c and of the carries fix, where there is one.
+fn turn(random: &mut Random, conditions: &mut Conditions) {
+    let fixed_in_c = u64::from(conditions.c.care.count_ones());
+    let fixed = fixed_in_c + u64::from(conditions.carries.care.count_ones());
+    if fixed == 0 {
+        return;
+    }
+    let chosen = random.below(fixed);
+    let (mask, place) = if chosen < fixed_in_c {
+        (&mut conditions.c, chosen)
+    } else {
+        (&mut conditions.carries, chosen - fixed_in_c)
+    };
+    let mut bits = (0..64).map(|i| 1 << i).filter(|bit| mask.care & bit != 0);
+    mask.value ^= bits.nth(place as usize).expect("as many as were counted");
+}

@@ -1,0 +1,216 @@
+//! Document 01's cases 1 to 13, by their numbers. All but 12 and 13 are in format w = 3,
+//! f = 4.
+
+use second::arith::rounded;
+use second::choice::{generate, Job};
+use second::fits::{confirm, Case, Conditions};
+use second::format::{Refusal, F_OUT_OF_RANGE, NO_CASE, W_OUT_OF_RANGE};
+use second::mask::Mask;
+use second::row::carry_row;
+use second::whole::{generate_whole, WholeCase, WholeJob};
+
+const FIRST: Case = Case {
+    a: 0x45,
+    b: 0x2B,
+    c: 0x4C,
+    row: Some(0x04),
+};
+const SECOND: Case = Case {
+    a: 0x4D,
+    b: 0x3B,
+    c: 0x55,
+    row: Some(0x1D),
+};
+
+/// The masks 0100x101, 001x1011 and 010xx10x.
+fn conditions(mode: u64) -> Conditions {
+    let mut conditions = Conditions::free(3, 4, 0, mode);
+    conditions.a = mask("0100x101");
+    conditions.b = mask("001x1011");
+    conditions.c = mask("010xx10x");
+    conditions
+}
+
+fn mask(text: &str) -> Mask {
+    let read = |one: &str| u64::from_str_radix(one, 2).unwrap();
+    Mask {
+        care: read(&text.replace('0', "1").replace('x', "0")),
+        value: read(&text.replace('x', "0")),
+    }
+}
+
+fn choose(conditions: Conditions, first: u64, second: u64) -> Result<Case, Refusal> {
+    generate(&Job {
+        conditions,
+        words: [first, second],
+    })
+}
+
+/// Every fitting case of eight-bit words, found by confirmation alone.
+fn all_fitting(conditions: &Conditions) -> Vec<(u64, u64, u64)> {
+    let words = 0..256u64;
+    let mut found = Vec::new();
+    for a in words.clone() {
+        for b in words.clone() {
+            let c = rounded(3, 4, 0, conditions.mode, a, b).unwrap();
+            if confirm(conditions, a, b, c).unwrap() {
+                found.push((a, b, c));
+            }
+        }
+    }
+    found
+}
+
+fn sum(operation: u64, mode: u64, a: u64, b: u64) -> u64 {
+    rounded(3, 4, operation, mode, a, b).unwrap()
+}
+
+#[test]
+fn the_masks_are_those_of_the_listed_file() {
+    let c = conditions(0);
+    assert_eq!((c.a.care, c.a.value), (0xF7, 0x45));
+    assert_eq!((c.b.care, c.b.value), (0xEF, 0x2B));
+    assert_eq!((c.c.care, c.c.value), (0xE6, 0x44));
+}
+
+#[test]
+fn case_1_two_cases_fit() {
+    let expected = vec![(0x45, 0x2B, 0x4C), (0x4D, 0x3B, 0x55)];
+    assert_eq!(all_fitting(&conditions(0)), expected);
+    assert_eq!(carry_row(3, 4, 0, 0x45, 0x2B), Ok(Some(0x04)));
+    assert_eq!(carry_row(3, 4, 0, 0x4D, 0x3B), Ok(Some(0x1D)));
+    // A wrong result is a no, though it meets the mask.
+    assert_eq!(confirm(&conditions(0), 0x45, 0x2B, 0x4D), Ok(false));
+}
+
+#[test]
+fn case_2_the_words_choose() {
+    assert_eq!(choose(conditions(0), 0, 0), Ok(FIRST));
+    assert_eq!(choose(conditions(0), 0x4D, 0), Ok(SECOND));
+}
+
+#[test]
+fn case_3_other_modes() {
+    assert_eq!(all_fitting(&conditions(3)), [(0x4D, 0x3B, 0x55)]);
+    assert_eq!(all_fitting(&conditions(2)), [(0x45, 0x2B, 0x4C)]);
+    for words in [0, 0x45, 0x4D, 0xFF] {
+        assert_eq!(choose(conditions(3), words, 0), Ok(SECOND));
+        assert_eq!(choose(conditions(2), words, 0), Ok(FIRST));
+    }
+}
+
+#[test]
+fn case_4_a_carry_that_none_has() {
+    let mut fixed = conditions(0);
+    fixed.carries = Mask { care: 2, value: 2 };
+    assert_eq!(choose(fixed, 0, 0), Err(NO_CASE));
+}
+
+#[test]
+fn case_5_cancelled_sum() {
+    let results = [0, 1, 2, 3].map(|mode| sum(1, mode, 0x30, 0x30));
+    assert_eq!(results, [0x00, 0x00, 0x00, 0x80]);
+}
+
+#[test]
+fn case_6_overflow() {
+    let results = [0, 1, 2, 3].map(|mode| sum(0, mode, 0x6F, 0x6F));
+    assert_eq!(results, [0x70, 0x6F, 0x70, 0x6F]);
+    let mirrored = [0, 1, 2, 3].map(|mode| sum(0, mode, 0xEF, 0xEF));
+    assert_eq!(mirrored, [0xF0, 0xEF, 0xEF, 0xF0]);
+}
+
+#[test]
+fn case_7_infinities_of_unlike_sign() {
+    assert_eq!([0, 1, 2, 3].map(|mode| sum(1, mode, 0x70, 0x70)), [0x78; 4]);
+    assert_eq!(carry_row(3, 4, 1, 0x70, 0x70), Ok(None));
+}
+
+#[test]
+fn case_8_subnormal_to_normal() {
+    assert_eq!([0, 1, 2, 3].map(|mode| sum(0, mode, 0x0F, 0x01)), [0x10; 4]);
+}
+
+#[test]
+fn case_9_ties() {
+    assert_eq!(sum(0, 0, 0x30, 0x02), 0x30);
+    assert_eq!(sum(0, 2, 0x30, 0x02), 0x31);
+    assert_eq!(sum(0, 0, 0x31, 0x02), 0x32);
+}
+
+#[test]
+fn case_10_borrows() {
+    assert_eq!(carry_row(3, 4, 1, 0x30, 0x01), Ok(Some(0x0F)));
+    assert_eq!(sum(1, 0, 0x30, 0x01), 0x30);
+    assert_eq!(sum(1, 3, 0x30, 0x01), 0x2F);
+}
+
+#[test]
+fn case_11_whole_numbers() {
+    let fixed = |care, value| Mask { care, value };
+    let job = WholeJob {
+        n: 2,
+        x: fixed(3, 3),
+        y: fixed(3, 1),
+        z: Mask::FREE,
+        carries: fixed(1, 0),
+        words: [0, 0, 0],
+    };
+    let case = WholeCase {
+        x: 3,
+        y: 1,
+        z: 0,
+        carries: 6,
+    };
+    assert_eq!(generate_whole(&job), Ok(case));
+}
+
+/// What each function that takes a format answers where both operands are fixed to 0.
+fn acceptance(w: u64, f: u64) -> [Option<Refusal>; 4] {
+    let mut conditions = Conditions::free(w, f, 0, 0);
+    let care = (1 << w.clamp(2, 8) << f.clamp(2, 23) << 1) - 1;
+    conditions.a = Mask { care, value: 0 };
+    conditions.b = conditions.a;
+    [
+        rounded(w, f, 0, 0, 0, 0).err(),
+        carry_row(w, f, 0, 0, 0).err(),
+        confirm(&conditions, 0, 0, 0).err(),
+        choose(conditions, 0, 0).err(),
+    ]
+}
+
+#[test]
+fn case_12_limits() {
+    for f in [2, 23] {
+        assert_eq!(acceptance(2, f), [None; 4]);
+        assert_eq!(acceptance(8, f), [None; 4]);
+        assert_eq!(acceptance(1, f), [Some(W_OUT_OF_RANGE); 4]);
+        assert_eq!(acceptance(9, f), [Some(W_OUT_OF_RANGE); 4]);
+    }
+    for w in [2, 8] {
+        assert_eq!(acceptance(w, 1), [Some(F_OUT_OF_RANGE); 4]);
+        assert_eq!(acceptance(w, 24), [Some(F_OUT_OF_RANGE); 4]);
+    }
+}
+
+/// Signs of a and b fixed to 0 and c's to 1, in small formats, since trying all pairs of
+/// 32-bit words is out of reach.
+#[test]
+fn case_13_in_small_formats() {
+    for (w, f) in [(2, 2), (2, 3), (3, 2), (3, 4), (2, 5), (5, 2)] {
+        let sign = 1 << (w + f);
+        for mode in 0..4 {
+            let mut job = Conditions::free(w, f, 0, mode);
+            job.a = Mask {
+                care: sign,
+                value: 0,
+            };
+            job.b = job.a;
+            job.c = Mask {
+                care: sign,
+                value: sign,
+            };
+            assert_eq!(choose(job, 0, 0), Err(NO_CASE));
+        }
+    }
+}

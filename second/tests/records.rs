@@ -1,0 +1,209 @@
+//! Records, files and the listing.
+
+use second::choice::{generate, Job};
+use second::fits::Conditions;
+use second::format::{BUFFER_TOO_SHORT, CUT_SHORT, SAYS_DEFAULT, UNKNOWN_MAP_BIT};
+use second::listing::{listing, LONGEST_FILE};
+use second::mask::Mask;
+use second::random::Random;
+use second::record::{encode, read, read_file, write, write_file, Reply, LONGEST_RECORD};
+use second::sample;
+
+/// Bytes from a text of hexadecimal digits.
+fn bytes(text: &str) -> Vec<u8> {
+    text.split_whitespace()
+        .map(|byte| u8::from_str_radix(byte, 16).unwrap())
+        .collect()
+}
+
+const MASKS: &str = "F7 00 00 00 45 00 00 00 EF 00 00 00 2B 00 00 00 E6 00 00 00 44 00 00 00";
+
+/// Document 01's file with the jobs of its cases 1 and 4.
+fn two_jobs() -> Vec<u8> {
+    let first = format!("07 03 04 00 {MASKS}");
+    let second = format!("0F 03 04 00 {MASKS} 02 00 00 00 02 00 00 00");
+    bytes(&format!("{first} {second}"))
+}
+
+fn random_job(random: &mut Random) -> Job {
+    let numbers = sample::numbers(random);
+    let care = random.below(5);
+    sample::job(random, numbers, care)
+}
+
+#[test]
+fn two_jobs_are_listed() {
+    let expected = "1 found 00000045 0000002b 0000004c 00000004\n2 none\nend 2\n";
+    assert_eq!(listing(&two_jobs(), generate), expected);
+}
+
+#[test]
+fn no_row_is_listed_as_a_dash() {
+    let file = bytes("01 03 04 00 FF 00 00 00 70 00 00 00");
+    let expected = "1 found 00000070 00000000 00000070 -\nend 1\n";
+    assert_eq!(listing(&file, generate), expected);
+}
+
+#[test]
+fn empty_and_long_files() {
+    assert_eq!(listing(&[], generate), "end 0\n");
+    // Records of four bytes, which fix nothing.
+    let mut file = [0, 2, 2, 0].repeat(LONGEST_FILE / 4);
+    assert_eq!(file.len(), 65_536);
+    let text = listing(&file, generate);
+    assert_eq!(text.lines().count(), 16_385);
+    assert!(text.ends_with("\n16384 found 00000000 00000000 00000000 00000000\nend 16384\n"));
+    file.push(0);
+    assert_eq!(listing(&file, generate), "long\n");
+}
+
+#[test]
+fn a_refusal_ends_the_listing() {
+    let mut file = two_jobs();
+    file.extend(bytes("00 03 04 02"));
+    file.extend(two_jobs());
+    let found = "1 found 00000045 0000002b 0000004c 00000004\n2 none\n";
+    assert_eq!(
+        listing(&file, generate),
+        format!("{found}3 refused 3\nend 3\n")
+    );
+    let cut = &two_jobs()[..40];
+    let first = "1 found 00000045 0000002b 0000004c 00000004\n";
+    assert_eq!(
+        listing(cut, generate),
+        format!("{first}2 refused 8\nend 2\n")
+    );
+    assert_eq!(listing(&[0x80], generate), "1 refused 9\nend 1\n");
+}
+
+#[test]
+fn every_cut_is_8_and_every_foreign_bit_is_9() {
+    let mut random = Random::new(0x0CC7);
+    for _ in 0..300 {
+        let record = encode(&random_job(&mut random)).unwrap();
+        for length in 1..record.len() {
+            let cut = &record[..length];
+            assert_eq!(read(cut), (Reply::Refused(CUT_SHORT), cut));
+        }
+        for bits in [0x40, 0x80, 0xC0] {
+            let mut other = record.clone();
+            other[0] |= bits;
+            let number = Reply::Refused(UNKNOWN_MAP_BIT);
+            assert_eq!(read(&other), (number, &other[..]));
+            assert_eq!(read(&other[..1]), (number, &other[..1]));
+        }
+    }
+    assert_eq!(read(&[]), (Reply::End, &[][..]));
+}
+
+/// Which fields say their default, each alone in a record.
+#[test]
+fn defaults_are_refused() {
+    let reply = |text: &str| read(&bytes(text)).0;
+    let refused = Reply::Refused(SAYS_DEFAULT);
+    for map in ["01", "02", "04", "08"] {
+        assert_eq!(
+            reply(&format!("{map} 03 04 00 00 00 00 00 00 00 00 00")),
+            refused
+        );
+        // A fixed bit of value 0 is no default.
+        let fixed = reply(&format!("{map} 03 04 00 01 00 00 00 00 00 00 00"));
+        assert!(matches!(fixed, Reply::Job(_)));
+    }
+    assert_eq!(reply("10 03 04 00 00"), refused);
+    assert_eq!(reply("20 03 04 00 00 00 00 00 00 00 00 00"), refused);
+    for words in ["00 00 00 00 01 00 00 00", "01 00 00 00 00 00 00 00"] {
+        assert!(matches!(
+            reply(&format!("20 03 04 00 {words}")),
+            Reply::Job(_)
+        ));
+    }
+    // A value outside care is 5, and not a default.
+    assert_eq!(
+        reply("01 03 04 00 00 00 00 00 01 00 00 00"),
+        Reply::Refused(5)
+    );
+}
+
+#[test]
+fn reading_gives_back_what_was_written() {
+    let mut random = Random::new(0x2071);
+    for _ in 0..20_000 {
+        let job = random_job(&mut random);
+        let mut buffer = [0; LONGEST_RECORD + 8].map(|_: u8| random.word() as u8);
+        let before = buffer;
+        let length = write(&job, &mut buffer).unwrap();
+        assert_eq!(buffer[length..], before[length..]);
+        assert_eq!(read(&buffer), (Reply::Job(job), &buffer[length..]));
+        // The shortest buffer that holds the record, and one byte less.
+        assert_eq!(write(&job, &mut buffer[..length]), Ok(length));
+        let mut short = before;
+        let answer = write(&job, &mut short[..length - 1]);
+        assert_eq!((answer, short), (Err(BUFFER_TOO_SHORT), before));
+    }
+}
+
+/// Whatever is read is written with the same bytes. Random bytes after a map byte and a
+/// header are mostly refused, so they are drawn from few values.
+#[test]
+fn writing_gives_back_what_was_read() {
+    let mut random = Random::new(0x0B17);
+    let mut read_jobs = 0;
+    for _ in 0..400_000 {
+        let mut file = vec![random.bits(6) as u8, 8, 23, random.bits(1) as u8];
+        let few = [0, 0, 1, 2, 3];
+        file.extend((0..45).map(|_| few[random.below(5) as usize]));
+        let (reply, rest) = read(&file);
+        if let Reply::Job(job) = reply {
+            let length = file.len() - rest.len();
+            assert_eq!(encode(&job).unwrap(), file[..length]);
+            read_jobs += 1;
+        }
+    }
+    assert!(read_jobs > 10_000, "{read_jobs} read");
+}
+
+#[test]
+fn files_of_several_jobs() {
+    let mut random = Random::new(0xF11E);
+    for count in 0..60 {
+        let jobs: Vec<Job> = (0..count).map(|_| random_job(&mut random)).collect();
+        let mut file = write_file(&jobs).unwrap();
+        assert_eq!(read_file(&file), (jobs.clone(), None, &[][..]));
+        let length = file.len();
+        file.extend([0x10, 3, 4]);
+        let rest = &file[length..];
+        assert_eq!(read_file(&file), (jobs, Some(CUT_SHORT), rest));
+    }
+}
+
+#[test]
+fn longest_and_shortest_record() {
+    let mut conditions = Conditions::free(8, 23, 1, 3);
+    let short = Job {
+        conditions: Conditions::free(2, 2, 0, 0),
+        words: [0, 0],
+    };
+    assert_eq!(encode(&short), Ok(vec![0, 2, 2, 0]));
+    let all = Mask {
+        care: 0xFFFF_FFFF,
+        value: 0x8000_0001,
+    };
+    conditions.a = all;
+    conditions.b = all;
+    conditions.c = all;
+    conditions.carries = Mask {
+        care: 0xFF_FFFF,
+        value: 0x80_0000,
+    };
+    let long = Job {
+        conditions,
+        words: [0, 0xFFFF_FFFF],
+    };
+    let record = encode(&long).unwrap();
+    assert_eq!(record.len(), LONGEST_RECORD);
+    assert_eq!(record[..4], [0x3F, 8, 23, 1]);
+    assert_eq!(record[4..12], [0xFF, 0xFF, 0xFF, 0xFF, 1, 0, 0, 0x80]);
+    assert_eq!(record[28..37], [0xFF, 0xFF, 0xFF, 0, 0, 0, 0x80, 0, 3]);
+    assert_eq!(record[37..], [0, 0, 0, 0, 0xFF, 0xFF, 0xFF, 0xFF]);
+}
