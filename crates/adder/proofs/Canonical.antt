@@ -20,7 +20,7 @@ use Rattle.adder.specs.Operand.{finiteOf, operandOf, magnitude, Canonica
 use Rattle.adder.proofs.Division.{ltb-scale}
 
 -- a significand has p bits, and its top bit stands exactly where e is not 0
-significand-bounds : (f e t : ℕ) → t < 2 ^ f → (significand f e t < 2 ^ (f + 1)) × (e ≡ 0 → significand f e t < 2 ^ f) × (0 < e → 2 ^ f ≤ significand f e t)
+pub significand-bounds : (f e t : ℕ) → t < 2 ^ f → (significand f e t < 2 ^ (f + 1)) × (e ≡ 0 → significand f e t < 2 ^ f) × (0 < e → 2 ^ f ≤ significand f e t)
 unfolding significand
 significand-bounds f zero t h = let p = pow-add 2 f 1 in (omega arith, λ z. h, λ l. absurd (omega arith))
 significand-bounds f (suc e) t h = let p = pow-add 2 f 1 in (omega arith, λ z. absurd (omega arith), λ l. omega arith)

@@ -10,3 +10,9 @@ pub mod Align
 pub mod FiniteSum
 pub mod RowBit
 pub mod Causes
+pub mod AddConstant
+pub mod Fields
+pub mod ResultLaws
+pub mod RoundedFields
+pub mod ExactSum
+pub mod RowLaws

@@ -4,3 +4,4 @@ pub mod Rounding
 pub mod Result
 pub mod Row
 pub mod Sticky
+pub mod Exact

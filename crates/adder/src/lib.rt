@@ -1,7 +1,8 @@
 // The rounded sum and difference of two words of a format, and their carry row.
 pub mod carry_row;
+pub mod exponent;
 pub mod result;
-mod round;
+pub mod round;
 mod sum;
 mod unpack;
 

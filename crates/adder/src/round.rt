@@ -14,13 +14,14 @@ ghost use lib.Ieee.{size};
 ghost use Rattle.adder.specs.Sticky.{Held, keptPart};
 
 // The direction of a mode as seen from zero, by the sign.
-fn direction(mode: u64, sign: u64) -> Direction
-    requires { ⌜ sign < 2 ⌝ }
+pub fn direction(mode: u64, sign: u64) -> Direction
     ensures { λ r. ⌜ r ≡ direction mode sign ⌝ }
 {
     if mode == 0 {
         Direction::Nearest
-    } else if mode == 2 + sign {
+    } else if mode < 2 {
+        Direction::TowardZero
+    } else if mode - 2 == sign {
         Direction::Away
     } else {
         Direction::TowardZero

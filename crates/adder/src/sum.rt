@@ -2,10 +2,10 @@
 use crate::Finite;
 use crate::Operand;
 use crate::Operands;
+use crate::exponent::unit_of;
 use crate::round::infinity_word;
 use crate::round::rounded;
 use crate::round::signed;
-use crate::unpack::unit_of;
 use bits::high;
 use bits::low;
 use bits::power;

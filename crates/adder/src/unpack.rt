@@ -3,7 +3,6 @@ use crate::Biased;
 use crate::Finite;
 use crate::Operand;
 use crate::Operands;
-use crate::Unit;
 use bits::high;
 use bits::low;
 use bits::power;
@@ -11,20 +10,9 @@ use format::Format;
 ghost use mathlib.Core.Path.{_≡_};
 ghost use Prim.Native.Nat.{_≤_, _<_, _^_};
 ghost use Rattle.format.specs.Format.{Supported, wordBits};
-ghost use Rattle.adder.specs.Word.{unitOf, significand};
+ghost use Rattle.adder.specs.Word.{significand};
 ghost use Rattle.adder.specs.Operand.{operandOf};
 ghost use Rattle.adder.specs.Result.{effective};
-
-// The one place where a biased exponent becomes the exponent of a unit: field 0 has the unit of field 1.
-pub fn unit_of(exponent: Biased) -> Unit
-    ensures { λ r. ⌜ r ≡ unitOf exponent ⌝ }
-{
-    if exponent.0 == 0 {
-        Unit(0)
-    } else {
-        Unit(exponent.0 - 1)
-    }
-}
 
 // The significand of a biased exponent and a fraction.
 fn significand(f: u64, exponent: u64, fraction: u64) -> u64

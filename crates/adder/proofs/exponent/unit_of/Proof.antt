@@ -1,11 +1,11 @@
--- `adder::unpack::unit_of` meets its contract. Assumes nothing.
+-- `adder::exponent::unit_of` meets its contract. Assumes nothing.
 use mathlib.Core.Path.{_≡_, refl, sym, ap, ap₂, _∙_, subst}
 use Prim.Native.Nat.{ℕ, zero, suc, _+_, _-_, _*_, _/_, _%_, _^_, _≤_, _<_}
 use native.Mathlib.Omega.{arith}
 use Rattle.adder.specs.declared.Unit as exponent
 use borrow.Author.Needs.{needs}
-use Rattle.adder.proofs.unpack.unit_of.Statement.{statement}
-use Rattle.adder.proofs.unpack.unit_of.Tie as tie
+use Rattle.adder.proofs.exponent.unit_of.Statement.{statement}
+use Rattle.adder.proofs.exponent.unit_of.Tie as tie
 
 of : ℕ → exponent.Unit
 of n = record { 0 = n }

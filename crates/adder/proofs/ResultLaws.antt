@@ -1,0 +1,111 @@
+-- Laws of the rounded result: it is a word of the format, adding does not depend on the order of a and b, and subtracting is adding b with
+-- its sign turned. Assumes nothing.
+use mathlib.Core.Path.{_≡_, refl, sym, ap, _∙_}
+use mathlib.Core.Bool.{Bool, true, false, cond}
+use Prim.Native.Nat.{ℕ, _+_, _-_, _^_, _<_}
+use native.Mathlib.Decide.{decLt, ℕ-discrete}
+use native.Mathlib.Omega.{arith}
+use borrow.Author.Tests.{eq-eqb, ne-eqb}
+use lib.Dec.{eqb}
+use lib.Pow.{pow-pos, pow-lt, pow-add}
+use Rattle.format.specs.declared.Format.{Format}
+use Rattle.format.specs.Format.{Supported, wordBits}
+use Rattle.adder.specs.declared.Finite as record-of
+use Rattle.adder.specs.declared.Operand as kind
+use Rattle.adder.specs.declared.Operand.the-variants.{Finite, Infinite, Nan}
+use Rattle.adder.specs.Operand.{operandOf, magnitude, Canonical, Sound}
+use Rattle.adder.specs.Rounding.{infinityWord}
+use Rattle.adder.specs.Result.{effective, nan, infinity, cancelledSign, finiteSum, infiniteSum, kindSum, result}
+use Rattle.adder.proofs.Bounds.{infinity-lt}
+use Rattle.adder.proofs.Rounded.{signed-lt, rounded-lt}
+use Rattle.adder.proofs.Canonical.{operand-sound}
+use Rattle.adder.proofs.FiniteSum.{sum-like, sum-unlike, sum-unlike-second, sum-cancelled, finite-sum-comm}
+use Rattle.adder.proofs.Fields.{effective-lt, effective-add}
+
+pub cancelled-lt : (mode : ℕ) → cancelledSign mode < 2
+unfolding cancelledSign
+cancelled-lt mode = go (eqb mode 3)
+  where
+    go : (t : Bool) → cond t 1 0 < 2
+    go true = omega arith
+    go false = omega arith
+
+module _ (F : Format) (ok : Supported F) where
+  nan-lt : nan F < 2 ^ wordBits F
+  nan-lt =
+      let most = infinity-lt F ok in
+      let top : 2 ^ (F .f - 1) < 2 ^ (F .w + F .f) = pow-lt (let h = ok .w-least in omega arith) in
+      omega (arith, pow-add 2 (F .w + F .f) 1)
+
+  infinity-word-lt : (s : ℕ) → s < 2 → infinity F s < 2 ^ wordBits F
+  infinity-word-lt s hs = signed-lt F s (infinityWord F) hs (infinity-lt F ok)
+
+  finite-sum-lt : (mode : ℕ) (x y : record-of.Finite) → Canonical F x → Canonical F y → finiteSum F mode x y < 2 ^ wordBits F
+  finite-sum-lt mode x y cx cy = go (ℕ-discrete (x .sign) (y .sign)) (decLt (magnitude x) (magnitude y)) (decLt (magnitude y) (magnitude x))
+    where
+      go : Dec (x .sign ≡ y .sign) → Dec (magnitude x < magnitude y) → Dec (magnitude y < magnitude x) → finiteSum F mode x y < 2 ^ wordBits F
+      go (yes e) l g = rw (sum-like F mode x y e) (rounded-lt F ok mode (x .sign) (magnitude x + magnitude y) (cx .sign-lt))
+      go (no e) (yes l) g = rw (sum-unlike-second F mode x y e l) (rounded-lt F ok mode (y .sign) (magnitude y - magnitude x) (cy .sign-lt))
+      go (no e) (no l) (yes g) = rw (sum-unlike F mode x y e g) (rounded-lt F ok mode (x .sign) (magnitude x - magnitude y) (cx .sign-lt))
+      go (no e) (no l) (no g) =
+          rw (sum-cancelled F mode x y e (omega arith)) (signed-lt F (cancelledSign mode) 0 (cancelled-lt mode) (pow-pos (F .w + F .f)))
+
+  infinite-sum-lt : (s : ℕ) (y : kind.Operand) → s < 2 → infiniteSum F s y < 2 ^ wordBits F
+  unfolding infiniteSum
+  infinite-sum-lt s (Finite y) hs = infinity-word-lt s hs
+  infinite-sum-lt s (Infinite t) hs = go (eqb s t)
+    where
+      go : (e : Bool) → cond e (infinity F s) (nan F) < 2 ^ wordBits F
+      go true = infinity-word-lt s hs
+      go false = nan-lt
+  infinite-sum-lt s Nan hs = nan-lt
+
+  kind-sum-lt : (mode : ℕ) (x y : kind.Operand) → Sound F x → Sound F y → kindSum F mode x y < 2 ^ wordBits F
+  unfolding kindSum
+  kind-sum-lt mode Nan y hx hy = nan-lt
+  kind-sum-lt mode (Infinite s) y hx hy = infinite-sum-lt s y hx
+  kind-sum-lt mode (Finite x) Nan hx hy = nan-lt
+  kind-sum-lt mode (Finite x) (Infinite t) hx hy = infinity-word-lt t hy
+  kind-sum-lt mode (Finite x) (Finite y) hx hy = finite-sum-lt mode x y hx hy
+
+  -- c is a word of the format
+  pub result-lt : (operation mode a b : ℕ) → result F operation mode a b < 2 ^ wordBits F
+  unfolding result
+  result-lt operation mode a b =
+      kind-sum-lt mode (operandOf F a) (operandOf F (effective F operation b)) (operand-sound F a) (operand-sound F (effective F operation b))
+
+-- ---- order and operation
+
+infinite-sum-comm : (F : Format) (s t : ℕ) → infiniteSum F s (Infinite t) ≡ infiniteSum F t (Infinite s)
+unfolding infiniteSum
+infinite-sum-comm F s t = go (ℕ-discrete s t)
+  where
+    go : Dec (s ≡ t) → cond (eqb s t) (infinity F s) (nan F) ≡ cond (eqb t s) (infinity F t) (nan F)
+    go (yes e) = rw (eq-eqb s t e, eq-eqb t s (sym e)) (ap (infinity F) e)
+    go (no e) = rw (ne-eqb s t e, ne-eqb t s (λ q. e (sym q)))
+
+kind-sum-comm : (F : Format) (mode : ℕ) (x y : kind.Operand) → kindSum F mode x y ≡ kindSum F mode y x
+unfolding kindSum infiniteSum
+kind-sum-comm F mode Nan Nan = refl
+kind-sum-comm F mode Nan (Infinite t) = refl
+kind-sum-comm F mode Nan (Finite y) = refl
+kind-sum-comm F mode (Infinite s) Nan = refl
+kind-sum-comm F mode (Infinite s) (Infinite t) = infinite-sum-comm F s t
+kind-sum-comm F mode (Infinite s) (Finite y) = refl
+kind-sum-comm F mode (Finite x) Nan = refl
+kind-sum-comm F mode (Finite x) (Infinite t) = refl
+kind-sum-comm F mode (Finite x) (Finite y) = finite-sum-comm F mode x y
+
+-- adding: the order of a and b does not matter
+pub result-comm : (F : Format) (mode a b : ℕ) → a < 2 ^ wordBits F → b < 2 ^ wordBits F → result F 0 mode a b ≡ result F 0 mode b a
+unfolding result
+result-comm F mode a b ha hb =
+    ap (λ (n : ℕ). kindSum F mode (operandOf F a) (operandOf F n)) (effective-add F b hb)
+    ∙ kind-sum-comm F mode (operandOf F a) (operandOf F b)
+    ∙ ap (λ (n : ℕ). kindSum F mode (operandOf F b) (operandOf F n)) (sym (effective-add F a ha))
+
+-- an operation is adding the effective b
+pub result-effective : (F : Format) (operation mode a b : ℕ) → result F operation mode a b ≡ result F 0 mode a (effective F operation b)
+unfolding result
+result-effective F operation mode a b =
+    ap (λ (n : ℕ). kindSum F mode (operandOf F a) (operandOf F n)) (sym (effective-add F (effective F operation b) (effective-lt F operation b)))

@@ -1,0 +1,77 @@
+// The cases of document 01, "Cases, in hexadecimal".
+use crate::ask::accepted;
+use crate::ask::eight_difference;
+use crate::ask::eight_difference_no_row;
+use crate::ask::eight_difference_row;
+use crate::ask::eight_sum;
+use crate::ask::eight_sum_row;
+use crate::ask::refused;
+use crate::line::Count;
+use format::cause;
+
+// 1. (45, 2B, 4C) row 04 and (4D, 3B, 55) row 1D, in mode 0.
+fn case_1(count: Count) -> Count {
+    let one = eight_sum(count, 0, 0x45, 0x2B, 0x4C);
+    let two = eight_sum_row(one, 0x45, 0x2B, 0x04);
+    let three = eight_sum(two, 0, 0x4D, 0x3B, 0x55);
+    eight_sum_row(three, 0x4D, 0x3B, 0x1D)
+}
+
+// 5. 30 - 30: 00, but 80 in mode 3.
+fn case_5(count: Count) -> Count {
+    let one = eight_difference(count, 0, 0x30, 0x30, 0x00);
+    let two = eight_difference(one, 1, 0x30, 0x30, 0x00);
+    let three = eight_difference(two, 2, 0x30, 0x30, 0x00);
+    eight_difference(three, 3, 0x30, 0x30, 0x80)
+}
+
+// 6. 6F + 6F: 70 in modes 0 and 2, 6F in modes 1 and 3.
+fn case_6(count: Count) -> Count {
+    let one = eight_sum(count, 0, 0x6F, 0x6F, 0x70);
+    let two = eight_sum(one, 1, 0x6F, 0x6F, 0x6F);
+    let three = eight_sum(two, 2, 0x6F, 0x6F, 0x70);
+    eight_sum(three, 3, 0x6F, 0x6F, 0x6F)
+}
+
+// 7. 70 - 70: 78, and no row. 8. 0F + 01 = 10.
+fn cases_7_and_8(count: Count) -> Count {
+    let one = eight_difference(count, 0, 0x70, 0x70, 0x78);
+    let two = eight_difference_no_row(one, 0x70, 0x70);
+    eight_sum(two, 0, 0x0F, 0x01, 0x10)
+}
+
+// 9. 30 + 02: 30 in mode 0, 31 in mode 2. 31 + 02: 32 in mode 0.
+fn case_9(count: Count) -> Count {
+    let one = eight_sum(count, 0, 0x30, 0x02, 0x30);
+    let two = eight_sum(one, 2, 0x30, 0x02, 0x31);
+    eight_sum(two, 0, 0x31, 0x02, 0x32)
+}
+
+// 10. 30 - 01: row 0F; 30 in mode 0, 2F in mode 3.
+fn case_10(count: Count) -> Count {
+    let one = eight_difference_row(count, 0x30, 0x01, 0x0F);
+    let two = eight_difference(one, 0, 0x30, 0x01, 0x30);
+    eight_difference(two, 3, 0x30, 0x01, 0x2F)
+}
+
+pub fn eight_bit_cases(count: Count) -> Count {
+    case_10(case_9(cases_7_and_8(case_6(case_5(case_1(count))))))
+}
+
+// 12. w = 2 and 8 accepted, 1 and 9 refused; f = 2 and 23 accepted, 1 and 24 refused.
+pub fn limits(count: Count) -> Count {
+    let one = accepted(accepted(count, 2, 4), 8, 4);
+    let two = refused(
+        refused(one, 1, 4, cause::EXPONENT_BITS),
+        9,
+        4,
+        cause::EXPONENT_BITS,
+    );
+    let three = accepted(accepted(two, 3, 2), 3, 23);
+    refused(
+        refused(three, 3, 1, cause::FRACTION_BITS),
+        3,
+        24,
+        cause::FRACTION_BITS,
+    )
+}

@@ -1,0 +1,5 @@
+pub mod Complements
+pub mod Part
+pub mod Range
+pub mod Significand
+pub mod Tail

@@ -1,0 +1,2 @@
+pub mod Significand
+pub mod Tail

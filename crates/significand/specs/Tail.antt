@@ -1,0 +1,35 @@
+-- The mask on the aligned forms of all the significands that meet a mask. An aligned form is R "counted in L's unit" (document 01, "The
+-- carry row") with two more bits and then the sticky bit. A bit of the significand that rises from 0 to 1 makes no bit of the aligned
+-- form fall, not the sticky bit either; so what is fixed is what the aligned forms of the least and of the greatest significand agree in.
+-- Assumes nothing.
+use mathlib.Core.Bool.{_&&_}
+use Prim.Native.Nat.{ℕ, _+_, _-_, _*_, _^_}
+use lib.Dec.{leb}
+use Rattle.mask.specs.declared.Mask.{Mask}
+use Rattle.mask.specs.Mask.{wellFormed, pickMask}
+use Rattle.adder.specs.Sticky.{withSticky}
+
+-- the k bits that x has not
+abbrev pub complement : ℕ → ℕ → ℕ
+complement k x = 2 ^ k - 1 - x
+
+-- the least number that meets a mask, each free bit being 0
+abbrev pub least : Mask → ℕ
+least m = m .value
+
+-- the greatest number of k bits that meets a mask, each free bit being 1
+abbrev pub greatest : ℕ → Mask → ℕ
+greatest k m = m .value + complement k (m .care)
+
+-- the mask on k bits whose least number is l and whose greatest is g, where g has each bit of l: free is what g has more
+abbrev pub spanned : ℕ → ℕ → ℕ → Mask
+spanned k l g = record { care = complement k (g - l); value = l }
+
+-- the mask on the aligned forms, for a gap of d places, of the significands of p bits that meet m; it is one on 63 bits, and so fixes
+-- the bits from p + 3 on to 0
+abbrev pub alignedMask : ℕ → Mask → ℕ → Mask
+alignedMask p m d = spanned 63 (withSticky (4 * least m) d) (withSticky (4 * greatest p m) d)
+
+-- that mask, and m as it is where p is above 60 or m is not well formed for p bits
+unfoldable pub tailMask : ℕ → Mask → ℕ → Mask
+tailMask p m d = pickMask (leb p 60 && wellFormed p m) (alignedMask p m d) m

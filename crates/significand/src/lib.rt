@@ -1,0 +1,87 @@
+// Masks on significands, and on their aligned forms.
+use bits::high;
+use bits::low;
+use bits::power;
+use mask::Mask;
+use mask::fix;
+use mask::mask_cause;
+ghost use mathlib.Core.Path.{_≡_};
+ghost use Prim.Native.Nat.{_*_, _≤_, _<_, _^_};
+ghost use Rattle.mask.specs.Mask.{WellFormed};
+ghost use Rattle.adder.specs.Sticky.{sticky, withSticky};
+ghost use Rattle.significand.specs.Significand.{significandMask};
+ghost use Rattle.significand.specs.Tail.{complement, greatest, spanned, alignedMask, tailMask};
+
+// The mask on the significand of a fraction and an exponent field; the fraction's as it is where f is 64 or more or bit f is fixed.
+pub fn significand_mask(f: u64, fraction: Mask, exponent: u64) -> Mask
+    ensures { λ r. ⌜ r ≡ significandMask f fraction exponent ⌝ }
+{
+    if exponent == 0 {
+        fix(fraction, f, 0)
+    } else {
+        fix(fraction, f, 1)
+    }
+}
+
+// The k bits that x has not.
+fn complement(k: u64, x: u64) -> u64
+    requires { ⌜ (k < 64) × (x < 2 ^ k) ⌝ }
+    ensures { λ r. ⌜ r ≡ complement k x ⌝ }
+{
+    power(k) - 1 - x
+}
+
+// The greatest number of k bits that meets m.
+fn greatest(k: u64, m: Mask) -> u64
+    requires { ⌜ (k < 64) × WellFormed k m ⌝ }
+    ensures { λ r. ⌜ r ≡ greatest k m ⌝ }
+{
+    m.value + complement(k, m.care)
+}
+
+// The mask on 63 bits from its least number and its greatest.
+fn spanned(l: u64, g: u64) -> Mask
+    requires { ⌜ (l ≤ g) × (g < 2 ^ 63) ⌝ }
+    ensures { λ r. ⌜ r ≡ spanned 63 l g ⌝ }
+{
+    Mask {
+        care: complement(63, g - l),
+        value: l,
+    }
+}
+
+// The sticky bit of what is dropped.
+fn sticky(rest: u64) -> u64
+    ensures { λ r. ⌜ r ≡ sticky rest ⌝ }
+{
+    if rest == 0 { 0 } else { 1 }
+}
+
+// A significand with two more bits moved down by `gap` places, and then the sticky bit.
+fn aligned(significand: u64, gap: u64) -> u64
+    requires { ⌜ significand < 2 ^ 60 ⌝ }
+    ensures { λ r. ⌜ r ≡ withSticky (4 * significand) gap ⌝ }
+{
+    let guarded = 4 * significand;
+    high(guarded, gap) * 2 + sticky(low(guarded, gap))
+}
+
+// The mask on the aligned forms of the significands of p bits that meet m.
+fn aligned_mask(p: u64, m: Mask, gap: u64) -> Mask
+    requires { ⌜ (p ≤ 60) × WellFormed p m ⌝ }
+    ensures { λ r. ⌜ r ≡ alignedMask p m gap ⌝ }
+{
+    spanned(aligned(m.value, gap), aligned(greatest(p, m), gap))
+}
+
+// That mask; m as it is where p is above 60 or m is not well formed for p bits.
+pub fn tail_mask(p: u64, m: Mask, gap: u64) -> Mask
+    ensures { λ r. ⌜ r ≡ tailMask p m gap ⌝ }
+{
+    if p <= 60 {
+        if mask_cause(p, m) == 0 {
+            return aligned_mask(p, m, gap);
+        }
+    }
+    m
+}
