@@ -3,9 +3,9 @@ use mathlib.Core.Path.{_≡_, refl}
 use mathlib.Core.Logic.{_↔_}
 use Prim.Native.Nat.{ℕ, zero, suc}
 use Rattle.format.specs.Cause.{first}
-use Rattle.format.specs.Format.{wordBits, precision, Supported, formatCause, operationCause, modeCause}
+use Rattle.format.specs.Format.{wordBits, precision}
 use Rattle.format.proofs.Laws.{first-none, format-none, operation-none, mode-none}
-use Rattle.mask.specs.Mask.{WellFormed, maskCause}
+use Rattle.mask.specs.Mask.{WellFormed}
 use Rattle.mask.proofs.Checks.{mask-none}
 use Rattle.job.specs.declared.Job.{Job}
 use Rattle.job.specs.Job.{masksCause, jobCause, Valid}

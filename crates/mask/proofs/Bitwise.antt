@@ -1,10 +1,10 @@
 -- Bits of any number: a bit is 0 or 1, numbers with the same bits are equal, and what a 0 or a 1 does to another bit.
 -- No width is needed, since every number is below 2 to itself. Assumes nothing.
-use mathlib.Core.Path.{_≡_, sym, ap, _∙_, subst}
-use Prim.Native.Nat.{ℕ, zero, suc, _+_, _*_, _^_, _≤_, _<_}
+use mathlib.Core.Path.{_≡_, _∙_}
+use Prim.Native.Nat.{ℕ, zero, suc, _+_, _^_, _<_}
 use native.Mathlib.Nat.{lt-of-lt-of-le, le-add-right, le-add-left, two-pow-succ, mod-eq-of-lt}
 use native.Mathlib.Omega.{arith}
-use lib.Bits.{bitAnd, bitOr, and-mask, and-zero-r, or-comm, or-disjoint}
+use lib.Bits.{bitAnd, and-mask}
 use lib.Pow.{pow-pos, pow-mono}
 use Rattle.bits.specs.Bit.{bit}
 use Rattle.bits.proofs.Laws.{bit-lt, by-bits}

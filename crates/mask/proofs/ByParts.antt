@@ -5,7 +5,6 @@ use mathlib.Core.Logic.{_↔_}
 use mathlib.Core.Path.{_≡_, sym, ap, ap₂, _∙_}
 use Prim.Native.Nat.{ℕ, _+_, _*_, _/_, _%_, _^_, _<_}
 use native.Mathlib.Nat.{mod-lt, div-eq-of-lt, add-zero, eq-of-mul-eq-mul-right, add-comm}
-use native.Mathlib.Omega.{arith}
 use lib.Bits.{bitAnd, and-mod, and-shr, and-zero-r, and-block}
 use lib.Pow.{pow-pos, split, field, mod-mod-pow, shr-lt, shl-lt}
 use Rattle.mask.specs.declared.Mask.{Mask}

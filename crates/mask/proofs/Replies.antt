@@ -6,7 +6,7 @@ use mathlib.Core.Bool.{Bool, true, false, _&&_, and-comm, and-eq-true-iff}
 use Prim.Native.Nat.{ℕ}
 use native.Mathlib.Omega.{arith}
 use borrow.Author.Tests.{eqb-true, eq-eqb}
-use lib.Bits.{bitAnd, bitOr, or-self}
+use lib.Bits.{bitAnd, or-self}
 use Rattle.format.specs.Cause as cause
 use Rattle.mask.specs.declared.Mask.{Mask}
 use Rattle.mask.specs.declared.Joined.{Joined}

@@ -1,7 +1,7 @@
 -- `mask::join` meets its contract: the tests that led to each return are those of `join`. Assumes nothing.
 use borrow.Author.Needs.{needs}
 use mathlib.Core.Path.{_≡_, sym, ap₂, _∙_}
-use mathlib.Core.Bool.{Bool, true, false, _&&_}
+use mathlib.Core.Bool.{true, false, _&&_}
 use Rattle.mask.specs.Mask.{inside}
 use Rattle.mask.specs.Join.{agree, join}
 use Rattle.mask.proofs.join.Statement.{statement}

@@ -1,0 +1,115 @@
+-- The word c by its exponent field and its fraction: the bits dropped and what stands above the fraction make the exponent field, past
+-- the largest finite number the direction decides, and a mask on the word is one on the fraction and one on what stands above it.
+-- Assumes nothing.
+use mathlib.Core.Logic.{_↔_}
+use mathlib.Core.Path.{_≡_, sym, ap, _∙_}
+use mathlib.Core.Bool.{Bool, cond}
+use Prim.Native.Nat.{ℕ, _+_, _*_, _/_, _%_, _^_, _≤_, _<_}
+use native.Mathlib.Nat.{mul-assoc, add-mul, mod-lt, div-lt-iff-lt-mul, mul-add-div-right}
+use native.Mathlib.Decide.{decLt}
+use native.Mathlib.Omega.{arith}
+use borrow.Author.Tests.{lt-ltb, le-ltb}
+use lib.Bits.{and-zero-r}
+use lib.Dec.{ltb}
+use lib.Pow.{pow-pos, pow-add, split, high, low}
+use Rattle.format.specs.declared.Format.{Format}
+use Rattle.mask.specs.declared.Mask.{Mask}
+use Rattle.mask.specs.Mask as mask
+use Rattle.mask.specs.Mask.{Meets}
+use Rattle.mask.proofs.ByParts.{meets-parts}
+use Rattle.mask.proofs.Checks.{meets-true}
+use Rattle.adder.specs.declared.Direction.{Direction}
+use Rattle.adder.specs.Word.{allOnes, signed}
+use Rattle.adder.specs.Rounding.{infinityWord, overflowWord}
+use Rattle.outcome.specs.Outcome.{droppedOf, heldWord, boundedHeld}
+use Rattle.outcome.specs.Question.{keptOf, wordOf, Seeks}
+use Rattle.outcome.proofs.Topped.{anything}
+
+-- k and a part Y make the exponent field k + Y / 2^f and the fraction Y % 2^f
+apart : (f k Y : ℕ) → k * 2 ^ f + Y ≡ (k + Y / 2 ^ f) * 2 ^ f + Y % 2 ^ f
+apart f k Y =
+    let s = split Y f in
+    let m = add-mul k (Y / 2 ^ f) (2 ^ f) in
+    omega arith
+
+pub held-word : (F : Format) (d : Direction) (s x u : ℕ)
+    → signed F s (boundedHeld F d x u) ≡ wordOf F d s (droppedOf F x u + keptOf (F .f) d x u / 2 ^ F .f) (keptOf (F .f) d x u % 2 ^ F .f)
+unfolding boundedHeld
+held-word F d s x u = ap (signed F s) (go (decLt e (allOnes F)))
+  where
+    Y : ℕ
+    Y = keptOf (F .f) d x u
+
+    e : ℕ
+    e = droppedOf F x u + Y / 2 ^ F .f
+
+    whole : heldWord F d x u ≡ e * 2 ^ F .f + Y % 2 ^ F .f
+    whole = apart (F .f) (droppedOf F x u) Y
+
+    quotient : heldWord F d x u / 2 ^ F .f ≡ e
+    quotient = mul-add-div-right (pow-pos (F .f)) (droppedOf F x u) Y
+
+    go : Dec (e < allOnes F)
+        → cond (ltb (heldWord F d x u) (infinityWord F)) (heldWord F d x u) (overflowWord F d)
+        ≡ cond (ltb e (allOnes F)) (e * 2 ^ F .f + Y % 2 ^ F .f) (overflowWord F d)
+    go (yes h) =
+        let l = div-lt-iff-lt-mul {k = 2 ^ F .f} {x = heldWord F d x u} {y = allOnes F} (pow-pos (F .f)) .0 (rw quotient h) in
+        rw (lt-ltb (heldWord F d x u) (infinityWord F) l, lt-ltb e (allOnes F) h) whole
+    go (no h) = rw (le-ltb (heldWord F d x u) (infinityWord F) (past (decLt (heldWord F d x u) (infinityWord F))), le-ltb e (allOnes F) (omega arith))
+      where
+        past : Dec (heldWord F d x u < infinityWord F) → infinityWord F ≤ heldWord F d x u
+        past (yes l) =
+            let q = div-lt-iff-lt-mul {k = 2 ^ F .f} {x = heldWord F d x u} {y = allOnes F} (pow-pos (F .f)) .1 l in
+            absurd (omega (arith, quotient))
+        past (no l) = omega arith
+
+-- a word within the format, and one past it
+module _ (F : Format) (d : Direction) (s e t : ℕ) (c : Mask) where
+  pub within-meets : e < allOnes F → t < 2 ^ F .f
+      → Meets (wordOf F d s e t) c ↔ (Meets (s * 2 ^ F .w + e) (mask.high (F .f) c) × Meets t (mask.low (F .f) c))
+  within-meets h l = (
+    (λ met. let p = parts .0 (rw word at met) in (p .1, p .0)),
+    λ p. rw word (parts .1 (p .1, p .0)),
+  )
+    where
+      word : wordOf F d s e t ≡ (s * 2 ^ F .w + e) * 2 ^ F .f + t
+      word =
+          let p = pow-add 2 (F .w) (F .f) in
+          let a = mul-assoc s (2 ^ F .w) (2 ^ F .f) in
+          let m = add-mul (s * 2 ^ F .w) e (2 ^ F .f) in
+          let q = ap (_*_ s) p in
+          rw (lt-ltb e (allOnes F) h) (omega arith)
+
+      parts : Meets ((s * 2 ^ F .w + e) * 2 ^ F .f + t) c ↔ (Meets t (mask.low (F .f) c) × Meets (s * 2 ^ F .w + e) (mask.high (F .f) c))
+      parts = rw (low (s * 2 ^ F .w + e) (F .f) l, high (s * 2 ^ F .w + e) (F .f) l) at (meets-parts (F .f) ((s * 2 ^ F .w + e) * 2 ^ F .f + t) c)
+
+  pub past-word : allOnes F ≤ e → wordOf F d s e t ≡ signed F s (overflowWord F d)
+  past-word h = rw (le-ltb e (allOnes F) h)
+
+-- what is sought of the fraction
+module _ (F : Format) (d : Direction) (s e : ℕ) (c : Mask) (possible : Bool) (fraction : Mask) where
+  pub within-seeks : e < allOnes F → possible ≡ mask.meets (s * 2 ^ F .w + e) (mask.high (F .f) c) → fraction ≡ mask.low (F .f) c
+      → Seeks F d s c e (record { possible = possible; fraction = fraction })
+  within-seeks h p q = record {
+    care-lt = rw q (mod-lt (c .care) (pow-pos (F .f)));
+    value-lt = rw q (mod-lt (c .value) (pow-pos (F .f)));
+    meets = λ t l.
+        let w = within-meets F d s e t c h l in
+        let k = meets-true (s * 2 ^ F .w + e) (mask.high (F .f) c) in (
+          (λ met. let r = w .0 met in (p ∙ k .1 (r .0), rw q (r .1))),
+          λ r. w .1 (k .0 (sym p ∙ r .0), rw q at (r .1)),
+        );
+  }
+
+  pub past-seeks : allOnes F ≤ e → possible ≡ mask.meets (signed F s (overflowWord F d)) c → fraction ≡ anything
+      → Seeks F d s c e (record { possible = possible; fraction = fraction })
+  past-seeks h p q = record {
+    care-lt = rw q (pow-pos (F .f));
+    value-lt = rw q (pow-pos (F .f));
+    meets = λ t l.
+        let w = past-word F d s e t c h in
+        let k = meets-true (signed F s (overflowWord F d)) c in (
+          (λ met. (p ∙ k .1 (rw w at met), rw q (and-zero-r t))),
+          λ r. rw w (k .0 (sym p ∙ r .0)),
+        );
+  }

@@ -1,0 +1,139 @@
+-- The kept part of x as one rounding off and one shift: j bits are rounded off, or none and s zeros are added. For a number x of N digits
+-- what stands above the fraction is then one of two neighbours: 0 or 1 below the smallest normal number's digits, else 1 or 2.
+-- Assumes nothing.
+use mathlib.Core.Path.{_≡_, refl, sym, ap, ap₂, _∙_, subst}
+use mathlib.Core.Logic.{_⊎_, inl, inr, ⊎-elim}
+use mathlib.Core.Bool.{cond}
+use Prim.Native.Nat.{ℕ, zero, suc, _+_, _-_, _*_, _/_, _%_, _^_, _≤_, _<_}
+use native.Mathlib.Nat.{mul-one, mul-assoc, le-trans, lt-of-lt-of-le, div-lt-iff-lt-mul, le-div-iff-mul-le}
+use native.Mathlib.Decide.{decLt, decLe}
+use native.Mathlib.Omega.{arith}
+use borrow.Author.Tests.{lt-ltb, le-ltb}
+use lib.Dec.{ltb}
+use lib.Ieee.{size}
+use lib.Ieee.Digits.{size-lt, size-reaches}
+use lib.Pow.{pow-pos, pow-add, pow-mono, shl-lt, shr-lt}
+use Rattle.adder.specs.declared.Direction.{Direction}
+use Rattle.adder.specs.Rounding.{roundOff}
+use Rattle.adder.specs.Sticky.{keptPart}
+use Rattle.adder.proofs.RoundOff.{increment-le, round-off-none, round-off-scale}
+use Rattle.outcome.specs.Question.{keptOf}
+
+-- nothing or three bits fewer than u - k, and four bits after a carry
+pub kept-scaled : (d : Direction) (x u k : ℕ) → k ≤ suc u → keptPart d x u k ≡ roundOff d x (k + 3 - u) * 2 ^ (u - (k + 3))
+unfolding keptPart
+kept-scaled d x u k most = go (decLt u k) (decLe u (k + 3))
+  where
+    -- no zeros are added
+    alone : (j : ℕ) → k + 3 - u ≡ j → u ≤ k + 3 → roundOff d x j ≡ roundOff d x (k + 3 - u) * 2 ^ (u - (k + 3))
+    alone j e l =
+        let none : u - (k + 3) ≡ 0 = omega arith in
+        sym (ap₂ (λ (a b : ℕ). roundOff d x a * 2 ^ b) e none ∙ mul-one (roundOff d x j))
+
+    go : Dec (u < k) → Dec (u ≤ k + 3) → cond (ltb u k) (roundOff d x 4) (roundOff d (x * 2 ^ (u - k)) 3) ≡ roundOff d x (k + 3 - u) * 2 ^ (u - (k + 3))
+    go (yes h) l = rw (lt-ltb u k h) (alone 4 (omega arith) (omega arith))
+    go (no h) (yes l) =
+        let e : 3 ≡ (k + 3 - u) + (u - k) = omega arith in
+        rw (le-ltb u k (omega arith))
+        (ap (roundOff d (x * 2 ^ (u - k))) e ∙ round-off-scale d x (k + 3 - u) (u - k) ∙ alone (k + 3 - u) refl l)
+    go (no h) (no l) =
+        let e : u - k ≡ (u - (k + 3)) + 3 = omega arith in
+        let none : k + 3 - u ≡ 0 = omega arith in
+        rw (le-ltb u k (omega arith))
+        (ap (λ (n : ℕ). roundOff d n 3) (ap (λ (i : ℕ). x * 2 ^ i) e ∙ ap (_*_ x) (pow-add 2 (u - (k + 3)) 3) ∙ sym (mul-assoc x (2 ^ (u - (k + 3))) (2 ^ 3)))
+        ∙ round-off-scale d (x * 2 ^ (u - (k + 3))) 0 3 ∙ round-off-none d (x * 2 ^ (u - (k + 3)))
+        ∙ ap (λ (n : ℕ). n * 2 ^ (u - (k + 3))) (sym (ap (roundOff d x) none ∙ round-off-none d x)))
+
+-- j bits are rounded off or s zeros are added, and not both
+module _ (d : Direction) (x j s : ℕ) (either : (j ≡ 0) ⊎ (s ≡ 0)) where
+  pub shifted-le : (N b : ℕ) → x < 2 ^ N → N + s ≤ j + b → roundOff d x j * 2 ^ s ≤ 2 ^ b
+  unfolding roundOff
+  shifted-le N b below most = ⊎-elim wide narrow either
+    where
+      wide : j ≡ 0 → roundOff d x j * 2 ^ s ≤ 2 ^ b
+      wide e =
+          let n = ap (roundOff d x) e ∙ round-off-none d x in
+          let l = shl-lt {a = x} N s below in
+          let m = pow-mono {i = N + s} {j = b} (omega arith) in
+          rw n (omega arith)
+
+      narrow : s ≡ 0 → roundOff d x j * 2 ^ s ≤ 2 ^ b
+      narrow e =
+          let one : roundOff d x j * 2 ^ s ≡ roundOff d x j = ap (λ (i : ℕ). roundOff d x j * 2 ^ i) e ∙ mul-one (roundOff d x j) in
+          let q = shr-lt {n = x} b j (lt-of-lt-of-le below (pow-mono {i = N} {j = b + j} (omega arith))) in
+          omega (arith, increment-le d (x / 2 ^ j) (x % 2 ^ j) (2 ^ j))
+
+  pub shifted-least : (n b : ℕ) → 2 ^ n ≤ x → b + j ≤ n + s → 2 ^ b ≤ roundOff d x j * 2 ^ s
+  unfolding roundOff
+  shifted-least n b reach least = ⊎-elim wide narrow either
+    where
+      wide : j ≡ 0 → 2 ^ b ≤ roundOff d x j * 2 ^ s
+      wide e =
+          let z = ap (roundOff d x) e ∙ round-off-none d x in
+          rw z
+          (le-trans (pow-mono {i = b} {j = n + s} (omega arith))
+          (subst (λ (m : ℕ). m ≤ x * 2 ^ s) (sym (pow-add 2 n s)) (native.Mathlib.Nat.mul-le-mul-right (2 ^ s) reach)))
+
+      narrow : s ≡ 0 → 2 ^ b ≤ roundOff d x j * 2 ^ s
+      narrow e =
+          let one : roundOff d x j * 2 ^ s ≡ roundOff d x j = ap (λ (i : ℕ). roundOff d x j * 2 ^ i) e ∙ mul-one (roundOff d x j) in
+          let p = pow-add 2 b j in
+          let m = pow-mono {i = b + j} {j = n} (omega arith) in
+          let q = le-div-iff-mul-le {k = 2 ^ j} {x = 2 ^ b} {y = x} (pow-pos j) .1 (omega arith) in
+          omega arith
+
+-- a number x of n + 1 digits, at most f + 5
+module _ (f : ℕ) (d : Direction) (x u n : ℕ) (digits : size x ≡ suc n) (most : suc n ≤ f + 5) where
+  pub kept-shifted : keptOf f d x u ≡ roundOff d x (suc n + u - (f + 4) + 3 - u) * 2 ^ (u - (suc n + u - (f + 4) + 3))
+  kept-shifted = ap (λ (m : ℕ). keptPart d x u (m + u - (f + 4))) digits ∙ kept-scaled d x u (suc n + u - (f + 4)) (omega arith)
+
+  either : (suc n + u - (f + 4) + 3 - u ≡ 0) ⊎ (u - (suc n + u - (f + 4) + 3) ≡ 0)
+  either = go (decLe u (suc n + u - (f + 4) + 3))
+    where
+      go : Dec (u ≤ suc n + u - (f + 4) + 3) → (suc n + u - (f + 4) + 3 - u ≡ 0) ⊎ (u - (suc n + u - (f + 4) + 3) ≡ 0)
+      go (yes h) = inr (omega arith)
+      go (no h) = inl (omega arith)
+
+  below : x < 2 ^ suc n
+  below = subst (λ (m : ℕ). x < 2 ^ m) digits (size-lt x)
+
+  kept-le : (b : ℕ) → suc n + (u - (suc n + u - (f + 4) + 3)) ≤ (suc n + u - (f + 4) + 3 - u) + b → keptOf f d x u ≤ 2 ^ b
+  kept-le b h = rw kept-shifted (shifted-le d x (suc n + u - (f + 4) + 3 - u) (u - (suc n + u - (f + 4) + 3)) either (suc n) b below h)
+
+  pub kept-lt : keptOf f d x u < 2 ^ (2 + f)
+  kept-lt =
+      let h = kept-le (f + 1) (omega arith) in
+      let p = pow-add 2 f 1 in
+      let q = pow-add 2 2 f in
+      let z = pow-pos f in
+      omega arith
+
+  -- what stands above the fraction
+  pub quotient-low : suc n + u < f + 4 → (keptOf f d x u / 2 ^ f ≡ 0) ⊎ (keptOf f d x u / 2 ^ f ≡ 1)
+  quotient-low small =
+      let h = kept-le f (omega arith) in
+      let z = pow-pos f in
+      let q = div-lt-iff-lt-mul {k = 2 ^ f} {x = keptOf f d x u} {y = 2} (pow-pos f) .1 (omega arith) in
+      go (keptOf f d x u / 2 ^ f) q
+    where
+      go : (q : ℕ) → q < 2 → (q ≡ 0) ⊎ (q ≡ 1)
+      go zero l = inl refl
+      go (suc zero) l = inr refl
+      go (suc (suc q)) l = absurd (omega arith)
+
+  pub quotient-high : f + 4 ≤ suc n + u → (keptOf f d x u / 2 ^ f ≡ 1) ⊎ (keptOf f d x u / 2 ^ f ≡ 2)
+  quotient-high large =
+      let h = kept-le (f + 1) (omega arith) in
+      let p = pow-add 2 f 1 in
+      let z = pow-pos f in
+      let r = size-reaches x n (omega arith) in
+      let l : 2 ^ f ≤ keptOf f d x u = rw kept-shifted (shifted-least d x (suc n + u - (f + 4) + 3 - u) (u - (suc n + u - (f + 4) + 3)) either n f r (omega arith)) in
+      let q = div-lt-iff-lt-mul {k = 2 ^ f} {x = keptOf f d x u} {y = 3} (pow-pos f) .1 (omega arith) in
+      let o = le-div-iff-mul-le {k = 2 ^ f} {x = 1} {y = keptOf f d x u} (pow-pos f) .1 (omega arith) in
+      go (keptOf f d x u / 2 ^ f) o q
+    where
+      go : (q : ℕ) → 1 ≤ q → q < 3 → (q ≡ 1) ⊎ (q ≡ 2)
+      go zero o l = absurd (omega arith)
+      go (suc zero) o l = inl refl
+      go (suc (suc zero)) o l = inr refl
+      go (suc (suc (suc q))) o l = absurd (omega arith)

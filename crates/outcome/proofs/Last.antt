@@ -1,0 +1,64 @@
+-- The last kept bit as a mask of one bit, joined to another mask: a number meets the joined mask exactly when it meets the other and has
+-- that bit, and where the two clash no number does both. With that bit fixed, rounding to nearest adds a constant and a carry.
+-- Assumes nothing.
+use mathlib.Core.Logic.{_↔_}
+use mathlib.Core.Path.{_≡_, ap, ap₂, _∙_, subst}
+use Prim.Native.Nat.{ℕ, zero, suc, _+_, _-_, _*_, _/_, _%_, _^_, _≤_, _<_}
+use native.Mathlib.Nat.{zero-div}
+use native.Mathlib.Omega.{arith}
+use lib.Bits.{and-zero-r, or-zero-l}
+use Rattle.bits.specs.Bit.{bit}
+use Rattle.mask.specs.declared.Mask.{Mask}
+use Rattle.mask.specs.declared.Joined.the-variants as reply
+use Rattle.mask.specs.Mask.{Inside, Meets, raised, fixed}
+use Rattle.mask.specs.Join.{join, joined}
+use Rattle.mask.proofs.Fixing.{fixed-inside, fixed-meets}
+use Rattle.mask.proofs.Joining.{meets-agree}
+use Rattle.mask.proofs.Replies.{agree-true, join-inside, join-meets}
+use Rattle.adder.specs.declared.Direction.the-variants.{Nearest}
+use Rattle.adder.specs.Rounding.{roundOff}
+use Rattle.adder.proofs.AddConstant.{round-nearest}
+use Rattle.outcome.proofs.Topped.{anything}
+use Rattle.outcome.proofs.Rounds.{rounds-meets}
+
+-- bit j fixed to b, and no other
+abbrev pub oneBit : ℕ → ℕ → Mask
+oneBit j b = record { care = 2 ^ j; value = b * 2 ^ j }
+
+module _ (j b : ℕ) (h : b < 2) where
+  none : bit 0 j ≡ 0
+  none = ap (λ (n : ℕ). n % 2) (zero-div (2 ^ j))
+
+  same : fixed anything j b ≡ oneBit j b
+  same = ap₂ (λ (s t : ℕ). record { care = s; value = t }) (or-zero-l (2 ^ j)) (or-zero-l (b * 2 ^ j))
+
+  pub one-inside : Inside (oneBit j b)
+  one-inside = subst (λ (m : Mask). Inside m) same (fixed-inside anything j b (and-zero-r 0) none h)
+
+  pub one-meets : (n : ℕ) → Meets n (oneBit j b) ↔ (bit n j ≡ b)
+  one-meets n =
+      let f = subst (λ (m : Mask). Meets n m ↔ (Meets n anything × (bit n j ≡ b))) same (fixed-meets anything j b (and-zero-r 0) none h n) in
+      ((λ met. f .0 met .1), λ e. f .1 (and-zero-r n, e))
+
+  -- the reply of joining
+  pub last-joined : (x m : Mask) → join x (oneBit j b) ≡ reply.Mask m → (n : ℕ) → Meets n m ↔ (Meets n x × (bit n j ≡ b))
+  last-joined x m e n =
+      let p = join-meets x (oneBit j b) m n e in (
+        (λ met. let q = p .0 met in (q .0, one-meets n .0 (q .1))),
+        λ q. p .1 (q .0, one-meets n .1 (q .1)),
+      )
+
+  pub last-refused : (x : Mask) (k : ℕ) → Inside x → join x (oneBit j b) ≡ reply.Refused k → (n : ℕ) → Meets n x → bit n j ≡ b → ⊥
+  last-refused x k inside e n met last =
+      let a = agree-true x (oneBit j b) .1 (meets-agree x (oneBit j b) inside one-inside n met (one-meets n .1 last)) in
+      let w : join x (oneBit j b) ≡ reply.Mask (joined x (oneBit j b)) = join-inside x (oneBit j b) inside one-inside ∙ simp a in
+      let z : _≡_ {A = ℕ} 0 1 = cc in
+      omega arith
+
+-- j bits, one at least, rounded off to nearest
+pub nearest-meets : (n j b : ℕ) (y : Mask) → 1 ≤ j → bit n j ≡ b → Meets (n + (2 ^ (j - 1) - 1) + b) (raised j y) ↔ Meets (roundOff Nearest n j) y
+nearest-meets n zero b y h e = absurd (omega arith)
+nearest-meets n (suc i) b y h e = rounds-meets (suc i) n (n + (2 ^ (suc i - 1) - 1) + b) y Nearest (round-nearest n i ∙ ap₂ (λ (k c : ℕ). (n + (2 ^ k - 1) + c) / 2 ^ suc i) down e)
+  where
+    down : i ≡ suc i - 1
+    down = omega arith

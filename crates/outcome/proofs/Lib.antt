@@ -1,0 +1,10 @@
+pub mod Topped
+pub mod Kept
+pub mod Fields
+pub mod Rounds
+pub mod Making
+pub mod Last
+pub mod Asked
+pub mod Range
+pub mod Counted
+pub mod Admitted

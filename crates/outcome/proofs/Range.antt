@@ -1,0 +1,77 @@
+-- How many digits a number that two aligned significands make can have: f + 5 at most, or f + 4 where they are subtracted; and at least
+-- f + 4, or f + 3, where the larger one has its top bit and the smaller one is added, or is below a quarter of 2^(f+4).
+-- Assumes nothing.
+use mathlib.Core.Path.{_≡_, sym, ap, _∙_, subst}
+use mathlib.Core.Bool.{Bool, true, false, not, true≢false}
+use Prim.Native.Nat.{ℕ, zero, suc, _+_, _-_, _*_, _/_, _^_, _≤_, _<_}
+use native.Mathlib.Nat.{lt-of-le-of-lt, sub-le, div-eq-of-lt, div-lt-iff-lt-mul}
+use native.Mathlib.Decide.{decLt}
+use native.Mathlib.Omega.{arith}
+use lib.Ieee.{size}
+use lib.Ieee.Digits.{size-le}
+use lib.Pow.{pow-pos, pow-add, shr-lt}
+use Rattle.mask.specs.declared.Mask.{Mask}
+use Rattle.mask.specs.Mask.{Meets, meets, high}
+use Rattle.mask.proofs.ByParts.{meets-parts}
+use Rattle.mask.proofs.Checks.{meets-true}
+use Rattle.adder.proofs.Size.{size-least}
+use Rattle.chain.specs.Chain.{combined}
+use Rattle.outcome.specs.declared.Aligned as pair
+use Rattle.outcome.specs.Question.{Made}
+use Rattle.outcome.proofs.Asked.{combined-lt}
+
+-- a test of the high part
+pub high-tested : (v k : ℕ) (m h : Mask) (r b : Bool) → h ≡ high k m → r ≡ meets v h → r ≡ b → meets v (high k m) ≡ b
+high-tested v k m h r b eh er e = sym (ap (meets v) eh) ∙ sym er ∙ e
+
+-- a number that meets a mask has no quotient by 2^k that the mask's high part refuses
+module _ (k n : ℕ) (m : Mask) (met : Meets n m) where
+  refused : (v : ℕ) → meets v (high k m) ≡ false → n / 2 ^ k ≡ v → ⊥
+  refused v never e = true≢false (sym (meets-true v (high k m) .1 (subst (λ (w : ℕ). Meets w (high k m)) e (meets-parts k n m .0 met .1))) ∙ never)
+
+  pub refused-none : meets 0 (high k m) ≡ false → 2 ^ k ≤ n
+  refused-none never = go (decLt n (2 ^ k))
+    where
+      go : Dec (n < 2 ^ k) → 2 ^ k ≤ n
+      go (yes h) = absurd (refused 0 never (div-eq-of-lt h))
+      go (no h) = omega arith
+
+  pub refused-some : meets 1 (high k m) ≡ false → meets 2 (high k m) ≡ false → meets 3 (high k m) ≡ false → n < 2 ^ (2 + k) → n < 2 ^ k
+  refused-some one two three below = go (n / 2 ^ k) (λ i. n / 2 ^ k) (shr-lt 2 k below)
+    where
+      go : (v : ℕ) → n / 2 ^ k ≡ v → v < 4 → n < 2 ^ k
+      go zero e l = let h = div-lt-iff-lt-mul {k = 2 ^ k} {x = n} {y = 1} (pow-pos k) .0 (omega arith) in omega arith
+      go (suc zero) e l = absurd (refused 1 one e)
+      go (suc (suc zero)) e l = absurd (refused 2 two e)
+      go (suc (suc (suc zero))) e l = absurd (refused 3 three e)
+      go (suc (suc (suc (suc v)))) e l = absurd (omega arith)
+
+module _ (f : ℕ) (A : pair.Aligned) (x : ℕ) (made : Made f A x) where
+  pub made-most : size x ≤ f + 5
+  made-most =
+      let five : suc (f + 4) ≡ f + 5 = omega arith in
+      size-le x (f + 5)
+      (subst (λ (n : ℕ). n < 2 ^ (f + 5)) (made .makes)
+      (subst (λ (k : ℕ). combined (not (A .like)) (made .H) (made .T) < 2 ^ k) five
+      (combined-lt (not (A .like)) (made .H) (made .T) (f + 4) (made .head-lt) (made .tail-lt))))
+
+  -- the parts are added
+  pub made-sum : A .like ≡ true → made .H + made .T ≡ x
+  made-sum e = sym (ap (λ (b : Bool). combined (not b) (made .H) (made .T)) e) ∙ made .makes
+
+  -- the smaller is taken from the larger
+  pub made-difference : A .like ≡ false → made .H - made .T ≡ x
+  made-difference e = sym (ap (λ (b : Bool). combined (not b) (made .H) (made .T)) e) ∙ made .makes
+
+  pub made-difference-most : A .like ≡ false → size x ≤ f + 4
+  made-difference-most e = size-le x (f + 4) (subst (λ (n : ℕ). n < 2 ^ (f + 4)) (made-difference e) (lt-of-le-of-lt (sub-le (made .H) (made .T)) (made .head-lt)))
+
+  pub made-like : A .like ≡ true → 2 ^ (f + 3) ≤ made .H → f + 4 ≤ size x
+  made-like e h = let s = size-least x (f + 3) (omega (arith, made-sum e)) in omega arith
+
+  pub made-unlike : A .like ≡ false → 2 ^ (f + 3) ≤ made .H → made .T < 2 ^ (f + 2) → f + 3 ≤ size x
+  made-unlike e h t =
+      let p : 2 ^ (f + 3) ≡ 2 ^ f * 8 = pow-add 2 f 3 in
+      let q : 2 ^ (f + 2) ≡ 2 ^ f * 4 = pow-add 2 f 2 in
+      let s = size-least x (f + 2) (omega (arith, made-difference e)) in
+      omega arith

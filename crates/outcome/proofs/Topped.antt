@@ -1,0 +1,93 @@
+-- A mask that fixes the bits from k up as a number and leaves the low k bits to another mask: it is met exactly when the quotient is
+-- that number and the remainder meets the other mask. With the quotient 1 it fixes how many digits a number has. Assumes nothing.
+use mathlib.Core.Logic.{_↔_}
+use mathlib.Core.Path.{_≡_, sym, ap, _∙_, subst}
+use Prim.Native.Nat.{ℕ, suc, _+_, _-_, _*_, _/_, _%_, _^_, _<_}
+use native.Mathlib.Nat.{mod-eq-of-lt, div-lt-iff-lt-mul, le-div-iff-mul-le, pow-suc}
+use native.Mathlib.Omega.{arith}
+use lib.Bits.{bitAnd, and-mask, and-zero-l, and-zero-r}
+use lib.Ieee.{size}
+use lib.Ieee.Digits.{size-lt, size-reaches}
+use lib.Pow.{pow-pos, pow-add, pow-mono, high, low, shr-lt}
+use Rattle.mask.specs.declared.Mask.{Mask}
+use Rattle.mask.specs.Mask.{Meets}
+use Rattle.mask.proofs.ByParts.{meets-parts}
+use Rattle.adder.proofs.Size.{size-zero, size-between}
+use Rattle.outcome.specs.Question.{topped, OfDigits}
+
+-- all bits of a number below 2^r
+and-ones : (r y : ℕ) → y < 2 ^ r → bitAnd y (2 ^ r - 1) ≡ y
+and-ones r y h = and-mask y r ∙ mod-eq-of-lt h
+
+module _ (r k h x : ℕ) (m : Mask) (hc : m .care < 2 ^ k) (hv : m .value < 2 ^ k) (below : x < 2 ^ (r + k)) where
+  pub topped-meets : Meets x (topped r k h m) ↔ ((x / 2 ^ k ≡ h) × Meets (x % 2 ^ k) m)
+  topped-meets = (
+    (λ met. let p = meets-parts k x (topped r k h m) .0 met in (
+      sym (and-ones r (x / 2 ^ k) (shr-lt r k below)) ∙ sym (ap (bitAnd (x / 2 ^ k)) (high (2 ^ r - 1) k hc)) ∙ p .1 ∙ high h k hv,
+      sym (ap (bitAnd (x % 2 ^ k)) (low (2 ^ r - 1) k hc)) ∙ p .0 ∙ low h k hv,
+    )),
+    λ p. meets-parts k x (topped r k h m) .1 (
+      ap (bitAnd (x % 2 ^ k)) (low (2 ^ r - 1) k hc) ∙ p .1 ∙ sym (low h k hv),
+      ap (bitAnd (x / 2 ^ k)) (high (2 ^ r - 1) k hc) ∙ and-ones r (x / 2 ^ k) (shr-lt r k below) ∙ p .0 ∙ sym (high h k hv),
+    ),
+  )
+
+-- n + 1 digits, by the quotient
+pub size-quotient : (x n : ℕ) → (size x ≡ suc n) ↔ (x / 2 ^ n ≡ 1)
+size-quotient x n = (there, back)
+  where
+    there : size x ≡ suc n → x / 2 ^ n ≡ 1
+    there e =
+        let l = size-reaches x n (omega arith) in
+        let g : x < 2 ^ suc n = subst (λ (s : ℕ). x < 2 ^ s) e (size-lt x) in
+        let p = pow-suc 2 n in
+        let a = le-div-iff-mul-le {k = 2 ^ n} {x = 1} {y = x} (pow-pos n) .1 (omega arith) in
+        let b = div-lt-iff-lt-mul {k = 2 ^ n} {x = x} {y = 2} (pow-pos n) .1 (omega arith) in
+        omega arith
+
+    back : x / 2 ^ n ≡ 1 → size x ≡ suc n
+    back e =
+        let a = le-div-iff-mul-le {k = 2 ^ n} {x = 1} {y = x} (pow-pos n) .0 (omega arith) in
+        let b = div-lt-iff-lt-mul {k = 2 ^ n} {x = x} {y = 2} (pow-pos n) .0 (omega arith) in
+        let p = pow-suc 2 n in
+        size-between x n (omega arith) (omega arith)
+
+pub size-none : (x : ℕ) → (size x ≡ 0) ↔ (x ≡ 0)
+size-none x = (
+  (λ e. let g : x < 2 ^ 0 = subst (λ (s : ℕ). x < 2 ^ s) e (size-lt x) in omega arith),
+  λ e. ap size e ∙ size-zero,
+)
+
+-- a mask that fixes nothing
+abbrev pub anything : Mask
+anything = record { care = 0; value = 0 }
+
+-- the masks of no digit, and of k + 1 digits
+pub digits-none : (n : ℕ) → OfDigits n 0 (record { care = 2 ^ n - 1; value = 0 })
+digits-none n = record {
+  inside = and-zero-l (2 ^ n - 1);
+  meets = λ x h. ((λ met. size-none x .1 (sym (and-ones n x h) ∙ met)), λ e. and-ones n x h ∙ size-none x .0 e);
+}
+
+pub digits-some : (r k : ℕ) → OfDigits (suc r + k) (suc k) (topped (suc r) k 1 anything)
+digits-some r k = record { inside = inside; meets = meets }
+  where
+    quotient : (x : ℕ) → x < 2 ^ (suc r + k) → Meets x (topped (suc r) k 1 anything) ↔ ((x / 2 ^ k ≡ 1) × Meets (x % 2 ^ k) anything)
+    quotient x h = topped-meets (suc r) k 1 x anything (pow-pos k) (pow-pos k) h
+
+    meets : (x : ℕ) → x < 2 ^ (suc r + k) → Meets x (topped (suc r) k 1 anything) ↔ (size x ≡ suc k)
+    meets x h = (
+      (λ met. size-quotient x k .1 (quotient x h .0 met .0)),
+      λ e. quotient x h .1 (size-quotient x k .0 e, and-zero-r (x % 2 ^ k)),
+    )
+
+    inside : Meets (1 * 2 ^ k + 0) (topped (suc r) k 1 anything)
+    inside =
+        let p = pow-add 2 (suc r) k in
+        let o = native.Mathlib.Nat.mul-le-mul-right {m = 2} {n = 2 ^ suc r} (2 ^ k) (pow-mono {i = 1} {j = suc r} (omega arith)) in
+        let t = pow-pos k in
+        quotient (1 * 2 ^ k + 0) (omega arith) .1 (high 1 k (pow-pos k), and-zero-r ((1 * 2 ^ k + 0) % 2 ^ k))
+
+-- the same for numbers that the code forms
+pub digits-of : (n count r k : ℕ) → n ≡ suc r + k → count ≡ suc k → (a b : ℕ) → a ≡ suc r → b ≡ k → OfDigits n count (topped a b 1 anything)
+digits-of n count r k en ec a b ea eb = rw (en, ec, ea, eb) (digits-some r k)

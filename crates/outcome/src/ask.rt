@@ -1,0 +1,89 @@
+// Questions about what two aligned significands make, put to the chain of two adders.
+use crate::Aligned;
+use crate::masks::raised;
+use adder::Direction;
+use chain::Wires;
+use mask::Joined;
+use mask::Mask;
+ghost use mathlib.Core.Bool.{true};
+ghost use mathlib.Core.Logic.{_↔_};
+ghost use mathlib.Core.Path.{_≡_};
+ghost use Prim.Native.Nat.{ℕ, _+_, _-_, _^_, _≤_, _<_};
+ghost use Rattle.bits.specs.Bit.{bit};
+ghost use Rattle.mask.specs.Mask.{Inside, Meets, raised};
+ghost use Rattle.mask.specs.declared.Mask.{Mask};
+ghost use Rattle.adder.specs.declared.Direction.the-variants.{Nearest};
+ghost use Rattle.adder.specs.Rounding.{roundOff};
+ghost use Rattle.outcome.specs.Question.{Formed, Making};
+
+// Whether they make a number that meets x and, with a constant and a carry added, z. Three bits stand below a significand, so the carry
+// out of its bit i is the one into column i + 4.
+pub(crate) fn ask(aligned: Aligned, f: u64, x: Mask, z: Mask, constant: u64, carry: u64) -> bool
+    requires { ⌜ (f ≤ 23) × (constant < 16) × (carry < 2) ⌝ }
+    ensures { λ r. ⌜ (Formed f aligned → (r ≡ true) ↔ Making f aligned (λ (n : ℕ). Meets n x × Meets (n + constant + carry) z)) ⌝ }
+{
+    let head = aligned.head;
+    let tail = aligned.tail;
+    let carries = raised(aligned.carries, 4);
+    let wires = Wires {
+        subtract: !aligned.like,
+        l: head,
+        t: tail,
+        x,
+        z,
+        carries,
+        constant,
+        carry,
+    };
+    chain::possible(wires, f + 6)
+}
+
+// The same in nearest mode for a number whose bit j, the last one kept, is `last`.
+fn ask_last(aligned: Aligned, f: u64, x: Mask, z: Mask, j: u64, last: u64) -> bool
+    requires { ⌜ (f ≤ 23) × (1 ≤ j) × (j ≤ 4) × (last < 2) × Inside x ⌝ }
+    ensures { λ r. ⌜ (Formed f aligned → (r ≡ true) ↔ Making f aligned (λ (n : ℕ). (Meets n x × (bit n j ≡ last)) × Meets (n + (2 ^ (j - 1) - 1) + last) z)) ⌝ }
+{
+    let kept = Mask {
+        care: 1 << j,
+        value: last << j,
+    };
+    let joined = mask::join(x, kept);
+    match joined {
+        Joined::Mask(m) => ask(aligned, f, m, z, (1 << (j - 1)) - 1, last),
+        Joined::Refused(_) => false,
+    }
+}
+
+// Whether they make a number that meets x and, with j bits rounded off to nearest, a mask that z is when moved up by j places.
+fn rounds_nearest(aligned: Aligned, f: u64, j: u64, x: Mask, z: Mask) -> bool
+    requires { ⌜ (f ≤ 23) × (j ≤ 4) × Inside x ⌝ }
+    ensures { λ r. ⌜ (Formed f aligned → (y : Mask) → z ≡ raised j y → (r ≡ true) ↔ Making f aligned (λ (n : ℕ). Meets n x × Meets (roundOff Nearest n j) y)) ⌝ }
+{
+    if j == 0 {
+        return ask(aligned, f, x, z, 0, 0);
+    }
+    if ask_last(aligned, f, x, z, j, 0) {
+        return true;
+    }
+    ask_last(aligned, f, x, z, j, 1)
+}
+
+// Whether they make a number that meets x and, with j bits rounded off, y.
+pub(crate) fn rounds(
+    aligned: Aligned,
+    f: u64,
+    direction: Direction,
+    j: u64,
+    x: Mask,
+    y: Mask,
+) -> bool
+    requires { ⌜ (f ≤ 23) × (j ≤ 4) × Inside x × (y .care < 2 ^ 60) × (y .value < 2 ^ 60) ⌝ }
+    ensures { λ r. ⌜ (Formed f aligned → (r ≡ true) ↔ Making f aligned (λ (n : ℕ). Meets n x × Meets (roundOff direction n j) y)) ⌝ }
+{
+    let z = raised(y, j);
+    match direction {
+        Direction::Nearest => rounds_nearest(aligned, f, j, x, z),
+        Direction::TowardZero => ask(aligned, f, x, z, 0, 0),
+        Direction::Away => ask(aligned, f, x, z, (1 << j) - 1, 0),
+    }
+}

@@ -1,0 +1,143 @@
+// Whether two aligned significands make a number of so many binary digits whose word meets a mask.
+use crate::Aligned;
+use crate::ask::ask;
+use crate::ask::rounds;
+use crate::masks;
+use crate::word::Fractions;
+use crate::word::sought;
+use crate::word::zero_word;
+use adder::Direction;
+use format::Format;
+use mask::Mask;
+ghost use mathlib.Core.Bool.{true, cond};
+ghost use mathlib.Core.Logic.{_↔_};
+ghost use mathlib.Core.Path.{_≡_};
+ghost use Prim.Native.Nat.{ℕ, _+_, _-_, _/_, _%_, _^_, _≤_, _<_};
+ghost use lib.Dec.{ltb};
+ghost use lib.Ieee.{size};
+ghost use Rattle.format.specs.Format.{Supported};
+ghost use Rattle.mask.specs.Mask.{Meets};
+ghost use Rattle.adder.specs.Word.{signed};
+ghost use Rattle.outcome.specs.Outcome.{boundedHeld, outcome};
+ghost use Rattle.outcome.specs.Question.{Formed, Making, keptOf};
+
+// a - b, or 0 where b is larger.
+fn minus(a: u64, b: u64) -> u64
+    ensures { λ r. ⌜ r ≡ a - b ⌝ }
+{
+    if b < a { a - b } else { 0 }
+}
+
+// The smaller of the two numbers that can stand above the fraction.
+fn least_quotient(f: u64, unit: u64, count: u64) -> u64
+    requires { ⌜ (f ≤ 23) × (unit < 2 ^ 8) × (count ≤ f + 5) ⌝ }
+    ensures { λ r. ⌜ r ≡ cond (ltb (count + unit) (f + 4)) 0 1 ⌝ }
+{
+    if count + unit < f + 4 { 0 } else { 1 }
+}
+
+// Whether they make a number of so many digits whose kept part is `quotient` and below it one of the fractions.
+fn rounds_to(
+    aligned: Aligned,
+    f: u64,
+    direction: Direction,
+    unit: u64,
+    count: u64,
+    quotient: u64,
+    fractions: Fractions,
+) -> bool
+    requires { ⌜ (f ≤ 23) × (unit < 2 ^ 8) × (0 < count) × (count ≤ f + 5) × (quotient < 4) × (fractions .fraction .care < 2 ^ f) × (fractions .fraction .value < 2 ^ f) ⌝ }
+    ensures { λ r. ⌜ (Formed f aligned → (r ≡ true) ↔ Making f aligned (λ (x : ℕ). (size x ≡ count) × (keptOf f direction x unit / 2 ^ f ≡ quotient) × (fractions .possible ≡ true) × Meets (keptOf f direction x unit % 2 ^ f) (fractions .fraction))) ⌝ }
+{
+    if !fractions.possible {
+        return false;
+    }
+    let kept = masks::topped(2, f, quotient, fractions.fraction);
+    let place = minus(count + unit, f + 4) + 3;
+    let up = minus(unit, place);
+    if bits::low(kept.value, up) != 0 {
+        return false;
+    }
+    let x = masks::digits(f + 6, count);
+    rounds(
+        aligned,
+        f,
+        direction,
+        minus(place, unit),
+        x,
+        mask::high(kept, up),
+    )
+}
+
+// Whether they make a number of so many digits with `quotient` above the fraction, whose word meets c.
+fn at_quotient(
+    format: Format,
+    direction: Direction,
+    sign: u64,
+    unit: u64,
+    aligned: Aligned,
+    c: Mask,
+    count: u64,
+    quotient: u64,
+) -> bool
+    requires { ⌜ Supported format × (sign < 2) × (unit < 2 ^ 8) × (0 < count) × (count ≤ format .f + 5) × (quotient < 4) ⌝ }
+    ensures { λ r. ⌜ (Formed (format .f) aligned → (r ≡ true) ↔ Making (format .f) aligned (λ (x : ℕ). (size x ≡ count) × (keptOf (format .f) direction x unit / 2 ^ format .f ≡ quotient) × Meets (signed format sign (boundedHeld format direction x unit)) c)) ⌝ }
+{
+    let f = format.f;
+    let exponent = minus(count + unit, f + 4) + quotient;
+    let fractions = sought(format, direction, sign, c, exponent);
+    rounds_to(aligned, f, direction, unit, count, quotient, fractions)
+}
+
+// Whether they make a number of so many digits, not 0, whose word meets c.
+fn at_count(
+    format: Format,
+    direction: Direction,
+    sign: u64,
+    unit: u64,
+    aligned: Aligned,
+    c: Mask,
+    count: u64,
+) -> bool
+    requires { ⌜ Supported format × (sign < 2) × (unit < 2 ^ 8) × (0 < count) × (count ≤ format .f + 5) ⌝ }
+    ensures { λ r. ⌜ (Formed (format .f) aligned → (r ≡ true) ↔ Making (format .f) aligned (λ (x : ℕ). (size x ≡ count) × Meets (signed format sign (boundedHeld format direction x unit)) c)) ⌝ }
+{
+    let least = least_quotient(format.f, unit, count);
+    if at_quotient(format, direction, sign, unit, aligned, c, count, least) {
+        return true;
+    }
+    at_quotient(format, direction, sign, unit, aligned, c, count, least + 1)
+}
+
+// Whether they make 0, and the word of a zero sum meets c.
+fn at_zero(format: Format, mode: u64, sign: u64, aligned: Aligned, c: Mask) -> bool
+    requires { ⌜ Supported format × (sign < 2) ⌝ }
+    ensures { λ r. ⌜ (Formed (format .f) aligned → (unit : ℕ) → (r ≡ true) ↔ Making (format .f) aligned (λ (x : ℕ). (size x ≡ 0) × Meets (outcome format mode (aligned .like) sign unit x) c)) ⌝ }
+{
+    if mask::meets(c, zero_word(format, mode, aligned.like, sign)) {
+        let x = masks::digits(format.f + 6, 0);
+        let z = Mask { care: 0, value: 0 };
+        return ask(aligned, format.f, x, z, 0, 0);
+    }
+    false
+}
+
+// Whether they make a number of so many digits whose word meets c.
+pub(crate) fn fits(
+    format: Format,
+    mode: u64,
+    sign: u64,
+    unit: u64,
+    aligned: Aligned,
+    c: Mask,
+    count: u64,
+) -> bool
+    requires { ⌜ Supported format × (sign < 2) × (unit < 2 ^ 8) × (count ≤ format .f + 5) ⌝ }
+    ensures { λ r. ⌜ (Formed (format .f) aligned → (r ≡ true) ↔ Making (format .f) aligned (λ (x : ℕ). (size x ≡ count) × Meets (outcome format mode (aligned .like) sign unit x) c)) ⌝ }
+{
+    if count == 0 {
+        return at_zero(format, mode, sign, aligned, c);
+    }
+    let direction = adder::round::direction(mode, sign);
+    at_count(format, direction, sign, unit, aligned, c, count)
+}

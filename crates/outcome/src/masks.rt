@@ -1,0 +1,43 @@
+// The masks that a question is made of.
+use mask::Mask;
+ghost use mathlib.Core.Path.{_≡_};
+ghost use Prim.Native.Nat.{_+_, _^_, _≤_, _<_};
+ghost use Rattle.mask.specs.Mask.{raised};
+ghost use Rattle.outcome.specs.Question.{topped, OfDigits};
+
+// The mask moved up by d places.
+pub(crate) fn raised(m: Mask, d: u64) -> Mask
+    requires { ⌜ d ≤ 4 ⌝ }
+    ensures { λ r. ⌜ (m .care < 2 ^ 60 → m .value < 2 ^ 60 → r ≡ raised d m) ⌝ }
+{
+    Mask {
+        care: m.care << d,
+        value: m.value << d,
+    }
+}
+
+// The mask m on the low k bits, and the number h on r bits above them.
+pub(crate) fn topped(r: u64, k: u64, h: u64, m: Mask) -> Mask
+    requires { ⌜ (r + k ≤ 32) × (h < 2 ^ r) × (m .care < 2 ^ k) × (m .value < 2 ^ k) ⌝ }
+    ensures { λ n. ⌜ n ≡ topped r k h m ⌝ }
+{
+    Mask {
+        care: (((1 << r) - 1) << k) + m.care,
+        value: (h << k) + m.value,
+    }
+}
+
+// The mask of the numbers of n bits that have so many binary digits.
+pub(crate) fn digits(n: u64, count: u64) -> Mask
+    requires { ⌜ (n ≤ 32) × (count ≤ n) ⌝ }
+    ensures { λ r. ⌜ OfDigits n count r ⌝ }
+{
+    if count == 0 {
+        return Mask {
+            care: (1 << n) - 1,
+            value: 0,
+        };
+    }
+    let low = Mask { care: 0, value: 0 };
+    topped(n + 1 - count, count - 1, 1, low)
+}

@@ -1,0 +1,9 @@
+pub mod Tail
+pub mod Columns
+pub mod Sum
+pub mod Summed
+pub mod Words
+pub mod Finites
+pub mod SpecialWords
+pub mod SpecialLaws
+pub mod SpecialKinds

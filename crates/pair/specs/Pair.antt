@@ -1,0 +1,56 @@
+-- The significand question of two finite operands, posed by their exponent fields and the masks on their fractions. Assumes nothing.
+use mathlib.Core.Path.{_≡_}
+use mathlib.Core.Bool.{Bool}
+use mathlib.Core.Logic.{_⊎_}
+use Prim.Native.Nat.{ℕ, _+_, _-_, _%_, _≤_, _<_}
+use lib.Dec.{eqb}
+use Rattle.format.specs.declared.Format.{Format}
+use Rattle.format.specs.Format.{precision}
+use Rattle.mask.specs.declared.Mask.{Mask}
+use Rattle.mask.specs.Mask.{Meets}
+use Rattle.job.specs.declared.Job.{Job}
+use Rattle.job.specs.Job.{Valid}
+use Rattle.adder.specs.Word.{unitOf, allOnes}
+use Rattle.adder.specs.declared.Biased.{Biased}
+use Rattle.significand.specs.Significand.{significandMask}
+use Rattle.significand.specs.Tail.{tailMask}
+use Rattle.outcome.specs.declared.Aligned as pair
+use Rattle.outcome.specs.Outcome.{Admits}
+use Rattle.pair.specs.Asked.{signMask, exponentMask, fractionMask}
+
+-- the exponent of the unit that goes with an exponent field
+abbrev pub unitAt : ℕ → ℕ
+unitAt e = unitOf (record { 0 = e }) .0
+
+-- the masks of two aligned significands: the larger operand has the exponent field e and the fraction mask m, the other g and n
+abbrev pub alignedOf : Format → Bool → Mask → Mask → ℕ → Mask → ℕ → pair.Aligned
+alignedOf F like carries m e n g = record {
+  like = like;
+  head = tailMask (precision F) (significandMask (F .f) m e) 0;
+  tail = tailMask (precision F) (significandMask (F .f) n g) (unitAt e - unitAt g);
+  carries = carries;
+}
+
+-- the operand of sign s, exponent field e and fraction mask m is the larger, the other has g and n: its unit is not the smaller one,
+-- and aligned significands make a word and carries that meet the job's masks
+abbrev pub Larger : Job → Bool → ℕ → ℕ → Mask → ℕ → Mask → Type 0
+Larger j like s e m g n = (unitAt g ≤ unitAt e) × Admits (j .format) (j .mode) s (unitAt e) (alignedOf (j .format) like (j .carries) m e n g) (j .c)
+
+-- the sign of b in the effective addition
+abbrev pub turned : ℕ → ℕ → ℕ
+turned operation s = (s + operation) % 2
+
+-- the signs meet their masks, and a is the larger operand or b is
+pub record Posed (j : Job) (ea eb sa sb : ℕ) : Type 0 where
+  pub a-sign : Meets sa (signMask (j .format) (j .a))
+  pub b-sign : Meets sb (signMask (j .format) (j .b))
+  pub sums : Larger j (eqb sa (turned (j .operation) sb)) sa ea (fractionMask (j .format) (j .a)) eb (fractionMask (j .format) (j .b))
+      ⊎ Larger j (eqb (turned (j .operation) sb) sa) (turned (j .operation) sb) eb (fractionMask (j .format) (j .b)) ea (fractionMask (j .format) (j .a))
+
+-- a valid job, and two exponent fields of finite operands that meet their masks
+pub record Finites (j : Job) (ea eb : ℕ) : Type 0 where
+  pub valid : Valid j
+  pub a-finite : ea < allOnes (j .format)
+  pub b-finite : eb < allOnes (j .format)
+  pub a-exponent : Meets ea (exponentMask (j .format) (j .a))
+  pub b-exponent : Meets eb (exponentMask (j .format) (j .b))

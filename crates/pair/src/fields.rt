@@ -1,0 +1,29 @@
+// The masks on the fields of a word.
+use format::Format;
+use mask::Mask;
+use mask::high;
+use mask::low;
+ghost use mathlib.Core.Path.{_≡_};
+ghost use Rattle.format.specs.Format.{Supported};
+ghost use Rattle.pair.specs.Asked.{signMask, exponentMask, fractionMask};
+
+pub(crate) fn sign_mask(format: Format, m: Mask) -> Mask
+    requires { ⌜ Supported format ⌝ }
+    ensures { λ r. ⌜ r ≡ signMask format m ⌝ }
+{
+    low(high(m, format.w + format.f), 1)
+}
+
+// The exponent field's.
+pub fn exponent_mask(format: Format, m: Mask) -> Mask
+    ensures { λ r. ⌜ r ≡ exponentMask format m ⌝ }
+{
+    low(high(m, format.f), format.w)
+}
+
+// The fraction's.
+pub(crate) fn fraction_mask(format: Format, m: Mask) -> Mask
+    ensures { λ r. ⌜ r ≡ fractionMask format m ⌝ }
+{
+    low(m, format.f)
+}

@@ -1,0 +1,53 @@
+-- Document 01's example file: the records of the jobs of cases 1 and 4, byte for byte, and what reading it gives. Computed.
+-- Assumes nothing.
+use mathlib.Core.Path.{_≡_, refl}
+use mathlib.Core.List.{List, [], _∷_}
+use Prim.Native.Nat.{ℕ}
+use Rattle.format.specs.Format.{formatCause, operationCause, modeCause, wordCause}
+use Rattle.mask.specs.declared.Mask.{Mask}
+use Rattle.mask.specs.Mask.{maskCause}
+use Rattle.job.specs.Job.{masksCause, jobCause}
+use Rattle.records.specs.Number.{littleEndian}
+use Rattle.records.specs.Fields.{fieldBytes, isDefault, piece, mapBit, mapOf, body}
+use Rattle.records.specs.Record.{recordCause, recordBytes}
+use Rattle.records.specs.File.{fileBytes, Reads, Writable, none, more}
+use Rattle.records.specs.declared.Entry.{Entry}
+use Rattle.records.proofs.Files.{file-read}
+
+-- the masks of both jobs, with a mask for the carries
+abbrev entry : Mask → Entry
+entry carries =
+    record {
+      job = record {
+        format = record { w = 3; f = 4 };
+        operation = 0;
+        mode = 0;
+        a = record { care = 0xf7; value = 0x45 };
+        b = record { care = 0xef; value = 0x2b };
+        c = record { care = 0xe6; value = 0x44 };
+        carries = carries;
+      };
+      r1 = 0;
+      r2 = 0;
+    }
+
+abbrev jobs : List Entry
+jobs = entry (record { care = 0; value = 0 }) ∷ entry (record { care = 2; value = 2 }) ∷ []
+
+abbrev file : List ℕ
+file =
+    0x07 ∷ 0x03 ∷ 0x04 ∷ 0x00 ∷ 0xf7 ∷ 0 ∷ 0 ∷ 0 ∷ 0x45 ∷ 0 ∷ 0 ∷ 0 ∷ 0xef ∷ 0 ∷ 0 ∷ 0 ∷ 0x2b ∷ 0 ∷ 0 ∷ 0 ∷ 0xe6 ∷ 0 ∷ 0 ∷ 0 ∷ 0x44 ∷ 0 ∷ 0 ∷ 0
+    ∷ 0x0f ∷ 0x03 ∷ 0x04 ∷ 0x00 ∷ 0xf7 ∷ 0 ∷ 0 ∷ 0 ∷ 0x45 ∷ 0 ∷ 0 ∷ 0 ∷ 0xef ∷ 0 ∷ 0 ∷ 0 ∷ 0x2b ∷ 0 ∷ 0 ∷ 0 ∷ 0xe6 ∷ 0 ∷ 0 ∷ 0 ∷ 0x44 ∷ 0 ∷ 0 ∷ 0
+    ∷ 0x02 ∷ 0 ∷ 0 ∷ 0 ∷ 0x02 ∷ 0 ∷ 0 ∷ 0 ∷ []
+
+pub example-bytes : fileBytes jobs ≡ file
+unfolding fileBytes recordBytes mapOf mapBit body piece isDefault fieldBytes littleEndian
+example-bytes = refl
+
+writable : Writable jobs
+unfolding recordCause jobCause masksCause formatCause operationCause modeCause wordCause maskCause
+writable = more refl (more refl none)
+
+pub example-read : Reads file jobs
+unfolding fileBytes recordBytes mapOf mapBit body piece isDefault fieldBytes littleEndian
+example-read = file-read writable

@@ -1,0 +1,10 @@
+pub mod Numbers
+pub mod OneField
+pub mod AllFields
+pub mod Places
+pub mod Prefixes
+pub mod Causes
+pub mod RoundTrip
+pub mod Files
+pub mod Replies
+pub mod Examples

@@ -1,0 +1,81 @@
+-- `records::entry_in` meets its contract: the part from byte 4 on holds the fields. Assumes nothing.
+use mathlib.Core.Path.{_≡_, sym, ap, _∙_}
+use Prim.Native.Nat.{ℕ, _-_}
+use native.Mathlib.Nat.{le-of-eq}
+use native.Mathlib.Omega.{arith}
+use mathlib.Core.List.{List}
+use lib.ListN.{length, take, drop, length-drop}
+use lib.Seq.{take-all}
+use denote.Ref.{now}
+use Rattle.records.specs.Fields.{fieldsIn}
+use Rattle.records.specs.Record.{shapes, recordLength, entryOf}
+use borrow.Author.Needs.{needs}
+use Rattle.records.proofs.entry_in.Statement.{statement}
+use Rattle.records.proofs.entry_in.Tie as tie
+
+-- the part from byte 4 on
+tail-part : (s : List ℕ) → take (length s - 4) (drop 4 s) ≡ drop 4 s
+tail-part s = take-all (length s - 4) (drop 4 s) (le-of-eq (length-drop 4 s))
+
+shared-slice-read-wide : tie.Need-shared-slice-read-wide
+unfolding recordLength
+shared-slice-read-wide c = omega arith
+
+wide-requires : tie.Need-wide-requires
+wide-requires c κs = search needs
+
+shared-slice-read-wide-2 : tie.Need-shared-slice-read-wide-2
+unfolding recordLength
+shared-slice-read-wide-2 c = omega arith
+
+wide-requires-2 : tie.Need-wide-requires-2
+wide-requires-2 c κs = search needs
+
+shared-slice-read-wide-3 : tie.Need-shared-slice-read-wide-3
+unfolding recordLength
+shared-slice-read-wide-3 c = omega arith
+
+wide-requires-3 : tie.Need-wide-requires-3
+wide-requires-3 c κs = search needs
+
+sub-decode : tie.Need-sub-decode
+unfolding recordLength
+sub-decode c = omega arith
+
+part-decode-start : tie.Need-part-decode-start
+unfolding recordLength
+part-decode-start c = omega arith
+
+part-decode-end : tie.Need-part-decode-end
+part-decode-end c = search needs
+
+decode-requires : tie.Need-decode-requires
+unfolding recordLength
+decode-requires c κs =
+    let k = c .before .before .before .before .before .before .before .before in
+    let s : List ℕ = now (k .args .s) in
+    omega (arith, ap length (tail-part s), length-drop 4 s, k .pre .1)
+
+returns : tie.Need-returns
+returns c =
+    let k = c .before .before .before .before .before .before .before .before .before in
+    let s : List ℕ = now (k .args .s) in
+    c .decode .ensures
+    ∙ λ i. entryOf (record { w = c .before .before .before .before .before .before .wide .ensures i; f = c .before .before .before .before .wide2 .ensures i })
+    (c .before .before .wide3 .ensures i) (fieldsIn shapes (sym (k .pre .0) i) (tail-part s i))
+
+pub entry-in-spec : {M : Type 1} → statement M
+entry-in-spec =
+    tie.close
+    (tie.spec
+    shared-slice-read-wide
+    wide-requires
+    shared-slice-read-wide-2
+    wide-requires-2
+    shared-slice-read-wide-3
+    wide-requires-3
+    sub-decode
+    part-decode-start
+    part-decode-end
+    decode-requires
+    returns)

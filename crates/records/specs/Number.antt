@@ -1,0 +1,22 @@
+-- Numbers as bytes, low byte first, and bytes put into a buffer (document 01, "Job files"). Assumes nothing.
+use Prim.Native.Nat.{ℕ, zero, suc, _+_, _*_, _/_, _%_, _<_}
+use mathlib.Core.List.{List, [], _∷_, _++_}
+use lib.ListN.{length, getD, take, drop}
+
+-- every element is a byte
+abbrev pub Bytes : List ℕ → Type 0
+Bytes s = (i : ℕ) → getD s i 0 < 256
+
+-- k bytes of x, "low byte first"
+unfoldable pub littleEndian : ℕ → ℕ → List ℕ
+littleEndian zero x = []
+littleEndian (suc k) x = x % 256 ∷ littleEndian k (x / 256)
+
+-- the number that bytes stand for, the low one first
+unfoldable pub number : List ℕ → ℕ
+number [] = 0
+number (b ∷ bs) = b + 256 * number bs
+
+-- the buffer with these bytes from position `at` on
+abbrev pub put : List ℕ → ℕ → List ℕ → List ℕ
+put s at bs = take at s ++ (bs ++ drop (at + length bs) s)

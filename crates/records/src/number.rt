@@ -1,0 +1,41 @@
+// Numbers as bytes, low byte first, of any count up to the eight of a u64.
+ghost use mathlib.Core.Path.{_≡_};
+ghost use Prim.Native.Nat.{_+_, _≤_};
+ghost use lib.ListN.{length, take, drop};
+ghost use Rattle.records.specs.Number.{littleEndian, number, put};
+
+pub(crate) fn wide(byte: u8) -> u64
+    ensures { λ r. ⌜ r ≡ byte ⌝ }
+{
+    byte as u64
+}
+
+// The number of the k bytes from `at` on.
+pub(crate) fn number_at(s: &[u8], at: usize, k: usize) -> u64
+    requires { ⌜ (k ≤ 8) × (at + k ≤ length (now s)) ⌝ }
+    ensures { λ r. ⌜ r ≡ number (take k (drop at (now (s .entry)))) ⌝ }
+{
+    let mut n: u64 = 0;
+    let mut i = k;
+    while 0 < i {
+        i -= 1;
+        n = n * 256 + wide(s[at + i]);
+    }
+    n
+}
+
+// Puts k bytes of x from `at` on, and returns the place after them.
+pub(crate) fn put_number(buffer: &mut [u8], at: usize, k: usize, x: u64) -> usize
+    requires { ⌜ at + k ≤ length (now buffer) ⌝ }
+    ensures { λ r. ⌜ r ≡ at + k ⌝ }
+    ensures { λ _. ⌜ now (buffer .exit) ≡ put (now (buffer .entry)) at (littleEndian k x) ⌝ }
+{
+    let mut left = x;
+    let mut i = 0;
+    while i < k {
+        buffer[at + i] = (left % 256) as u8;
+        left = left / 256;
+        i += 1;
+    }
+    at + k
+}

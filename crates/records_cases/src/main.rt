@@ -1,0 +1,13 @@
+// Job records: document 01's example file read, written back and cut at every place, and each refusal of reading and of writing.
+mod reading;
+mod writing;
+
+fn main() {
+    reading::example();
+    writing::example();
+    reading::refusals();
+    reading::limits();
+    writing::lengths();
+    writing::refusals();
+    reading::truncations();
+}

@@ -1,0 +1,137 @@
+// Entries written into a buffer of 64 bytes, all 255 before.
+use crate::reading;
+use format::Format;
+use job::Job;
+use libc::STDOUT_FILENO;
+use mask::Mask;
+use records::Entry;
+use records::First;
+use records::Writing;
+
+fn blank() -> [u8; 64] {
+    [255u8; 64]
+}
+
+fn show_reply(reply: Writing) {
+    match reply {
+        Writing::Written(n) => {
+            io::write_all(STDOUT_FILENO, b"written ");
+            io::print_decimal(STDOUT_FILENO, n as u64);
+        }
+        Writing::Refused(k) => {
+            io::write_all(STDOUT_FILENO, b"refused ");
+            io::print_decimal(STDOUT_FILENO, k);
+        }
+    }
+}
+
+// How many bytes a reply says are written.
+fn length(reply: Writing) -> usize {
+    match reply {
+        Writing::Written(n) => n,
+        Writing::Refused(_) => 0,
+    }
+}
+
+// Whether the bytes from n on are as they were.
+fn kept(buffer: &[u8], n: usize) {
+    let before = blank();
+    if n <= buffer.len() {
+        if n <= 64 {
+            io::write_all(STDOUT_FILENO, b", after it ");
+            reading::show_same(check::same(&buffer[n..], &before[n..]));
+            io::write_all(STDOUT_FILENO, b"\n");
+        }
+    }
+}
+
+// Writes the entry into the first bytes of the buffer.
+fn put(entry: Entry, buffer: &mut [u8], room: usize) {
+    if room <= buffer.len() {
+        let reply = records::write(entry, &mut buffer[..room]);
+        show_reply(reply);
+        kept(buffer, length(reply));
+    }
+}
+
+fn show(entry: Entry, room: usize) {
+    let mut buffer = blank();
+    put(entry, &mut buffer, room);
+}
+
+// Whether the first n bytes are the same.
+fn compare(buffer: &[u8], s: &[u8], n: usize) {
+    if n <= buffer.len() {
+        if n <= s.len() {
+            io::write_all(STDOUT_FILENO, b", record ");
+            reading::show_same(check::same(&buffer[..n], &s[..n]));
+        }
+    }
+}
+
+// Reads a record and writes its entry: the bytes that were read.
+fn back(s: &[u8]) {
+    let first = records::read(s);
+    let First::Job(entry, n) = first else {
+        return;
+    };
+    let mut buffer = blank();
+    let reply = records::write(entry, &mut buffer);
+    show_reply(reply);
+    compare(&buffer, s, n);
+    kept(&buffer, n);
+}
+
+pub fn example() {
+    let bytes = reading::file();
+    back(&bytes);
+    back(records::rest(&bytes));
+}
+
+// One mask for a, b and c, and another for the carries.
+fn entry(format: Format, operation: u64, mode: u64, mask: Mask, carries: Mask, r1: u64) -> Entry {
+    let job = Job {
+        format,
+        operation,
+        mode,
+        a: mask,
+        b: mask,
+        c: mask,
+        carries,
+    };
+    Entry { job, r1, r2: 0 }
+}
+
+fn sized(w: u64, f: u64) -> Format {
+    Format { w, f }
+}
+
+fn fixed(care: u64, value: u64) -> Mask {
+    Mask { care, value }
+}
+
+fn free() -> Mask {
+    fixed(0, 0)
+}
+
+// The longest record, in a buffer that is long enough and in one that is a byte short; the shortest alike.
+pub fn lengths() {
+    let mask = fixed(0xe6, 0x44);
+    let carries = fixed(0x1f, 0x15);
+    show(entry(sized(3, 4), 1, 3, mask, carries, 0xff), 45);
+    show(entry(sized(3, 4), 1, 3, mask, carries, 0xff), 44);
+    show(entry(sized(3, 4), 0, 0, free(), free(), 0), 4);
+    show(entry(sized(3, 4), 0, 0, free(), free(), 0), 3);
+}
+
+// One entry for each refusal but the last, half of them with no room at all, since 11 comes last.
+pub fn refusals() {
+    show(entry(sized(1, 4), 0, 0, free(), free(), 0), 64);
+    show(entry(sized(3, 24), 0, 0, free(), free(), 0), 0);
+    show(entry(sized(3, 4), 2, 0, free(), free(), 0), 64);
+    show(entry(sized(3, 4), 0, 4, free(), free(), 0), 0);
+    show(entry(sized(3, 4), 0, 0, fixed(0x100, 0), free(), 0), 64);
+    show(entry(sized(3, 4), 0, 0, free(), fixed(0x20, 0), 0), 0);
+    show(entry(sized(3, 4), 0, 0, fixed(0, 1), free(), 0), 64);
+    show(entry(sized(3, 4), 0, 0, free(), free(), 0x100), 0);
+}
