@@ -2,15 +2,25 @@
 -- A `Case` is a statement of one of the kinds that document 01 makes there, `Holds` is what it claims, and `cases` is the table.
 -- Assumes nothing.
 use mathlib.Core.Path.{_≡_}
-use mathlib.Core.List.{List, [], _∷_, _++_}
-use Prim.Native.Nat.{ℕ}
+use mathlib.Core.Logic.{_↔_}
+use mathlib.Core.List.{List, [], _∷_, _++_, List·Memᴰ}
+use Prim.Native.Nat.{ℕ, _^_, _<_}
 use Rattle.format.specs.declared.Format.{Format}
+use Rattle.mask.specs.declared.Mask.{Mask}
+use Rattle.columns.specs.Choice.{ClosestPair}
+use Rattle.job.specs.declared.Job.{Job}
+use Rattle.job.specs.Job.{jobCause}
 use Rattle.adder.specs.declared.Reply.the-variants.{Word}
 use Rattle.adder.specs.declared.Row.the-variants.{Carries, NoRow}
 use Rattle.adder.specs.declared.RowReply.{RowReply}
 use Rattle.adder.specs.declared.RowReply.the-variants.{Row}
 use Rattle.adder.specs.Result.{resultReply}
 use Rattle.adder.specs.Row.{rowReply}
+use Rattle.fit.specs.Fit.{Fits}
+use Rattle.whole.specs.declared.Words.{Words}
+use Rattle.whole.specs.declared.Reply.the-variants.{Found}
+use Rattle.whole.specs.Sum.{addends}
+use Rattle.whole.specs.Reply.{Replied}
 
 -- what a case says of the carry row: that it is a word, that there is none, or nothing
 pub data Carried : Type 0 where
@@ -21,15 +31,30 @@ pub data Carried : Type 0 where
 pub data Case : Type 0 where
   -- of a format, an operation, a mode, a and b: c, and the carry row
   sum : Format → ℕ → ℕ → ℕ → ℕ → ℕ → Carried → Case
+  -- of a job: the cases (a, b, c) that fit, and no other does
+  exactly : Job → List (ℕ × ℕ × ℕ) → Case
+  -- of a job and two random words: a and b of the chosen case
+  chosen : Job → ℕ → ℕ → ℕ → ℕ → Case
+  -- of whole numbers of a length, x, y and the carry in: z and the carries, whatever the random words
+  wholeSum : ℕ → ℕ → ℕ → ℕ → ℕ → ℕ → Case
 
 abbrev pub CarriedIs : Carried → RowReply → Type 0
 CarriedIs (row n) r = r ≡ Row (Carries n)
 CarriedIs noRow r = r ≡ Row NoRow
 CarriedIs unsaid r = Unit {0}
 
+-- a and b of some fitting case
+abbrev pub HasCase : Job → ℕ → ℕ → Type 0
+HasCase j a b = (c : ℕ) × Fits j a b c
+
 -- what a case claims
 abbrev pub Holds : Case → Type 0
 Holds (sum F operation mode a b c carried) = (resultReply F operation mode a b ≡ Word c) × CarriedIs carried (rowReply F operation a b)
+Holds (exactly j fitting) = (jobCause j ≡ 0) × ((a b c : ℕ) → Fits j a b c ↔ List·Memᴰ (a, b, c) fitting)
+Holds (chosen j r s a b) = ClosestPair (HasCase j) r s a b
+Holds (wholeSum n x y carryIn z carries) =
+    (w : Words) → w .x < 2 ^ n → w .y < 2 ^ n → w .z < 2 ^ n
+    → Replied (record { length = n; masks = addends n x y carryIn; words = w }) (Found (record { x = x; y = y; z = z; carries = carries }))
 
 -- format w = 3, f = 4, the eight-bit one of source document 000
 abbrev pub eight : Format
@@ -44,9 +69,38 @@ subtract mode a b c carried = sum eight 1 mode a b c carried
 abbrev pub everyMode : (ℕ → Case) → List Case
 everyMode at = at 0 ∷ at 1 ∷ at 2 ∷ at 3 ∷ []
 
--- 1. Add, mode 0: (45, 2B, 4C) row 04 and (4D, 3B, 55) row 1D.
+-- "Masks there: a 0100x101, b 001x1011, c 010xx10x (x free)": the job that adds in a mode, with a carry mask
+abbrev pub masked : ℕ → Mask → Job
+masked mode carries = record {
+  format = eight;
+  operation = 0;
+  mode = mode;
+  a = record { care = 0xF7; value = 0x45 };
+  b = record { care = 0xEF; value = 0x2B };
+  c = record { care = 0xE6; value = 0x44 };
+  carries = carries;
+}
+
+abbrev pub nothingFixed : Mask
+nothingFixed = record { care = 0; value = 0 }
+
+-- 1. Add, mode 0: exactly (45, 2B, 4C) row 04 and (4D, 3B, 55) row 1D fit.
 abbrev pub case1 : List Case
-case1 = add 0 0x45 0x2B 0x4C (row 0x04) ∷ add 0 0x4D 0x3B 0x55 (row 0x1D) ∷ []
+case1 =
+    exactly (masked 0 nothingFixed) ((0x45, 0x2B, 0x4C) ∷ (0x4D, 0x3B, 0x55) ∷ []) ∷ add 0 0x45 0x2B 0x4C (row 0x04)
+    ∷ add 0 0x4D 0x3B 0x55 (row 0x1D) ∷ []
+
+-- 2. Words 0, 0 give the first; 4D, 0 the second.
+abbrev pub case2 : List Case
+case2 = chosen (masked 0 nothingFixed) 0x00 0x00 0x45 0x2B ∷ chosen (masked 0 nothingFixed) 0x4D 0x00 0x4D 0x3B ∷ []
+
+-- 3. Mode 3: only the second. Mode 2: only the first.
+abbrev pub case3 : List Case
+case3 = exactly (masked 3 nothingFixed) ((0x4D, 0x3B, 0x55) ∷ []) ∷ exactly (masked 2 nothingFixed) ((0x45, 0x2B, 0x4C) ∷ []) ∷ []
+
+-- 4. Carry position 1 fixed to 1, mode 0: refusal 7, since no case fits.
+abbrev pub case4 : List Case
+case4 = exactly (masked 0 (record { care = 0x02; value = 0x02 })) [] ∷ []
 
 -- 5. 30 - 30: 00, but 80 in mode 3.
 abbrev pub case5 : List Case
@@ -74,5 +128,9 @@ case9 = add 0 0x30 0x02 0x30 unsaid ∷ add 2 0x30 0x02 0x31 unsaid ∷ add 0 0x
 abbrev pub case10 : List Case
 case10 = subtract 0 0x30 0x01 0x30 (row 0x0F) ∷ subtract 3 0x30 0x01 0x2F (row 0x0F) ∷ []
 
+-- 11. Whole numbers, N = 2, x 3, y 1, carry in 0: z 0, carries 6.
+abbrev pub case11 : List Case
+case11 = wholeSum 2 3 1 0 0 6 ∷ []
+
 abbrev pub cases : List Case
-cases = case1 ++ case5 ++ case6 ++ case7 ++ case8 ++ case9 ++ case10
+cases = case1 ++ case2 ++ case3 ++ case4 ++ case5 ++ case6 ++ case7 ++ case8 ++ case9 ++ case10 ++ case11

@@ -1,8 +1,7 @@
 pub mod Exact
-pub mod Fixing
 pub mod Roles
 pub mod Settling
 pub mod Choosing
 pub mod Taken
 pub mod Replies
-pub mod Cases
+pub mod Sum

@@ -19,7 +19,7 @@ use Rattle.whole.specs.Role.{number, maskOf, withMask}
 use Rattle.whole.specs.Job.{Formed}
 use Rattle.whole.specs.Fits.{Fits, Left}
 use Rattle.whole.specs.Walk.{Open, Has, Settled}
-use Rattle.whole.proofs.Fixing.{fix-cares, fix-keeps, fix-formed, fix-narrows}
+use Rattle.fixing.proofs.Fixing.{fix-cares, fix-keeps, fix-formed, fix-narrows}
 use Rattle.whole.proofs.Roles.{mask-with, formed-own, formed-with, number-lt, fits-own, fits-with, fits-mask, fits-back}
 
 module _ (n : ℕ) (s : Masks) (role : Role) where

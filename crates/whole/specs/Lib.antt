@@ -5,3 +5,4 @@ pub mod Choice
 pub mod Reply
 pub mod Column
 pub mod Walk
+pub mod Sum

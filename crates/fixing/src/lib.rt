@@ -1,0 +1,1 @@
+// The bit walk: laws, in proofs/, of fixing one bit of a mask at a time, for every generator that chooses a number so. It has no code.

@@ -1,0 +1,4 @@
+pub mod Pairs
+pub mod Roles
+pub mod Settling
+pub mod Choosing

@@ -1,0 +1,43 @@
+-- A case is left exactly where some pair of exponent fields admits one: the operands of a fitting case have exponent fields below 2^w, and
+-- these meet the masks on them. Assumes nothing.
+use mathlib.Core.Path.{_≡_, refl, subst}
+use Prim.Native.Nat.{ℕ, _/_, _%_, _^_, _<_}
+use native.Mathlib.Nat.{mod-lt}
+use lib.Pow.{pow-pos}
+use Rattle.format.specs.declared.Format.{Format}
+use Rattle.format.specs.Format.{wordBits}
+use Rattle.mask.specs.declared.Mask.{Mask}
+use Rattle.mask.specs.Mask.{WellFormed, Meets}
+use Rattle.mask.proofs.ByParts.{meets-fields}
+use Rattle.job.specs.declared.Job.{Job}
+use Rattle.job.specs.Job.{Valid}
+use Rattle.adder.specs.Word.{biased}
+use Rattle.pair.specs.Asked.{Asked, PairFits, exponentMask}
+use Rattle.search.specs.Left.{Left}
+
+-- the exponent field of a word is below 2^w
+field-lt : (F : Format) (x : ℕ) → biased F x .0 < 2 ^ F .w
+field-lt F x = mod-lt (x / 2 ^ F .f) (pow-pos (F .w))
+
+-- and that of a word that meets a mask meets the mask on it
+field-meets : (F : Format) (m : Mask) (x e : ℕ) → WellFormed (wordBits F) m → Meets x m → biased F x .0 ≡ e → Meets e (exponentMask F m)
+field-meets F m x e h met is = subst (λ (u : ℕ). Meets u (exponentMask F m)) is (meets-fields (F .w) (F .f) m h x .0 met .1)
+
+-- a pair that admits a case may be asked
+pub pair-asked : (j : Job) (ea eb : ℕ) → Valid j → PairFits j ea eb → Asked j ea eb
+pair-asked j ea eb v p = record {
+  valid = v;
+  a-lt = subst (λ (u : ℕ). u < 2 ^ j .format .w) (p .a-exponent) (field-lt (j .format) (p .a));
+  b-lt = subst (λ (u : ℕ). u < 2 ^ j .format .w) (p .b-exponent) (field-lt (j .format) (p .b));
+  a-exponent = field-meets (j .format) (j .a) (p .a) ea (v .a) (p .fits .a-meets) (p .a-exponent);
+  b-exponent = field-meets (j .format) (j .b) (p .b) eb (v .b) (p .fits .b-meets) (p .b-exponent);
+}
+
+pub pair-left : (j : Job) (ea eb : ℕ) → PairFits j ea eb → Left j
+pair-left j ea eb p = record { a = p .a; b = p .b; c = p .c; fits = p .fits }
+
+-- no pair admits a case, so none is left
+pub none-left : (j : Job) → ((ea eb : ℕ) → ea < 2 ^ j .format .w → eb < 2 ^ j .format .w → PairFits j ea eb → ⊥) → Left j → ⊥
+none-left j none p =
+    none (biased (j .format) (p .a) .0) (biased (j .format) (p .b) .0) (field-lt (j .format) (p .a)) (field-lt (j .format) (p .b))
+    (record { a = p .a; b = p .b; c = p .c; fits = p .fits; a-exponent = refl; b-exponent = refl })

@@ -1,0 +1,59 @@
+-- The two operands alike: what a case and its job say of the operand of a role. Assumes nothing.
+use mathlib.Core.Path.{_≡_, refl, subst}
+use Prim.Native.Nat.{ℕ, _^_, _<_}
+use Rattle.format.specs.Format.{wordBits}
+use Rattle.mask.specs.declared.Mask.{Mask}
+use Rattle.mask.specs.Mask.{WellFormed, Meets}
+use Rattle.job.specs.declared.Job.{Job}
+use Rattle.job.specs.Job.{Valid}
+use Rattle.fit.specs.Fit.{Fits}
+use Rattle.search.specs.declared.Role.{Role}
+use Rattle.search.specs.declared.Role.the-variants.{A, B}
+use Rattle.search.specs.Role.{operand, maskOf, withMask}
+
+pub mask-with : (role : Role) (j : Job) (m : Mask) → maskOf role (withMask role j m) ≡ m
+mask-with A j m = refl
+mask-with B j m = refl
+
+pub format-with : (role : Role) (j : Job) (m : Mask) → withMask role j m .format ≡ j .format
+format-with A j m = refl
+format-with B j m = refl
+
+module _ (j : Job) where
+  pub valid-own : (role : Role) → Valid j → WellFormed (wordBits (j .format)) (maskOf role j)
+  valid-own A v = v .a
+  valid-own B v = v .b
+
+  pub valid-with : (role : Role) (m : Mask) → Valid j → WellFormed (wordBits (j .format)) m → Valid (withMask role j m)
+  valid-with A m v w =
+      record { format = v .format; operation = v .operation; mode = v .mode; a = w; b = v .b; c = v .c; carries = v .carries }
+  valid-with B m v w =
+      record { format = v .format; operation = v .operation; mode = v .mode; a = v .a; b = w; c = v .c; carries = v .carries }
+
+  module _ (a b c : ℕ) where
+    pub operand-lt : (role : Role) → Fits j a b c → operand role a b < 2 ^ wordBits (j .format)
+    operand-lt A f = f .a-word
+    operand-lt B f = f .b-word
+
+    pub fits-own : (role : Role) → Fits j a b c → Meets (operand role a b) (maskOf role j)
+    fits-own A f = f .a-meets
+    fits-own B f = f .b-meets
+
+    pub fits-with : (role : Role) (m : Mask) → Fits j a b c → Meets (operand role a b) m → Fits (withMask role j m) a b c
+    fits-with A m f e =
+        record { a-word = f .a-word; b-word = f .b-word; c-word = f .c-word; a-meets = e; b-meets = f .b-meets; c-meets = f .c-meets; sum = f .sum; row = f .row }
+    fits-with B m f e =
+        record { a-word = f .a-word; b-word = f .b-word; c-word = f .c-word; a-meets = f .a-meets; b-meets = e; c-meets = f .c-meets; sum = f .sum; row = f .row }
+
+    pub fits-mask : (role : Role) (m : Mask) → Fits (withMask role j m) a b c → Meets (operand role a b) m
+    fits-mask A m f = f .a-meets
+    fits-mask B m f = f .b-meets
+
+-- the old mask put back
+with-back : (role : Role) (j : Job) (m : Mask) → withMask role (withMask role j m) (maskOf role j) ≡ j
+with-back A j m = refl
+with-back B j m = refl
+
+pub fits-back : (j : Job) (a b c : ℕ) (role : Role) (m : Mask) → Fits (withMask role j m) a b c → Meets (operand role a b) (maskOf role j) → Fits j a b c
+fits-back j a b c role m f e =
+    subst (λ (t : Job). Fits t a b c) (with-back role j m) (fits-with (withMask role j m) a b c role (maskOf role j) f e)

@@ -1,0 +1,35 @@
+-- What the bit walk asks and promises (document 01, "each bit of a, from the top, follows the first random word": recursion over the bits
+-- still open). Nothing here is needed to read the choice. Assumes nothing.
+use mathlib.Core.Path.{_≡_}
+use mathlib.Core.Logic.{_↔_}
+use Prim.Native.Nat.{ℕ, _≤_, _<_}
+use Rattle.bits.specs.Bit.{bit}
+use Rattle.format.specs.declared.Format.{Format}
+use Rattle.format.specs.Format.{wordBits}
+use Rattle.columns.specs.Choice.{Closest}
+use Rattle.job.specs.declared.Job.{Job}
+use Rattle.fit.specs.Fit.{Fits}
+use Rattle.search.specs.declared.Role.{Role}
+use Rattle.search.specs.Role.{operand, maskOf}
+use Rattle.search.specs.Left.{Ready}
+
+-- a case is left, and the operand's bits from position k on are fixed
+pub record Open (j : Job) (role : Role) (k : ℕ) : Type 0 where
+  pub ready : Ready j
+  pub most : k ≤ wordBits (j .format)
+  pub settled : (i : ℕ) → k ≤ i → i < wordBits (j .format) → bit (maskOf role j .care) i ≡ 1
+
+-- v is the operand of a fitting case
+pub record Has (j : Job) (role : Role) (v : ℕ) : Type 0 where
+  pub a : ℕ
+  pub b : ℕ
+  pub c : ℕ
+  pub fits : Fits j a b c
+  pub is : operand role a b ≡ v
+
+-- t is j with the operand settled to its closest value
+pub record Settled (j : Job) (role : Role) (word : ℕ) (t : Job) : Type 0 where
+  pub ready : Ready t
+  pub format : t .format ≡ j .format
+  pub closest : Closest (Has j role) word (maskOf role t .value)
+  pub same : (a b c : ℕ) → Fits t a b c ↔ (Fits j a b c × (operand role a b ≡ maskOf role t .value))

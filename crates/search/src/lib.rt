@@ -1,0 +1,94 @@
+// The masked search: whether a case is left, and the operands of the one that two random words choose.
+mod walk;
+
+use bits::power;
+use job::Job;
+use job::job_cause;
+use mask::meets;
+use pair::fields::exponent_mask;
+use pair::pair_admits;
+ghost use mathlib.Core.Path.{_≡_};
+ghost use mathlib.Core.Bool.{true};
+ghost use mathlib.Core.Logic.{_↔_};
+ghost use Prim.Native.Nat.{_^_, _<_};
+ghost use Rattle.job.specs.Job.{Valid};
+ghost use Rattle.pair.specs.Asked.{PairFits};
+ghost use Rattle.search.specs.Left.{Left, Ready};
+ghost use Rattle.search.specs.Choice.{Chosen};
+
+// Which operand is chosen.
+pub enum Role {
+    A,
+    B,
+}
+
+// The operands of a case.
+pub struct Pair {
+    pub a: u64,
+    pub b: u64,
+}
+
+// What is chosen of a job: operands, or nothing where no case is left.
+pub enum Choice {
+    Operands(Pair),
+    Nothing,
+}
+
+// Whether some case whose operands have these exponent fields fits; the question is put only where both meet their masks.
+fn admits(job: Job, ea: u64, eb: u64) -> bool
+    requires { ⌜ Valid job × (ea < 2 ^ job .format .w) × (eb < 2 ^ job .format .w) ⌝ }
+    ensures { λ r. ⌜ (r ≡ true) ↔ PairFits job ea eb ⌝ }
+{
+    let a_meets = meets(exponent_mask(job.format, job.a), ea);
+    let b_meets = meets(exponent_mask(job.format, job.b), eb);
+    if a_meets & b_meets {
+        return pair_admits(job, ea, eb);
+    }
+    false
+}
+
+// Whether a case is left: the loops are left at the first pair of exponent fields that admits one.
+fn some_pair(job: Job) -> bool
+    requires { ⌜ Valid job ⌝ }
+    ensures { λ r. ⌜ (r ≡ true) ↔ Left job ⌝ }
+{
+    let count = power(job.format.w);
+    let mut ea = 0;
+    'pairs: while ea < count {
+        let mut eb = 0;
+        while eb < count {
+            if admits(job, ea, eb) {
+                break 'pairs;
+            }
+            eb += 1;
+        }
+        ea += 1;
+    }
+    ea < count
+}
+
+// Whether the job is valid and a case is left.
+pub fn case_left(job: Job) -> bool
+    ensures { λ r. ⌜ (r ≡ true) ↔ Ready job ⌝ }
+{
+    if job_cause(job) != 0 {
+        return false;
+    }
+    some_pair(job)
+}
+
+// The operands that the random words choose: each bit of a, from the top, follows the first, and then each bit of b the second.
+pub fn choose(job: Job, r1: u64, r2: u64) -> Choice
+    ensures { λ r. ⌜ Chosen job r1 r2 r ⌝ }
+{
+    if case_left(job) {
+        let width = job.format.w + job.format.f + 1;
+        let with_a = walk::settle(job, Role::A, r1, width);
+        let with_b = walk::settle(with_a, Role::B, r2, width);
+        return Choice::Operands(Pair {
+            a: with_a.a.value,
+            b: with_b.b.value,
+        });
+    }
+    Choice::Nothing
+}
