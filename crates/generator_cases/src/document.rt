@@ -1,0 +1,175 @@
+// The cases of document 01, "Cases, in hexadecimal", and its causes 1 to 6.
+use crate::line::Count;
+use crate::line::ask;
+use crate::line::judge;
+use crate::line::put_reply;
+use crate::same::same_reply;
+use adder::Row;
+use format::Format;
+use format::cause;
+use generator::Case;
+use generator::Reply;
+use job::Job;
+use mask::Mask;
+
+const ADD: u64 = 0;
+
+fn mask(care: u64, value: u64) -> Mask {
+    Mask { care, value }
+}
+
+fn free() -> Mask {
+    mask(0, 0)
+}
+
+// A line: the generator is asked, and its reply held against the one expected.
+fn asked(count: Count, job: Job, r1: u64, r2: u64, expected: Reply) -> Count {
+    ask(job, r1, r2);
+    let reply = generator::generate(job, r1, r2);
+    put_reply(reply);
+    judge(count, same_reply(reply, expected))
+}
+
+fn found(a: u64, b: u64, c: u64, carries: u64) -> Reply {
+    Reply::Found(Case {
+        a,
+        b,
+        c,
+        row: Row::Carries(carries),
+    })
+}
+
+// The masks of the eight-bit format: a 0100x101, b 001x1011, c 010xx10x.
+fn eight(mode: u64, carries: Mask) -> Job {
+    Job {
+        format: Format { w: 3, f: 4 },
+        operation: ADD,
+        mode,
+        a: mask(0xF7, 0x45),
+        b: mask(0xEF, 0x2B),
+        c: mask(0xE6, 0x44),
+        carries,
+    }
+}
+
+// Words 0, 0 and words 4D, 0.
+fn both_words(count: Count, job: Job, zeros: Reply, others: Reply) -> Count {
+    asked(asked(count, job, 0, 0, zeros), job, 0x4D, 0, others)
+}
+
+// 1 to 4. (45, 2B, 4C) row 04 and (4D, 3B, 55) row 1D in mode 0; the second in mode 3, the first in mode 2; carry position 1 fixed to 1.
+pub fn masked_cases(count: Count) -> Count {
+    let first = found(0x45, 0x2B, 0x4C, 0x04);
+    let second = found(0x4D, 0x3B, 0x55, 0x1D);
+    let nearest = both_words(count, eight(0, free()), first, second);
+    let down = both_words(nearest, eight(3, free()), second, second);
+    let up = both_words(down, eight(2, free()), first, first);
+    let none = Reply::Refused(cause::NO_CASE);
+    both_words(up, eight(0, mask(0x02, 0x02)), none, none)
+}
+
+// Nothing fixed.
+fn open(w: u64, f: u64) -> Job {
+    Job {
+        format: Format { w, f },
+        operation: ADD,
+        mode: 0,
+        a: free(),
+        b: free(),
+        c: free(),
+        carries: free(),
+    }
+}
+
+fn accepted(count: Count, w: u64, f: u64) -> Count {
+    asked(count, open(w, f), 0, 0, found(0, 0, 0, 0))
+}
+
+fn refused(count: Count, w: u64, f: u64, number: u64) -> Count {
+    asked(count, open(w, f), 0, 0, Reply::Refused(number))
+}
+
+// 12. w = 2 and 8 accepted, 1 and 9 refused; f = 2 and 23 accepted, 1 and 24 refused.
+pub fn limits(count: Count) -> Count {
+    let one = accepted(accepted(count, 2, 4), 8, 4);
+    let two = refused(
+        refused(one, 1, 4, cause::EXPONENT_BITS),
+        9,
+        4,
+        cause::EXPONENT_BITS,
+    );
+    let three = accepted(accepted(two, 3, 2), 3, 23);
+    refused(
+        refused(three, 3, 1, cause::FRACTION_BITS),
+        3,
+        24,
+        cause::FRACTION_BITS,
+    )
+}
+
+// Two positive operands and a negative sum.
+fn signs(count: Count, mode: u64) -> Count {
+    let job = Job {
+        format: Format { w: 8, f: 23 },
+        operation: ADD,
+        mode,
+        a: mask(0x80000000, 0),
+        b: mask(0x80000000, 0),
+        c: mask(0x80000000, 0x80000000),
+        carries: free(),
+    };
+    asked(count, job, 0, 0, Reply::Refused(cause::NO_CASE))
+}
+
+// 13. In each mode no case fits.
+pub fn impossible_signs(count: Count) -> Count {
+    signs(signs(signs(signs(count, 0), 1), 2), 3)
+}
+
+// A job of the eight-bit widths but for what is given.
+fn bad(format: Format, operation: u64, mode: u64, a: Mask, carries: Mask) -> Job {
+    Job {
+        format,
+        operation,
+        mode,
+        a,
+        b: free(),
+        c: free(),
+        carries,
+    }
+}
+
+// Of the causes 1 to 6 each line has one fewer: the first is named.
+fn first_cause(count: Count) -> Count {
+    let wide = mask(0x100, 0);
+    let word = 0x100;
+    let good = Format { w: 3, f: 4 };
+    let w = bad(Format { w: 1, f: 1 }, 2, 4, wide, wide);
+    let f = bad(Format { w: 3, f: 1 }, 2, 4, wide, wide);
+    let operation = bad(good, 2, 4, wide, wide);
+    let mode = bad(good, 0, 4, wide, wide);
+    let masks = bad(good, 0, 0, wide, wide);
+    let words = bad(good, 0, 0, free(), free());
+    let one = asked(count, w, word, word, Reply::Refused(cause::EXPONENT_BITS));
+    let two = asked(one, f, word, word, Reply::Refused(cause::FRACTION_BITS));
+    let three = asked(two, operation, word, word, Reply::Refused(cause::OPERATION));
+    let four = asked(three, mode, word, word, Reply::Refused(cause::MODE));
+    let five = asked(four, masks, word, word, Reply::Refused(cause::MASK));
+    asked(five, words, word, word, Reply::Refused(cause::WORD))
+}
+
+// A value outside care, a carry above the precision, and either word alone too wide.
+fn one_cause(count: Count) -> Count {
+    let format = Format { w: 3, f: 4 };
+    let value = bad(format, 0, 0, mask(1, 3), free());
+    let carry = bad(format, 0, 0, free(), mask(0x20, 0x20));
+    let open = bad(format, 0, 0, free(), free());
+    let one = asked(count, value, 0, 0, Reply::Refused(cause::MASK));
+    let two = asked(one, carry, 0, 0, Reply::Refused(cause::MASK));
+    let three = asked(two, open, 0x100, 0, Reply::Refused(cause::WORD));
+    asked(three, open, 0, 0x100, Reply::Refused(cause::WORD))
+}
+
+pub fn bad_input(count: Count) -> Count {
+    one_cause(first_cause(count))
+}

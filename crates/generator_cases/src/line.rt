@@ -1,0 +1,118 @@
+// A line for each case: what was asked, what came, and whether that is what was expected.
+use crate::sample::Tally;
+use adder::Row;
+use generator::Case;
+use generator::Reply;
+use job::Job;
+use libc::STDOUT_FILENO;
+use mask::Mask;
+use std::num::wrapping_add_u64;
+
+// How many lines were written, and how many of them say WRONG.
+pub struct Count {
+    pub lines: u64,
+    pub wrong: u64,
+}
+
+// A space and a word.
+fn put_word(word: u64) {
+    io::write_all(STDOUT_FILENO, b" ");
+    io::print_hex(STDOUT_FILENO, word, 8);
+}
+
+// The care and the value of the mask of this name; nothing where both are 0.
+fn put_mask(name: &[u8], m: Mask) {
+    if (m.care == 0) & (m.value == 0) {
+        return;
+    }
+    io::write_all(STDOUT_FILENO, name);
+    put_word(m.care);
+    put_word(m.value);
+}
+
+fn put_numbers(job: Job) {
+    io::write_all(STDOUT_FILENO, b"w ");
+    io::print_decimal(STDOUT_FILENO, job.format.w);
+    io::write_all(STDOUT_FILENO, b" f ");
+    io::print_decimal(STDOUT_FILENO, job.format.f);
+    io::write_all(STDOUT_FILENO, b" operation ");
+    io::print_decimal(STDOUT_FILENO, job.operation);
+    io::write_all(STDOUT_FILENO, b" mode ");
+    io::print_decimal(STDOUT_FILENO, job.mode);
+}
+
+pub fn ask(job: Job, r1: u64, r2: u64) {
+    put_numbers(job);
+    put_mask(b" a", job.a);
+    put_mask(b" b", job.b);
+    put_mask(b" c", job.c);
+    put_mask(b" carries", job.carries);
+    io::write_all(STDOUT_FILENO, b" words");
+    put_word(r1);
+    put_word(r2);
+    io::write_all(STDOUT_FILENO, b":");
+}
+
+fn put_row(row: Row) {
+    match row {
+        Row::Carries(carries) => put_word(carries),
+        Row::NoRow => {
+            io::write_all(STDOUT_FILENO, b" -");
+        }
+    }
+}
+
+fn put_case(x: Case) {
+    io::write_all(STDOUT_FILENO, b" found");
+    put_word(x.a);
+    put_word(x.b);
+    put_word(x.c);
+    let row = x.row;
+    put_row(row);
+}
+
+pub fn put_reply(reply: Reply) {
+    match reply {
+        Reply::Found(x) => put_case(x),
+        Reply::Refused(number) => {
+            io::write_all(STDOUT_FILENO, b" refused ");
+            io::print_decimal(STDOUT_FILENO, number);
+        }
+    }
+}
+
+// Ends the line, and counts it.
+pub fn judge(count: Count, ok: bool) -> Count {
+    let lines = wrapping_add_u64(count.lines, 1);
+    if ok {
+        io::write_all(STDOUT_FILENO, b" ok\n");
+        Count {
+            lines,
+            wrong: count.wrong,
+        }
+    } else {
+        io::write_all(STDOUT_FILENO, b" WRONG\n");
+        Count {
+            lines,
+            wrong: wrapping_add_u64(count.wrong, 1),
+        }
+    }
+}
+
+pub fn put_count(count: Count) {
+    io::print_decimal(STDOUT_FILENO, count.lines);
+    io::write_all(STDOUT_FILENO, b" cases, ");
+    io::print_decimal(STDOUT_FILENO, count.wrong);
+    io::write_all(STDOUT_FILENO, b" wrong\n");
+}
+
+pub fn put_tally(tally: Tally) {
+    io::print_decimal(STDOUT_FILENO, tally.jobs);
+    io::write_all(STDOUT_FILENO, b" jobs, ");
+    io::print_decimal(STDOUT_FILENO, tally.found);
+    io::write_all(STDOUT_FILENO, b" found, ");
+    io::print_decimal(STDOUT_FILENO, tally.none);
+    io::write_all(STDOUT_FILENO, b" none, ");
+    io::print_decimal(STDOUT_FILENO, tally.unlike);
+    io::write_all(STDOUT_FILENO, b" unlike\nend\n");
+}
