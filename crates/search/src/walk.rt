@@ -41,7 +41,7 @@ fn fix_bit(job: Job, role: Role, i: u64, v: u64) -> Job
 
 // One operand settled, where its bits from position `open_bits` on are fixed: the bit below them, where it is free, follows the random
 // word, or is the other where no case would be left. The other needs no question: a case was left, so one is left there.
-pub fn settle(job: Job, role: Role, word: u64, open_bits: u64) -> Job
+pub(crate) fn settle(job: Job, role: Role, word: u64, open_bits: u64) -> Job
     requires { ⌜ Open job role open_bits ⌝ }
     ensures { λ r. ⌜ Settled job role word r ⌝ }
 {

@@ -51,11 +51,11 @@ module _ (n : ℕ) (c : Case) (a : Adds n c) (least : 1 ≤ n) where
 
 -- two cases with the same numbers are the same
 pub same-case : (n : ℕ) (c d : Case) → 1 ≤ n → Adds n c → Adds n d → d .x ≡ c .x → d .y ≡ c .y → d .z ≡ c .z → d ≡ c
-same-case n c d least ac ad ex ey ez =
-    adds-told n d ad least
+same-case n c d least added-c added-d ex ey ez =
+    adds-told n d added-d least
     ∙ ap₂ (λ (x y : ℕ). caseOf x y (d .z)) ex ey
     ∙ ap (λ (z : ℕ). caseOf (c .x) (c .y) z) ez
-    ∙ sym (adds-told n c ac least)
+    ∙ sym (adds-told n c added-c least)
 
 -- ---- three walks
 

@@ -55,7 +55,7 @@ fn reached(s: Masks, i: u64, before: Carries, t: u64) -> bool
 }
 
 // Whether a case of n bits is left under the masks.
-pub fn left(n: u64, s: Masks) -> bool
+pub(crate) fn left(n: u64, s: Masks) -> bool
     requires { ⌜ (n ≤ mostLength) × Formed n s ⌝ }
     ensures { λ r. ⌜ (r ≡ true) ↔ Left n s ⌝ }
 {

@@ -59,7 +59,7 @@ fn fix_bit(s: Masks, role: Role, i: u64, v: u64) -> Masks
 
 // One number settled, where its bits from position `open_bits` on are fixed: the bit below them follows the random word, or is the
 // other where no case would be left.
-pub fn settle(n: u64, s: Masks, role: Role, word: u64, open_bits: u64) -> Masks
+pub(crate) fn settle(n: u64, s: Masks, role: Role, word: u64, open_bits: u64) -> Masks
     requires { ⌜ Open n s role open_bits ⌝ }
     ensures { λ r. ⌜ Settled n s role word r ⌝ }
 {

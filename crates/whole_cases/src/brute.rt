@@ -90,7 +90,7 @@ fn over_y(job: Job, x: u64, before: Best) -> Best
     best
 }
 
-pub fn search(job: Job) -> Best
+pub(crate) fn search(job: Job) -> Best
     requires { ⌜ job .length ≤ 3 ⌝ }
 {
     let mut best = Best {

@@ -108,7 +108,7 @@ fn compared(n: u64, state: u64, t: Tally) -> Tally
 }
 
 // `count` jobs of length n.
-pub fn sampled(n: u64, count: u64) -> Tally
+pub(crate) fn sampled(n: u64, count: u64) -> Tally
     requires { ⌜ n ≤ 3 ⌝ }
 {
     let mut tally = Tally {
