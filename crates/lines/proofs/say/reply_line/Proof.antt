@@ -1,0 +1,55 @@
+-- `lines::say::reply_line` meets its contract. Assumes nothing.
+use mathlib.Core.Path.{sym, ap, _∙_, subst}
+use Prim.Native.Nat.{ℕ}
+use Rattle.lines.proofs.Texts.{reply-none, reply-refused}
+use Rattle.lines.specs.Text.{replyLine, Says}
+use borrow.Author.Needs.{needs}
+use Rattle.lines.proofs.say.reply_line.Statement.{statement}
+use Rattle.lines.proofs.say.reply_line.Tie as tie
+
+enum-known-reply : tie.Need-enum-known-reply
+enum-known-reply c = search needs
+
+found-line-requires : tie.Need-found-line-requires
+found-line-requires c κs = search needs
+
+enum-known-reply-2 : tie.Need-enum-known-reply-2
+enum-known-reply-2 c = search needs
+
+none-line-requires : tie.Need-none-line-requires
+none-line-requires c κs = search needs
+
+returns : tie.Need-returns
+returns c =
+    let told = c .before .before .before in
+    let n : ℕ = told .before .before .args .n in
+    subst (Says (c .none-line .result)) (sym (ap (replyLine n) (told .reply2 .given .1) ∙ reply-none n (told .reply2 .given .0 .0) (c .before .if1 .taken))) (c .none-line .ensures)
+
+refused-line-requires : tie.Need-refused-line-requires
+refused-line-requires c κs = search needs
+
+returns-2 : tie.Need-returns-2
+unfolding replyLine
+returns-2 c =
+    let told = c .before .before in
+    let n : ℕ = told .before .before .args .n in
+    subst (Says (c .found-line .result)) (sym (ap (replyLine n) (told .reply .given .1))) (c .found-line .ensures)
+
+returns-3 : tie.Need-returns-3
+returns-3 c =
+    let told = c .before .before .before in
+    let n : ℕ = told .before .before .args .n in
+    subst (Says (c .refused-line .result)) (sym (ap (replyLine n) (told .reply2 .given .1) ∙ reply-refused n (told .reply2 .given .0 .0) (c .before .if1 .left))) (c .refused-line .ensures)
+
+pub reply-line-spec : {M : Type 1} → statement M
+reply-line-spec =
+    tie.close
+    (tie.spec
+    enum-known-reply
+    found-line-requires
+    enum-known-reply-2
+    none-line-requires
+    returns
+    refused-line-requires
+    returns-2
+    returns-3)

@@ -1,0 +1,63 @@
+// Listings of small files: document 01's, and one for each way in which a listing can go.
+use libc::STDOUT_FILENO;
+use print::print_listing;
+
+// The title of a case, and the listing of its file.
+fn list(title: &[u8], file: &[u8]) {
+    io::write_all(STDOUT_FILENO, title);
+    print_listing(file);
+}
+
+// Files by their length.
+fn lengths() {
+    list(b"no byte\n", b"");
+    let longest = [64u8; 65536];
+    list(b"65,536 bytes\n", &longest);
+    let long = [64u8; 65537];
+    list(b"65,537 bytes\n", &long);
+}
+
+// Jobs that are listed: positive operands with a negative sum, and then any case; and infinite operands, which have no row.
+fn listed() {
+    list(
+        b"none, then found\n",
+        b"\x07\x03\x04\x00\x80\x00\x00\x00\x00\x00\x00\x00\x80\x00\x00\x00\x00\x00\x00\x00\x80\x00\x00\x00\x80\x00\x00\x00\x00\x03\x04\x00",
+    );
+    list(
+        b"infinite operand\n",
+        b"\x01\x03\x04\x00\xff\x00\x00\x00\x70\x00\x00\x00",
+    );
+    list(
+        b"infinities of unlike sign\n",
+        b"\x03\x03\x04\x01\xff\x00\x00\x00\x70\x00\x00\x00\xff\x00\x00\x00\x70\x00\x00\x00",
+    );
+}
+
+// A record for each cause that reading finds.
+fn refused() {
+    list(b"w too small\n", b"\x00\x01\x04\x00");
+    list(b"f too large\n", b"\x00\x03\x18\x00");
+    list(b"operation\n", b"\x00\x03\x04\x02");
+    list(b"mode\n", b"\x10\x03\x04\x00\x04");
+    list(
+        b"mask too wide\n",
+        b"\x01\x03\x04\x00\x00\x01\x00\x00\x00\x00\x00\x00",
+    );
+    list(
+        b"random word too wide\n",
+        b"\x20\x03\x04\x00\x00\x01\x00\x00\x00\x00\x00\x00",
+    );
+    list(b"cut short\n", b"\x10\x03\x04\x00");
+    list(b"map bit\n", b"\x40");
+    list(b"default said\n", b"\x10\x03\x04\x00\x00");
+    list(
+        b"refused after found\n",
+        b"\x00\x03\x04\x00\x00\x03\x04\x01\x80\x03\x04\x00\x00\x03\x04\x00",
+    );
+}
+
+fn main() {
+    lengths();
+    listed();
+    refused();
+}
