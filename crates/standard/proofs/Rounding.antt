@@ -1,0 +1,188 @@
+-- What IEEE 754 asks of each direction, of the rounded magnitude: it is representable; toward zero it is the greatest such number not
+-- above X, away from zero the least not below; and in nearest mode no such number is nearer, and of two as near the even one is taken.
+-- Then a representable number rounds to itself, and rounding keeps the order. Assumes nothing.
+use mathlib.Core.Path.{_≡_, refl, sym, ap, _∙_, subst}
+use mathlib.Core.Logic.{_⊎_, inl, inr}
+use Prim.Native.Nat.{ℕ, zero, suc, _+_, _-_, _*_, _/_, _%_, _^_, _≤_, _<_}
+use native.Mathlib.Nat.{mod-lt, add-mul, add-zero, one-mul, mul-assoc}
+use native.Mathlib.Decide.{decLt, ℕ-discrete}
+use native.Mathlib.Omega.{arith}
+use borrow.Author.Tests.{lt-ltb, le-ltb, eq-eqb, ne-eqb}
+use lib.Pow.{pow-pos, pow-add, split, mod-mod-pow}
+use Rattle.format.specs.declared.Format.{Format}
+use Rattle.format.specs.Format.{Supported}
+use Rattle.adder.specs.declared.Direction as way
+use Rattle.adder.specs.declared.Direction.the-variants.{Nearest, TowardZero, Away}
+use Rattle.adder.specs.Word.{significand}
+use Rattle.adder.specs.Rounding.{increment, roundOff, dropped, magnitudeWord}
+use Rattle.standard.specs.Representable.{Representable, EvenWord, roundedMagnitude}
+use Rattle.standard.specs.Rounds as rounds
+use Rattle.standard.specs.Rounds.{distance, GreatestNotAbove, LeastNotBelow}
+use Rattle.standard.proofs.Magnitudes.{magnitude-representable, rounded-kept}
+use Rattle.standard.proofs.Gap.{neighbour-below, neighbour-above}
+
+-- the unit of what is kept of X, what is kept and what is dropped, and the neighbour below
+abbrev unit : Format → ℕ → ℕ
+unit F X = 2 ^ dropped F X
+
+abbrev kept : Format → ℕ → ℕ
+kept F X = X / unit F X
+
+abbrev rest : Format → ℕ → ℕ
+rest F X = X % unit F X
+
+abbrev floor : Format → ℕ → ℕ
+floor F X = kept F X * unit F X
+
+module _ (F : Format) (X : ℕ) where
+  pub rounded-representable : (d : way.Direction) → Representable F (roundedMagnitude F d X)
+  rounded-representable d = magnitude-representable F (magnitudeWord F d X)
+
+  -- the two neighbours, and which of them is taken
+  stays : (d : way.Direction) → increment d (kept F X) (rest F X) (unit F X) ≡ 0 → roundedMagnitude F d X ≡ floor F X
+  unfolding roundOff
+  stays d e =
+      rounded-kept F d X
+      ∙ ap (λ (i : ℕ). (kept F X + i) * unit F X) e ∙ ap (λ (q : ℕ). q * unit F X) (add-zero (kept F X))
+
+  goes-up : (d : way.Direction) → increment d (kept F X) (rest F X) (unit F X) ≡ 1
+      → roundedMagnitude F d X ≡ floor F X + unit F X
+  unfolding roundOff
+  goes-up d e =
+      rounded-kept F d X ∙ ap (λ (i : ℕ). (kept F X + i) * unit F X) e
+      ∙ add-mul (kept F X) 1 (unit F X) ∙ ap (λ (m : ℕ). floor F X + m) (one-mul (unit F X))
+
+  pub rounded-toward-zero : GreatestNotAbove (Representable F) X (roundedMagnitude F TowardZero X)
+  unfolding increment
+  rounded-toward-zero =
+      let e = stays TowardZero refl in
+      record {
+        member = rounded-representable TowardZero;
+        not-above = omega (arith, e, split X (dropped F X));
+        greatest = λ n r h. rw e (neighbour-below F X n r h);
+      }
+
+  pub rounded-away : LeastNotBelow (Representable F) X (roundedMagnitude F Away X)
+  unfolding increment
+  rounded-away = go (ℕ-discrete (rest F X) 0)
+    where
+      go : Dec (rest F X ≡ 0) → LeastNotBelow (Representable F) X (roundedMagnitude F Away X)
+      go (yes z) =
+          let e = stays Away (rw (eq-eqb _ _ z)) in
+          let s = split X (dropped F X) in
+          record {
+            member = rounded-representable Away;
+            not-below = omega arith;
+            least = λ n r h. omega arith;
+          }
+      go (no z) =
+          let e = goes-up Away (rw (ne-eqb _ _ z)) in
+          let s = split X (dropped F X) in
+          let l = mod-lt X (pow-pos (dropped F X)) in
+          record {
+            member = rounded-representable Away;
+            not-below = omega arith;
+            least = λ n r h. rw e (neighbour-above F X n r (beyond n r h (decLt X n)));
+          }
+        where
+          beyond : (n : ℕ) → Representable F n → X ≤ n → Dec (X < n) → X < n
+          beyond n r h (yes l) = l
+          beyond n r h (no l) = absurd (omega (arith, neighbour-below F X n r (omega arith), split X (dropped F X)))
+
+  -- nearest: below half a unit stays, above half goes up, and half goes to the even one
+  abbrev Taken : Type 0
+  Taken = ((roundedMagnitude F Nearest X ≡ floor F X) × (2 * rest F X ≤ unit F X)) ⊎ ((roundedMagnitude F Nearest X ≡ floor F X + unit F X) × (unit F X ≤ 2 * rest F X))
+
+  taken : Taken
+  unfolding increment
+  taken = go (decLt (unit F X) (2 * rest F X)) (ℕ-discrete (2 * rest F X) (unit F X)) (ℕ-discrete (kept F X % 2) 0)
+    where
+      go : Dec (unit F X < 2 * rest F X) → Dec (2 * rest F X ≡ unit F X) → Dec (kept F X % 2 ≡ 0) → Taken
+      go (yes l) d p = inr (goes-up Nearest (rw (lt-ltb _ _ l)), omega arith)
+      go (no l) (yes e) (yes p) = inl (stays Nearest (rw (le-ltb (unit F X) (2 * rest F X) (omega arith), eq-eqb _ _ e) p), omega arith)
+      go (no l) (yes e) (no p) = inr (goes-up Nearest (rw (le-ltb (unit F X) (2 * rest F X) (omega arith), eq-eqb _ _ e) (omega arith)), omega arith)
+      go (no l) (no e) p = inl (stays Nearest (rw (le-ltb (unit F X) (2 * rest F X) (omega arith), ne-eqb _ _ e)), omega arith)
+
+  half-even : 2 * rest F X ≡ unit F X → roundOff Nearest X (dropped F X) % 2 ≡ 0
+  unfolding roundOff increment
+  half-even e = rw (le-ltb (unit F X) (2 * rest F X) (omega arith), eq-eqb _ _ e) (omega arith)
+
+  pub rounded-nearest : rounds.Nearest (Representable F) X (roundedMagnitude F Nearest X)
+  rounded-nearest = record { member = rounded-representable Nearest; nearest = λ n r. go n r taken (decLt X n) }
+    where
+      go : (n : ℕ) → Representable F n → Taken → Dec (X < n) → distance (roundedMagnitude F Nearest X) X ≤ distance n X
+      go n r (inl t) (yes h) = omega (arith, t .0, t .1, neighbour-above F X n r h, split X (dropped F X))
+      go n r (inl t) (no h) = omega (arith, t .0, neighbour-below F X n r (omega arith), split X (dropped F X))
+      go n r (inr t) (yes h) = omega (arith, t .0, neighbour-above F X n r h, split X (dropped F X), mod-lt X (pow-pos (dropped F X)))
+      go n r (inr t) (no h) = omega (arith, t .0, t .1, neighbour-below F X n r (omega arith), split X (dropped F X), mod-lt X (pow-pos (dropped F X)))
+
+  -- another number is as near only where half a unit is dropped
+  tie-half : (n : ℕ) → Representable F n → (n ≡ roundedMagnitude F Nearest X → ⊥) → distance n X ≡ distance (roundedMagnitude F Nearest X) X → 2 * rest F X ≡ unit F X
+  tie-half n r ne e = go taken (decLt X n)
+    where
+      go : Taken → Dec (X < n) → 2 * rest F X ≡ unit F X
+      go (inl t) (yes h) = omega (arith, t .0, t .1, neighbour-above F X n r h, split X (dropped F X))
+      go (inl t) (no h) = absurd (ne (omega (arith, t .0, neighbour-below F X n r (omega arith), split X (dropped F X))))
+      go (inr t) (yes h) = absurd (ne (omega (arith, t .0, neighbour-above F X n r h, split X (dropped F X), mod-lt X (pow-pos (dropped F X)))))
+      go (inr t) (no h) = omega (arith, t .0, t .1, neighbour-below F X n r (omega arith), split X (dropped F X), mod-lt X (pow-pos (dropped F X)))
+
+-- a significand is even where the word is
+pub even-word : (F : Format) → Supported F → (m : ℕ) → m % 2 ≡ 0 → EvenWord F m
+unfolding significand
+even-word F ok m h = go (m / 2 ^ F .f) (m % 2 ^ F .f) low
+  where
+    f : F .f - 1 + 1 ≡ F .f
+    f = omega (arith, ok .f-least)
+
+    low : m % 2 ^ F .f % 2 ≡ 0
+    low = subst (λ (n : ℕ). m % 2 ^ n % 2 ≡ 0) f (mod-mod-pow m (F .f - 1) 1 ∙ h)
+
+    go : (e t : ℕ) → t % 2 ≡ 0 → significand (F .f) e t % 2 ≡ 0
+    go zero t q = q
+    go (suc e) t q =
+        let p : 2 ^ F .f ≡ 2 ^ (F .f - 1) * 2 = ap (λ (n : ℕ). 2 ^ n) (sym f) ∙ pow-add 2 (F .f - 1) 1 in
+        omega arith
+
+-- of two as near the one with the even significand is taken
+pub tie-even : (F : Format) → Supported F → (X n : ℕ) → Representable F n → (n ≡ roundedMagnitude F Nearest X → ⊥)
+    → distance n X ≡ distance (roundedMagnitude F Nearest X) X → EvenWord F (magnitudeWord F Nearest X)
+unfolding magnitudeWord
+tie-even F ok X n r ne e =
+    let y = half-even F X (tie-half F X n r ne e) in
+    let f : F .f - 1 + 1 ≡ F .f = omega (arith, ok .f-least) in
+    let p : 2 ^ F .f ≡ 2 ^ (F .f - 1) * 2 = ap (λ (m : ℕ). 2 ^ m) (sym f) ∙ pow-add 2 (F .f - 1) 1 in
+    let q : dropped F X * 2 ^ F .f ≡ dropped F X * 2 ^ (F .f - 1) * 2 = ap (λ (m : ℕ). dropped F X * m) p ∙ sym (mul-assoc (dropped F X) (2 ^ (F .f - 1)) 2) in
+    even-word F ok (dropped F X * 2 ^ F .f + roundOff Nearest X (dropped F X)) (omega arith)
+
+-- a representable number is itself in every direction
+pub representable-rounds-to-itself : (F : Format) (d : way.Direction) (X : ℕ) → Representable F X → roundedMagnitude F d X ≡ X
+representable-rounds-to-itself F Nearest X r = omega (arith, rounded-nearest F X .nearest X r)
+representable-rounds-to-itself F TowardZero X r = let g = rounded-toward-zero F X in omega (arith, g .greatest X r (omega arith))
+representable-rounds-to-itself F Away X r = let g = rounded-away F X in omega (arith, g .least X r (omega arith))
+
+-- a number that is as near to the larger of two lies at their middle or above, and to the smaller at their middle or below
+middle-above : (a b X : ℕ) → b < a → distance a X ≤ distance b X → a + b ≤ 2 * X
+middle-above a b X h d = omega arith
+
+middle-below : (a b Y : ℕ) → b < a → distance b Y ≤ distance a Y → 2 * Y ≤ a + b
+middle-below a b Y h d = omega arith
+
+-- rounding in one direction keeps the order
+pub rounding-monotone : (F : Format) (d : way.Direction) (X Y : ℕ) → X ≤ Y → roundedMagnitude F d X ≤ roundedMagnitude F d Y
+rounding-monotone F TowardZero X Y h =
+    let g = rounded-toward-zero F X in
+    rounded-toward-zero F Y .greatest (roundedMagnitude F TowardZero X) (g .member) (omega arith)
+rounding-monotone F Away X Y h =
+    let g = rounded-away F Y in
+    rounded-away F X .least (roundedMagnitude F Away Y) (g .member) (omega arith)
+rounding-monotone F Nearest X Y h = go (ℕ-discrete X Y) (decLt (roundedMagnitude F Nearest Y) (roundedMagnitude F Nearest X))
+  where
+    go : Dec (X ≡ Y) → Dec (roundedMagnitude F Nearest Y < roundedMagnitude F Nearest X) → roundedMagnitude F Nearest X ≤ roundedMagnitude F Nearest Y
+    go (yes e) l = let q = ap (roundedMagnitude F Nearest) e in omega arith
+    go (no e) (no l) = omega arith
+    go (no e) (yes l) =
+        let a = roundedMagnitude F Nearest X in
+        let b = roundedMagnitude F Nearest Y in
+        let x = middle-above a b X l (rounded-nearest F X .nearest b (rounded-representable F Y Nearest)) in
+        let y = middle-below a b Y l (rounded-nearest F Y .nearest a (rounded-representable F X Nearest)) in
+        absurd (omega arith)
