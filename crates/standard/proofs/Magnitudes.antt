@@ -96,6 +96,17 @@ module _ (F : Format) where
           let q = ap (magnitudeOf F) e in
           absurd (omega arith)
 
+  pub word-order-le : (m n : ℕ) → (m ≤ n) ↔ (magnitudeOf F m ≤ magnitudeOf F n)
+  word-order-le m n = (to (decLt (magnitudeOf F n) (magnitudeOf F m)), back (decLt n m))
+    where
+      to : Dec (magnitudeOf F n < magnitudeOf F m) → m ≤ n → magnitudeOf F m ≤ magnitudeOf F n
+      to (yes l) h = absurd (omega (arith, word-order n m .1 l))
+      to (no l) h = omega arith
+
+      back : Dec (n < m) → magnitudeOf F m ≤ magnitudeOf F n → m ≤ n
+      back (yes l) h = absurd (omega (arith, word-order n m .0 l))
+      back (no l) h = omega arith
+
   -- Y units of 2^k steps, with p bits or one more, or fewer where k = 0
   magnitude-kept : (k Y : ℕ) → Y ≤ 2 ^ precision F → (Y < 2 ^ F .f → k ≡ 0) → magnitudeOf F (k * 2 ^ F .f + Y) ≡ Y * 2 ^ k
   unfolding significand

@@ -10,14 +10,13 @@ use native.Mathlib.Omega.{arith}
 use borrow.Author.Tests.{lt-ltb, le-ltb, eq-eqb, ne-eqb}
 use lib.Pow.{pow-pos, pow-add, split, mod-mod-pow}
 use Rattle.format.specs.declared.Format.{Format}
-use Rattle.format.specs.Format.{Supported}
+use Rattle.format.specs.Format.{Supported, precision}
 use Rattle.adder.specs.declared.Direction as way
 use Rattle.adder.specs.declared.Direction.the-variants.{Nearest, TowardZero, Away}
 use Rattle.adder.specs.Word.{significand}
 use Rattle.adder.specs.Rounding.{increment, roundOff, dropped, magnitudeWord}
 use Rattle.standard.specs.Representable.{Representable, EvenWord, roundedMagnitude}
-use Rattle.standard.specs.Rounds as rounds
-use Rattle.standard.specs.Rounds.{distance, GreatestNotAbove, LeastNotBelow}
+use Rattle.standard.specs.Rounds.{GreatestNotAbove, LeastNotBelow, Closest, distance}
 use Rattle.standard.proofs.Magnitudes.{magnitude-representable, rounded-kept}
 use Rattle.standard.proofs.Gap.{neighbour-below, neighbour-above}
 
@@ -52,7 +51,7 @@ module _ (F : Format) (X : ℕ) where
       rounded-kept F d X ∙ ap (λ (i : ℕ). (kept F X + i) * unit F X) e
       ∙ add-mul (kept F X) 1 (unit F X) ∙ ap (λ (m : ℕ). floor F X + m) (one-mul (unit F X))
 
-  pub rounded-toward-zero : GreatestNotAbove (Representable F) X (roundedMagnitude F TowardZero X)
+  pub rounded-toward-zero : GreatestNotAbove _≤_ (Representable F) X (roundedMagnitude F TowardZero X)
   unfolding increment
   rounded-toward-zero =
       let e = stays TowardZero refl in
@@ -62,11 +61,11 @@ module _ (F : Format) (X : ℕ) where
         greatest = λ n r h. rw e (neighbour-below F X n r h);
       }
 
-  pub rounded-away : LeastNotBelow (Representable F) X (roundedMagnitude F Away X)
+  pub rounded-away : LeastNotBelow _≤_ (Representable F) X (roundedMagnitude F Away X)
   unfolding increment
   rounded-away = go (ℕ-discrete (rest F X) 0)
     where
-      go : Dec (rest F X ≡ 0) → LeastNotBelow (Representable F) X (roundedMagnitude F Away X)
+      go : Dec (rest F X ≡ 0) → LeastNotBelow _≤_ (Representable F) X (roundedMagnitude F Away X)
       go (yes z) =
           let e = stays Away (rw (eq-eqb _ _ z)) in
           let s = split X (dropped F X) in
@@ -107,8 +106,8 @@ module _ (F : Format) (X : ℕ) where
   unfolding roundOff increment
   half-even e = rw (le-ltb (unit F X) (2 * rest F X) (omega arith), eq-eqb _ _ e) (omega arith)
 
-  pub rounded-nearest : rounds.Nearest (Representable F) X (roundedMagnitude F Nearest X)
-  rounded-nearest = record { member = rounded-representable Nearest; nearest = λ n r. go n r taken (decLt X n) }
+  pub rounded-nearest : Closest distance (Representable F) X (roundedMagnitude F Nearest X)
+  rounded-nearest = record { member = rounded-representable Nearest; closest = λ n r. go n r taken (decLt X n) }
     where
       go : (n : ℕ) → Representable F n → Taken → Dec (X < n) → distance (roundedMagnitude F Nearest X) X ≤ distance n X
       go n r (inl t) (yes h) = omega (arith, t .0, t .1, neighbour-above F X n r h, split X (dropped F X))
@@ -125,6 +124,10 @@ module _ (F : Format) (X : ℕ) where
       go (inl t) (no h) = absurd (ne (omega (arith, t .0, neighbour-below F X n r (omega arith), split X (dropped F X))))
       go (inr t) (yes h) = absurd (ne (omega (arith, t .0, neighbour-above F X n r h, split X (dropped F X), mod-lt X (pow-pos (dropped F X)))))
       go (inr t) (no h) = omega (arith, t .0, t .1, neighbour-below F X n r (omega arith), split X (dropped F X), mod-lt X (pow-pos (dropped F X)))
+
+-- zero is a number of every format
+pub zero-representable : (F : Format) → Representable F 0
+zero-representable F = record { digits = 0; exponent = 0; digits-lt = pow-pos (precision F); is = refl }
 
 -- a significand is even where the word is
 pub even-word : (F : Format) → Supported F → (m : ℕ) → m % 2 ≡ 0 → EvenWord F m
@@ -156,7 +159,7 @@ tie-even F ok X n r ne e =
 
 -- a representable number is itself in every direction
 pub representable-rounds-to-itself : (F : Format) (d : way.Direction) (X : ℕ) → Representable F X → roundedMagnitude F d X ≡ X
-representable-rounds-to-itself F Nearest X r = omega (arith, rounded-nearest F X .nearest X r)
+representable-rounds-to-itself F Nearest X r = omega (arith, rounded-nearest F X .closest X r)
 representable-rounds-to-itself F TowardZero X r = let g = rounded-toward-zero F X in omega (arith, g .greatest X r (omega arith))
 representable-rounds-to-itself F Away X r = let g = rounded-away F X in omega (arith, g .least X r (omega arith))
 
@@ -183,6 +186,6 @@ rounding-monotone F Nearest X Y h = go (ℕ-discrete X Y) (decLt (roundedMagnitu
     go (no e) (yes l) =
         let a = roundedMagnitude F Nearest X in
         let b = roundedMagnitude F Nearest Y in
-        let x = middle-above a b X l (rounded-nearest F X .nearest b (rounded-representable F Y Nearest)) in
-        let y = middle-below a b Y l (rounded-nearest F Y .nearest a (rounded-representable F X Nearest)) in
+        let x = middle-above a b X l (rounded-nearest F X .closest b (rounded-representable F Y Nearest)) in
+        let y = middle-below a b Y l (rounded-nearest F Y .closest a (rounded-representable F X Nearest)) in
         absurd (omega arith)

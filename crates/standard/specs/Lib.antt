@@ -1,2 +1,3 @@
 pub mod Representable
 pub mod Rounds
+pub mod Number

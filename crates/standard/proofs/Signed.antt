@@ -1,0 +1,134 @@
+-- What each mode asks, of signed numbers: the laws of the three directions, with a sign. Assumes nothing.
+use mathlib.Core.Path.{_≡_, refl, sym, ap, _∙_, subst, subst₂}
+use Prim.Native.Nat.{ℕ, zero, suc, _+_, _≤_, _<_}
+use native.Mathlib.Omega.{arith}
+use lib.IntN.{ℤ, natAbs}
+use lib.Signed.{_≤ℤ_}
+use Rattle.format.specs.declared.Format.{Format}
+use Rattle.format.specs.Format.{Supported}
+use Rattle.adder.specs.declared.Direction.the-variants.{Nearest, TowardZero, Away}
+use Rattle.adder.specs.Rounding.{direction, magnitudeWord}
+use Rattle.standard.specs.Representable.{Representable, roundedMagnitude}
+use Rattle.standard.specs.Rounds.{GreatestNotAbove, LeastNotBelow, Closest, distance}
+use Rattle.standard.specs.Number.{signedNumber, OfFormat, apart, EvenNumber, RoundsTo}
+use Rattle.standard.proofs.Rounding.{rounded-toward-zero, rounded-away, rounded-nearest, zero-representable, tie-even}
+use Rattle.standard.proofs.Integers.{signed-magnitude, like-apart, unlike-apart, by-sign, outward, like-order, unlike-below, unlike-not-above}
+
+module _ (F : Format) (s X : ℕ) where
+  -- a number of sign s is of the format where its magnitude is
+  signed-format : (m : ℕ) → Representable F m → OfFormat F (signedNumber s m)
+  signed-format m r = subst (Representable F) (sym (signed-magnitude s m)) r
+
+  format-magnitude : (m : ℕ) → OfFormat F (signedNumber s m) → Representable F m
+  format-magnitude m r = subst (Representable F) (signed-magnitude s m) r
+
+  -- away from zero, and toward zero
+  outward-least : LeastNotBelow (outward s) (OfFormat F) (signedNumber s X) (signedNumber s (roundedMagnitude F Away X))
+  outward-least =
+      let R = roundedMagnitude F Away X in
+      let g = rounded-away F X in
+      record {
+        member = signed-format R (g .member);
+        not-below = like-order s X R .1 (g .not-below);
+        least =
+            by-sign s (λ n. OfFormat F n → outward s (signedNumber s X) n → outward s (signedNumber s R) n)
+            (λ m r h. like-order s R m .1 (g .least m (format-magnitude m r) (like-order s X m .0 h)))
+            (λ m r h. absurd (unlike-not-above s m X h));
+      }
+
+  inward-greatest : GreatestNotAbove (outward s) (OfFormat F) (signedNumber s X) (signedNumber s (roundedMagnitude F TowardZero X))
+  inward-greatest =
+      let R = roundedMagnitude F TowardZero X in
+      let g = rounded-toward-zero F X in
+      record {
+        member = signed-format R (g .member);
+        not-above = like-order s R X .1 (g .not-above);
+        greatest =
+            by-sign s (λ n. OfFormat F n → outward s n (signedNumber s X) → outward s n (signedNumber s R))
+            (λ m r h. like-order s m R .1 (g .greatest m (format-magnitude m r) (like-order s m X .0 h)))
+            (λ m r h. unlike-below s m R);
+      }
+
+  -- no number of the format is nearer, of either sign
+  signed-nearest : Closest apart (OfFormat F) (signedNumber s X) (signedNumber s (roundedMagnitude F Nearest X))
+  signed-nearest =
+      let R = roundedMagnitude F Nearest X in
+      let g = rounded-nearest F X in
+      record {
+        member = signed-format R (g .member);
+        closest =
+            by-sign s (λ n. OfFormat F n → apart (signedNumber s R) (signedNumber s X) ≤ apart n (signedNumber s X))
+            (λ m r. rw (like-apart s R X, like-apart s m X) (g .closest m (format-magnitude m r)))
+            (λ m r. rw (like-apart s R X, unlike-apart s (suc m) X) (omega (arith, g .closest 0 (zero-representable F))));
+      }
+
+  -- where another number is as near, the significand is even
+  signed-tie : Supported F → (n : ℤ) → OfFormat F n → (n ≡ signedNumber s (roundedMagnitude F Nearest X) → ⊥)
+      → apart n (signedNumber s X) ≡ apart (signedNumber s (roundedMagnitude F Nearest X)) (signedNumber s X)
+      → EvenNumber F (signedNumber s (roundedMagnitude F Nearest X))
+  signed-tie ok =
+      let R = roundedMagnitude F Nearest X in
+      by-sign s (λ n. OfFormat F n → (n ≡ signedNumber s R → ⊥) → apart n (signedNumber s X) ≡ apart (signedNumber s R) (signedNumber s X) → EvenNumber F (signedNumber s R))
+      (λ m r ne e. record {
+        word = magnitudeWord F Nearest X;
+        is = sym (signed-magnitude s R);
+        even = tie-even F ok X m (format-magnitude m r) (λ q. ne (ap (signedNumber s) q)) (sym (like-apart s m X) ∙ e ∙ like-apart s R X);
+      })
+      (λ m r ne e.
+      let q : suc m + X ≡ distance R X = sym (unlike-apart s (suc m) X) ∙ e ∙ like-apart s R X in
+      absurd (omega (arith, rounded-nearest F X .closest 0 (zero-representable F))))
+
+  -- of the numbers that are no greater in magnitude, none is nearer
+  signed-toward-zero : Closest apart (λ n. OfFormat F n × (natAbs n ≤ natAbs (signedNumber s X))) (signedNumber s X) (signedNumber s (roundedMagnitude F TowardZero X))
+  signed-toward-zero =
+      let R = roundedMagnitude F TowardZero X in
+      let g = rounded-toward-zero F X in
+      record {
+        member = (signed-format R (g .member), rw (signed-magnitude s R, signed-magnitude s X) (g .not-above));
+        closest =
+            by-sign s (λ n. OfFormat F n × (natAbs n ≤ natAbs (signedNumber s X)) → apart (signedNumber s R) (signedNumber s X) ≤ apart n (signedNumber s X))
+            (λ m p.
+            let h : m ≤ X = subst₂ (λ (a b : ℕ). a ≤ b) (signed-magnitude s m) (signed-magnitude s X) (p .1) in
+            rw (like-apart s R X, like-apart s m X) (omega (arith, g .not-above, g .greatest m (format-magnitude m (p .0)) h)))
+            (λ m p. rw (like-apart s R X, unlike-apart s (suc m) X) (omega (arith, g .not-above)));
+      }
+
+-- the least number not below in an order is the greatest not above in the order turned
+turned : {A : Type 0} {le : A → A → Type 0} {S : A → Type 0} {x r : A} → LeastNotBelow le S x r → GreatestNotAbove (λ m n. le n m) S x r
+turned g = record { member = g .member; not-above = g .not-below; greatest = g .least }
+
+turned-back : {A : Type 0} {le : A → A → Type 0} {S : A → Type 0} {x r : A} → GreatestNotAbove le S x r → LeastNotBelow (λ m n. le n m) S x r
+turned-back g = record { member = g .member; not-below = g .not-above; least = g .greatest }
+
+-- mode 2 rounds up: to the least number of the format that is not below the exact one
+pub rounded-up : (F : Format) (s X : ℕ) → s < 2 → LeastNotBelow _≤ℤ_ (OfFormat F) (signedNumber s X) (signedNumber s (roundedMagnitude F (direction 2 s) X))
+unfolding direction
+rounded-up F zero X h = outward-least F 0 X
+rounded-up F (suc zero) X h = turned-back (inward-greatest F 1 X)
+rounded-up F (suc (suc s)) X h = absurd (omega arith)
+
+-- mode 3 rounds down: to the greatest that is not above it
+pub rounded-down : (F : Format) (s X : ℕ) → s < 2 → GreatestNotAbove _≤ℤ_ (OfFormat F) (signedNumber s X) (signedNumber s (roundedMagnitude F (direction 3 s) X))
+unfolding direction
+rounded-down F zero X h = inward-greatest F 0 X
+rounded-down F (suc zero) X h = turned (outward-least F 1 X)
+rounded-down F (suc (suc s)) X h = absurd (omega arith)
+
+-- mode 1 rounds toward zero whatever the sign
+toward-zero : (s : ℕ) → s < 2 → direction 1 s ≡ TowardZero
+unfolding direction
+toward-zero zero h = refl
+toward-zero (suc zero) h = refl
+toward-zero (suc (suc s)) h = absurd (omega arith)
+
+nearest : (s : ℕ) → direction 0 s ≡ Nearest
+unfolding direction
+nearest s = refl
+
+-- each mode does what the standard says
+pub rounds-to : (F : Format) → Supported F → (mode s X : ℕ) → mode < 4 → s < 2 → RoundsTo F mode (signedNumber s X) (signedNumber s (roundedMagnitude F (direction mode s) X))
+rounds-to F ok zero s X hm hs = rw (nearest s) (record { nearest = signed-nearest F s X; tie = signed-tie F s X ok })
+rounds-to F ok (suc zero) s X hm hs = rw (toward-zero s hs) (signed-toward-zero F s X)
+rounds-to F ok (suc (suc zero)) s X hm hs = rounded-up F s X hs
+rounds-to F ok (suc (suc (suc zero))) s X hm hs = rounded-down F s X hs
+rounds-to F ok (suc (suc (suc (suc m)))) s X hm hs = absurd (omega arith)

@@ -1,0 +1,51 @@
+-- Signed numbers as integers, and what each mode asks of the rounded one (IEEE 754, "Rounding-direction attributes"; document 01,
+-- "The rounded result"). Assumes nothing.
+use mathlib.Core.Path.{_≡_}
+use Prim.Native.Nat.{ℕ, zero, suc, _≤_}
+use lib.IntN.{ℤ, pos, negℤ, natAbs, _-ℤ_}
+use lib.Signed.{_≤ℤ_}
+use Rattle.format.specs.declared.Format.{Format}
+use Rattle.adder.specs.Word.{biased, sign, allOnes}
+use Rattle.adder.specs.Operand.{finiteOf, magnitude}
+use Rattle.standard.specs.Representable.{Representable, magnitudeOf, EvenWord}
+use Rattle.standard.specs.Rounds.{GreatestNotAbove, LeastNotBelow, Closest}
+
+-- the number of a sign and a magnitude: sign 0 is +
+abbrev pub signedNumber : ℕ → ℕ → ℤ
+signedNumber zero X = pos X
+signedNumber (suc s) X = negℤ (pos X)
+
+-- what a finite word stands for, in smallest steps
+abbrev pub number : Format → ℕ → ℤ
+number F x = signedNumber (sign F x) (magnitude (finiteOf F x))
+
+-- a word that is neither infinity nor a NaN
+abbrev pub FiniteWord : Format → ℕ → Type 0
+FiniteWord F x = biased F x .0 ≡ allOnes F → ⊥
+
+-- the numbers of the format, of either sign
+abbrev pub OfFormat : Format → ℤ → Type 0
+OfFormat F n = Representable F (natAbs n)
+
+-- how far two numbers are apart
+abbrev pub apart : ℤ → ℤ → ℕ
+apart m n = natAbs (m -ℤ n)
+
+-- the significand of r is even: that of the one word of its magnitude
+pub record EvenNumber (F : Format) (r : ℤ) : Type 0 where
+  pub word : ℕ
+  pub is : magnitudeOf F word ≡ natAbs r
+  pub even : EvenWord F word
+
+-- roundTiesToEven: the closest number; where another is as near, one with an even significand
+pub record TiesToEven (F : Format) (z r : ℤ) : Type 0 where
+  pub nearest : Closest apart (OfFormat F) z r
+  pub tie : (n : ℤ) → OfFormat F n → (n ≡ r → ⊥) → apart n z ≡ apart r z → EvenNumber F r
+
+-- modes 0 nearest with ties to even, 1 toward zero: closest to z and no greater in magnitude, 2 up: the least not below z, 3 down: the
+-- greatest not above z
+abbrev pub RoundsTo : Format → ℕ → ℤ → ℤ → Type 0
+RoundsTo F zero z r = TiesToEven F z r
+RoundsTo F (suc zero) z r = Closest apart (λ n. OfFormat F n × (natAbs n ≤ natAbs z)) z r
+RoundsTo F (suc (suc zero)) z r = LeastNotBelow _≤ℤ_ (OfFormat F) z r
+RoundsTo F (suc (suc (suc m))) z r = GreatestNotAbove _≤ℤ_ (OfFormat F) z r
