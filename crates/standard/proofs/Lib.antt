@@ -4,3 +4,4 @@ pub mod Rounding
 pub mod Integers
 pub mod Signed
 pub mod Words
+pub mod Sums
