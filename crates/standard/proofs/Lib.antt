@@ -5,3 +5,5 @@ pub mod Integers
 pub mod Signed
 pub mod Words
 pub mod Sums
+pub mod SingleRounding
+pub mod SingleSum

@@ -44,7 +44,7 @@ module _ (F : Format) where
       omega (arith, biased-fraction F x, suc-mul (biased F x .0) (2 ^ F .f))
 
   -- the word of a word's magnitude is the word
-  word-encoded : (d : Direction) (m : ℕ) → magnitudeWord F d (magnitudeOf F m) ≡ m
+  pub word-encoded : (d : Direction) (m : ℕ) → magnitudeWord F d (magnitudeOf F m) ≡ m
   word-encoded d m = word-by-magnitude F (magnitudeWord F d (magnitudeOf F m)) m (representable-rounds-to-itself F d (magnitudeOf F m) (magnitude-representable F m))
 
   -- every finite word is the encoding of its sign and magnitude, in every mode

@@ -2,3 +2,4 @@ pub mod Representable
 pub mod Rounds
 pub mod Number
 pub mod Sum
+pub mod Single
