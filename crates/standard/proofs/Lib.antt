@@ -7,3 +7,5 @@ pub mod Words
 pub mod Sums
 pub mod SingleRounding
 pub mod SingleSum
+pub mod Unique
+pub mod Overflow

@@ -108,7 +108,7 @@ module _ (F : Format) where
       back (no l) h = omega arith
 
   -- Y units of 2^k steps, with p bits or one more, or fewer where k = 0
-  magnitude-kept : (k Y : ℕ) → Y ≤ 2 ^ precision F → (Y < 2 ^ F .f → k ≡ 0) → magnitudeOf F (k * 2 ^ F .f + Y) ≡ Y * 2 ^ k
+  pub magnitude-kept : (k Y : ℕ) → Y ≤ 2 ^ precision F → (Y < 2 ^ F .f → k ≡ 0) → magnitudeOf F (k * 2 ^ F .f + Y) ≡ Y * 2 ^ k
   unfolding significand
   magnitude-kept k Y most short = go (decLt Y (2 ^ F .f)) (ℕ-discrete Y (2 ^ precision F))
     where

@@ -129,20 +129,20 @@ module _ (F : Format) (X : ℕ) where
 pub zero-representable : (F : Format) → Representable F 0
 zero-representable F = record { digits = 0; exponent = 0; digits-lt = pow-pos (precision F); is = refl }
 
--- a significand is even where the word is
-pub even-word : (F : Format) → Supported F → (m : ℕ) → m % 2 ≡ 0 → EvenWord F m
+-- the last bit of a significand is that of its word
+pub significand-parity : (F : Format) → Supported F → (m : ℕ) → significand (F .f) (m / 2 ^ F .f) (m % 2 ^ F .f) % 2 ≡ m % 2
 unfolding significand
-even-word F ok m h = go (m / 2 ^ F .f) (m % 2 ^ F .f) low
+significand-parity F ok m = go (m / 2 ^ F .f) (m % 2 ^ F .f) ∙ last
   where
     f : F .f - 1 + 1 ≡ F .f
     f = omega (arith, ok .f-least)
 
-    low : m % 2 ^ F .f % 2 ≡ 0
-    low = subst (λ (n : ℕ). m % 2 ^ n % 2 ≡ 0) f (mod-mod-pow m (F .f - 1) 1 ∙ h)
+    last : m % 2 ^ F .f % 2 ≡ m % 2
+    last = subst (λ (n : ℕ). m % 2 ^ n % 2 ≡ m % 2) f (mod-mod-pow m (F .f - 1) 1)
 
-    go : (e t : ℕ) → t % 2 ≡ 0 → significand (F .f) e t % 2 ≡ 0
-    go zero t q = q
-    go (suc e) t q =
+    go : (e t : ℕ) → significand (F .f) e t % 2 ≡ t % 2
+    go zero t = refl
+    go (suc e) t =
         let p : 2 ^ F .f ≡ 2 ^ (F .f - 1) * 2 = ap (λ (n : ℕ). 2 ^ n) (sym f) ∙ pow-add 2 (F .f - 1) 1 in
         omega arith
 
@@ -155,7 +155,7 @@ tie-even F ok X n r ne e =
     let f : F .f - 1 + 1 ≡ F .f = omega (arith, ok .f-least) in
     let p : 2 ^ F .f ≡ 2 ^ (F .f - 1) * 2 = ap (λ (m : ℕ). 2 ^ m) (sym f) ∙ pow-add 2 (F .f - 1) 1 in
     let q : dropped F X * 2 ^ F .f ≡ dropped F X * 2 ^ (F .f - 1) * 2 = ap (λ (m : ℕ). dropped F X * m) p ∙ sym (mul-assoc (dropped F X) (2 ^ (F .f - 1)) 2) in
-    even-word F ok (dropped F X * 2 ^ F .f + roundOff Nearest X (dropped F X)) (omega arith)
+    significand-parity F ok (dropped F X * 2 ^ F .f + roundOff Nearest X (dropped F X)) ∙ omega arith
 
 -- a representable number is itself in every direction
 pub representable-rounds-to-itself : (F : Format) (d : way.Direction) (X : ℕ) → Representable F X → roundedMagnitude F d X ≡ X

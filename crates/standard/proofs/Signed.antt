@@ -2,37 +2,40 @@
 use mathlib.Core.Path.{_≡_, refl, sym, ap, _∙_, subst, subst₂}
 use Prim.Native.Nat.{ℕ, zero, suc, _+_, _≤_, _<_}
 use native.Mathlib.Omega.{arith}
-use lib.IntN.{ℤ, natAbs}
-use lib.Signed.{_≤ℤ_}
+use lib.Dec.{leb→le, le→leb}
+use lib.IntN.{ℤ, pos, negℤ, natAbs}
+use lib.Signed.{_≤ℤ_, leZ-yes}
 use Rattle.format.specs.declared.Format.{Format}
 use Rattle.format.specs.Format.{Supported}
+use Rattle.adder.specs.declared.Direction.{Direction}
 use Rattle.adder.specs.declared.Direction.the-variants.{Nearest, TowardZero, Away}
 use Rattle.adder.specs.Rounding.{direction, magnitudeWord}
 use Rattle.standard.specs.Representable.{Representable, roundedMagnitude}
 use Rattle.standard.specs.Rounds.{GreatestNotAbove, LeastNotBelow, Closest, distance}
 use Rattle.standard.specs.Number.{signedNumber, OfFormat, apart, EvenNumber, RoundsTo}
-use Rattle.standard.proofs.Rounding.{rounded-toward-zero, rounded-away, rounded-nearest, zero-representable, tie-even}
+use Rattle.standard.proofs.Rounding.{rounded-toward-zero, rounded-away, rounded-nearest, zero-representable, tie-even, representable-rounds-to-itself, rounding-monotone}
 use Rattle.standard.proofs.Integers.{signed-magnitude, like-apart, unlike-apart, by-sign, outward, like-order, unlike-below, unlike-not-above}
 
+-- a number of sign s is of the format where its magnitude is
+module _ (F : Format) (s m : ℕ) where
+  signed-format : Representable F m → OfFormat F (signedNumber s m)
+  signed-format r = subst (Representable F) (sym (signed-magnitude s m)) r
+
+  pub format-magnitude : OfFormat F (signedNumber s m) → Representable F m
+  format-magnitude r = subst (Representable F) (signed-magnitude s m) r
+
 module _ (F : Format) (s X : ℕ) where
-  -- a number of sign s is of the format where its magnitude is
-  signed-format : (m : ℕ) → Representable F m → OfFormat F (signedNumber s m)
-  signed-format m r = subst (Representable F) (sym (signed-magnitude s m)) r
-
-  format-magnitude : (m : ℕ) → OfFormat F (signedNumber s m) → Representable F m
-  format-magnitude m r = subst (Representable F) (signed-magnitude s m) r
-
   -- away from zero, and toward zero
   outward-least : LeastNotBelow (outward s) (OfFormat F) (signedNumber s X) (signedNumber s (roundedMagnitude F Away X))
   outward-least =
       let R = roundedMagnitude F Away X in
       let g = rounded-away F X in
       record {
-        member = signed-format R (g .member);
+        member = signed-format F s R (g .member);
         not-below = like-order s X R .1 (g .not-below);
         least =
             by-sign s (λ n. OfFormat F n → outward s (signedNumber s X) n → outward s (signedNumber s R) n)
-            (λ m r h. like-order s R m .1 (g .least m (format-magnitude m r) (like-order s X m .0 h)))
+            (λ m r h. like-order s R m .1 (g .least m (format-magnitude F s m r) (like-order s X m .0 h)))
             (λ m r h. absurd (unlike-not-above s m X h));
       }
 
@@ -41,24 +44,24 @@ module _ (F : Format) (s X : ℕ) where
       let R = roundedMagnitude F TowardZero X in
       let g = rounded-toward-zero F X in
       record {
-        member = signed-format R (g .member);
+        member = signed-format F s R (g .member);
         not-above = like-order s R X .1 (g .not-above);
         greatest =
             by-sign s (λ n. OfFormat F n → outward s n (signedNumber s X) → outward s n (signedNumber s R))
-            (λ m r h. like-order s m R .1 (g .greatest m (format-magnitude m r) (like-order s m X .0 h)))
+            (λ m r h. like-order s m R .1 (g .greatest m (format-magnitude F s m r) (like-order s m X .0 h)))
             (λ m r h. unlike-below s m R);
       }
 
   -- no number of the format is nearer, of either sign
-  signed-nearest : Closest apart (OfFormat F) (signedNumber s X) (signedNumber s (roundedMagnitude F Nearest X))
+  pub signed-nearest : Closest apart (OfFormat F) (signedNumber s X) (signedNumber s (roundedMagnitude F Nearest X))
   signed-nearest =
       let R = roundedMagnitude F Nearest X in
       let g = rounded-nearest F X in
       record {
-        member = signed-format R (g .member);
+        member = signed-format F s R (g .member);
         closest =
             by-sign s (λ n. OfFormat F n → apart (signedNumber s R) (signedNumber s X) ≤ apart n (signedNumber s X))
-            (λ m r. rw (like-apart s R X, like-apart s m X) (g .closest m (format-magnitude m r)))
+            (λ m r. rw (like-apart s R X, like-apart s m X) (g .closest m (format-magnitude F s m r)))
             (λ m r. rw (like-apart s R X, unlike-apart s (suc m) X) (omega (arith, g .closest 0 (zero-representable F))));
       }
 
@@ -72,24 +75,24 @@ module _ (F : Format) (s X : ℕ) where
       (λ m r ne e. record {
         word = magnitudeWord F Nearest X;
         is = sym (signed-magnitude s R);
-        even = tie-even F ok X m (format-magnitude m r) (λ q. ne (ap (signedNumber s) q)) (sym (like-apart s m X) ∙ e ∙ like-apart s R X);
+        even = tie-even F ok X m (format-magnitude F s m r) (λ q. ne (ap (signedNumber s) q)) (sym (like-apart s m X) ∙ e ∙ like-apart s R X);
       })
       (λ m r ne e.
       let q : suc m + X ≡ distance R X = sym (unlike-apart s (suc m) X) ∙ e ∙ like-apart s R X in
       absurd (omega (arith, rounded-nearest F X .closest 0 (zero-representable F))))
 
   -- of the numbers that are no greater in magnitude, none is nearer
-  signed-toward-zero : Closest apart (λ n. OfFormat F n × (natAbs n ≤ natAbs (signedNumber s X))) (signedNumber s X) (signedNumber s (roundedMagnitude F TowardZero X))
+  pub signed-toward-zero : Closest apart (λ n. OfFormat F n × (natAbs n ≤ natAbs (signedNumber s X))) (signedNumber s X) (signedNumber s (roundedMagnitude F TowardZero X))
   signed-toward-zero =
       let R = roundedMagnitude F TowardZero X in
       let g = rounded-toward-zero F X in
       record {
-        member = (signed-format R (g .member), rw (signed-magnitude s R, signed-magnitude s X) (g .not-above));
+        member = (signed-format F s R (g .member), rw (signed-magnitude s R, signed-magnitude s X) (g .not-above));
         closest =
             by-sign s (λ n. OfFormat F n × (natAbs n ≤ natAbs (signedNumber s X)) → apart (signedNumber s R) (signedNumber s X) ≤ apart n (signedNumber s X))
             (λ m p.
             let h : m ≤ X = subst₂ (λ (a b : ℕ). a ≤ b) (signed-magnitude s m) (signed-magnitude s X) (p .1) in
-            rw (like-apart s R X, like-apart s m X) (omega (arith, g .not-above, g .greatest m (format-magnitude m (p .0)) h)))
+            rw (like-apart s R X, like-apart s m X) (omega (arith, g .not-above, g .greatest m (format-magnitude F s m (p .0)) h)))
             (λ m p. rw (like-apart s R X, unlike-apart s (suc m) X) (omega (arith, g .not-above)));
       }
 
@@ -132,3 +135,33 @@ rounds-to F ok (suc zero) s X hm hs = rw (toward-zero s hs) (signed-toward-zero 
 rounds-to F ok (suc (suc zero)) s X hm hs = rounded-up F s X hs
 rounds-to F ok (suc (suc (suc zero))) s X hm hs = rounded-down F s X hs
 rounds-to F ok (suc (suc (suc (suc m)))) s X hm hs = absurd (omega arith)
+
+-- ---- order
+negative-below : (a b : ℕ) → negℤ (pos a) ≤ℤ pos b
+negative-below zero b = leZ-yes (le→leb 0 b (omega arith))
+negative-below (suc a) b = leZ-yes tt
+
+-- a number that is not negative lies below one that is not positive only where both are 0
+both-zero : (a b : ℕ) → pos a ≤ℤ negℤ (pos b) → (a ≡ 0) × (b ≡ 0)
+both-zero a zero h = let l = leb→le a 0 (h .le) in (omega arith, refl)
+both-zero a (suc b) h = absurd (h .le)
+
+-- rounding in one mode keeps the order of numbers
+pub rounding-keeps-order : (F : Format) (mode s X t Y : ℕ) → s < 2 → t < 2 → signedNumber s X ≤ℤ signedNumber t Y
+    → signedNumber s (roundedMagnitude F (direction mode s) X) ≤ℤ signedNumber t (roundedMagnitude F (direction mode t) Y)
+rounding-keeps-order F mode zero X zero Y hs ht h =
+    let d = direction mode 0 in
+    like-order 0 (roundedMagnitude F d X) (roundedMagnitude F d Y) .1 (rounding-monotone F d X Y (like-order 0 X Y .0 h))
+rounding-keeps-order F mode (suc zero) X (suc zero) Y hs ht h =
+    let d = direction mode 1 in
+    like-order 1 (roundedMagnitude F d Y) (roundedMagnitude F d X) .1 (rounding-monotone F d Y X (like-order 1 Y X .0 h))
+rounding-keeps-order F mode (suc zero) X zero Y hs ht h = negative-below (roundedMagnitude F (direction mode 1) X) (roundedMagnitude F (direction mode 0) Y)
+rounding-keeps-order F mode zero X (suc zero) Y hs ht h =
+    let z = both-zero X Y h in
+    subst₂ (λ (a b : ℕ). pos a ≤ℤ negℤ (pos b)) (sym (stays-zero (direction mode 0) X (z .0))) (sym (stays-zero (direction mode 1) Y (z .1))) (leZ-yes tt)
+  where
+    stays-zero : (d : Direction) (n : ℕ) → n ≡ 0 → roundedMagnitude F d n ≡ 0
+    stays-zero d n e = ap (roundedMagnitude F d) e ∙ representable-rounds-to-itself F d 0 (zero-representable F)
+rounding-keeps-order F mode zero X (suc (suc t)) Y hs ht h = absurd (omega arith)
+rounding-keeps-order F mode (suc zero) X (suc (suc t)) Y hs ht h = absurd (omega arith)
+rounding-keeps-order F mode (suc (suc s)) X t Y hs ht h = absurd (omega arith)

@@ -27,6 +27,10 @@ EvenWord F m = significand (F .f) (m / 2 ^ F .f) (m % 2 ^ F .f) % 2 ≡ 0
 abbrev pub largest : Format → ℕ
 largest F = magnitudeOf F (infinityWord F - 1)
 
+-- the number that would come next
+abbrev pub afterLargest : Format → ℕ
+afterLargest F = magnitudeOf F (infinityWord F)
+
 -- X rounded in a direction, as if exponents went on upward
 abbrev pub roundedMagnitude : Format → Direction → ℕ → ℕ
 roundedMagnitude F d X = magnitudeOf F (magnitudeWord F d X)

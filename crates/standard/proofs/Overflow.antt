@@ -1,0 +1,103 @@
+-- Where the rounded magnitude passes the largest finite number, in each direction: the standard's own bounds. Assumes nothing.
+use mathlib.Core.Path.{_≡_, refl, sym, ap, ap₂, _∙_, subst}
+use mathlib.Core.Logic.{_↔_}
+use Prim.Native.Nat.{ℕ, zero, suc, _+_, _-_, _*_, _/_, _%_, _^_, _≤_, _<_}
+use native.Mathlib.Nat.{mul-assoc, suc-mul}
+use native.Mathlib.Decide.{decLt, ℕ-discrete}
+use native.Mathlib.Omega.{arith}
+use lib.Arith.{mul-pred}
+use lib.Pow.{pow-pos, pow-add, ones-lt}
+use Rattle.format.specs.declared.Format.{Format}
+use Rattle.format.specs.Format.{Supported, precision}
+use Rattle.adder.specs.declared.Direction.{Direction}
+use Rattle.adder.specs.declared.Direction.the-variants.{Nearest, TowardZero, Away}
+use Rattle.adder.specs.Word.{significand, allOnes}
+use Rattle.adder.specs.Rounding.{magnitudeWord, infinityWord}
+use Rattle.adder.proofs.Bounds.{four-exponents, infinity-pos}
+use Rattle.standard.specs.Representable.{Representable, magnitudeOf, largest, afterLargest, roundedMagnitude}
+use Rattle.standard.specs.Rounds.{distance}
+use Rattle.standard.proofs.Magnitudes.{magnitude-kept, magnitude-representable, word-order, word-order-le, word-by-magnitude}
+use Rattle.standard.proofs.Rounding.{rounded-toward-zero, rounded-away, rounded-nearest, significand-parity, tie-even}
+
+module _ (F : Format) (ok : Supported F) where
+  -- infinity's word is where p + 1 bits would begin at the largest exponent
+  infinity-kept : infinityWord F ≡ (allOnes F - 2) * 2 ^ F .f + 2 ^ precision F
+  infinity-kept =
+      let e : allOnes F ≡ suc (suc (allOnes F - 2)) = omega (arith, four-exponents F ok) in
+      ap (λ (n : ℕ). n * 2 ^ F .f) e ∙ omega (arith, suc-mul (suc (allOnes F - 2)) (2 ^ F .f), suc-mul (allOnes F - 2) (2 ^ F .f), pow-add 2 (F .f) 1)
+
+  -- p ones at that exponent, and the next power of two
+  pub largest-is : largest F ≡ (2 ^ precision F - 1) * 2 ^ (allOnes F - 2)
+  largest-is =
+      let p = pow-add 2 (F .f) 1 in
+      let pos = pow-pos (F .f) in
+      let e : infinityWord F - 1 ≡ (allOnes F - 2) * 2 ^ F .f + (2 ^ precision F - 1) = omega (arith, infinity-kept) in
+      ap (magnitudeOf F) e ∙ magnitude-kept F (allOnes F - 2) (2 ^ precision F - 1) (omega arith) (λ h. absurd (omega arith))
+
+  pub after-largest-is : afterLargest F ≡ 2 ^ precision F * 2 ^ (allOnes F - 2)
+  after-largest-is =
+      let p = pow-add 2 (F .f) 1 in
+      let pos = pow-pos (F .f) in
+      ap (magnitudeOf F) infinity-kept ∙ magnitude-kept F (allOnes F - 2) (2 ^ precision F) (omega arith) (λ h. absurd (omega arith))
+
+  adjacent : largest F < afterLargest F
+  adjacent = word-order F (infinityWord F - 1) (infinityWord F) .0 (omega (arith, infinity-pos F ok))
+
+  -- what passes the largest reaches the next
+  passes : (d : Direction) (X : ℕ) → largest F < roundedMagnitude F d X → afterLargest F ≤ roundedMagnitude F d X
+  passes d X h = word-order-le F (infinityWord F) (magnitudeWord F d X) .0 (omega (arith, word-order F (infinityWord F - 1) (magnitudeWord F d X) .1 h))
+
+  pub overflow-toward-zero : (X : ℕ) → (largest F < roundedMagnitude F TowardZero X) ↔ (afterLargest F ≤ X)
+  overflow-toward-zero X =
+      let g = rounded-toward-zero F X in (
+        λ h. omega (arith, passes TowardZero X h, g .not-above),
+        λ h. omega (arith, adjacent, g .greatest (afterLargest F) (magnitude-representable F (infinityWord F)) h),
+      )
+
+  pub overflow-away : (X : ℕ) → (largest F < roundedMagnitude F Away X) ↔ (largest F < X)
+  overflow-away X = (to (decLt (largest F) X), λ h. omega (arith, rounded-away F X .not-below))
+    where
+      to : Dec (largest F < X) → largest F < roundedMagnitude F Away X → largest F < X
+      to (yes l) h = l
+      to (no l) h = absurd (omega (arith, rounded-away F X .least (largest F) (magnitude-representable F (infinityWord F - 1)) (omega arith)))
+
+  -- the word of the largest is odd
+  infinity-even : infinityWord F % 2 ≡ 0
+  infinity-even =
+      let f : F .f - 1 + 1 ≡ F .f = omega (arith, ok .f-least) in
+      let e : infinityWord F ≡ allOnes F * 2 ^ (F .f - 1) * 2 =
+      ap (λ (n : ℕ). allOnes F * 2 ^ n) (sym f) ∙ ap (λ (n : ℕ). allOnes F * n) (pow-add 2 (F .f - 1) 1) ∙ sym (mul-assoc (allOnes F) (2 ^ (F .f - 1)) 2) in
+      omega arith
+
+  -- nearest: so from the middle between the largest and the next on
+  module _ (X : ℕ) where
+    not-tied : largest F ≡ roundedMagnitude F Nearest X → distance (afterLargest F) X ≡ distance (roundedMagnitude F Nearest X) X → ⊥
+    not-tied e d =
+        let even = tie-even F ok X (afterLargest F) (magnitude-representable F (infinityWord F)) (λ q. omega (arith, adjacent)) d in
+        let w = word-by-magnitude F (infinityWord F - 1) (magnitudeWord F Nearest X) e in
+        let l = sym (significand-parity F ok (magnitudeWord F Nearest X)) ∙ even in
+        last (infinityWord F) (magnitudeWord F Nearest X) (infinity-pos F ok) infinity-even l w
+      where
+        last : (i m : ℕ) → 0 < i → i % 2 ≡ 0 → m % 2 ≡ 0 → i - 1 ≡ m → ⊥
+        last i m h g k w = omega arith
+
+    pub overflow-nearest : (largest F < roundedMagnitude F Nearest X) ↔ (largest F + afterLargest F ≤ 2 * X)
+    overflow-nearest = (
+      λ h. to (largest F) (afterLargest F) (roundedMagnitude F Nearest X) adjacent (passes Nearest X h)
+          (rounded-nearest F X .closest (largest F) (magnitude-representable F (infinityWord F - 1))),
+      λ h. back (decLt (largest F) (roundedMagnitude F Nearest X)) h,
+    )
+      where
+        to : (l a r : ℕ) → l < a → a ≤ r → distance r X ≤ distance l X → l + a ≤ 2 * X
+        to l a r h g d = omega arith
+
+        tied : (l a r : ℕ) → l < a → r ≤ l → l + a ≤ 2 * X → distance r X ≤ distance a X → (l ≡ r) × (distance a X ≡ distance r X)
+        tied l a r h g m d = (omega arith, omega arith)
+
+        back : Dec (largest F < roundedMagnitude F Nearest X) → largest F + afterLargest F ≤ 2 * X → largest F < roundedMagnitude F Nearest X
+        back (yes l) h = l
+        back (no l) h =
+            let t =
+            tied (largest F) (afterLargest F) (roundedMagnitude F Nearest X) adjacent (omega arith) h
+            (rounded-nearest F X .closest (afterLargest F) (magnitude-representable F (infinityWord F))) in
+            absurd (not-tied (t .0) (t .1))
