@@ -1,20 +1,19 @@
 -- Where the rounded magnitude passes the largest finite number, in each direction: the standard's own bounds. Assumes nothing.
-use mathlib.Core.Path.{_≡_, refl, sym, ap, ap₂, _∙_, subst}
+use mathlib.Core.Path.{_≡_, sym, ap, _∙_}
 use mathlib.Core.Logic.{_↔_}
-use Prim.Native.Nat.{ℕ, zero, suc, _+_, _-_, _*_, _/_, _%_, _^_, _≤_, _<_}
+use Prim.Native.Nat.{ℕ, suc, _+_, _-_, _*_, _%_, _^_, _≤_, _<_}
 use native.Mathlib.Nat.{mul-assoc, suc-mul}
-use native.Mathlib.Decide.{decLt, ℕ-discrete}
+use native.Mathlib.Decide.{decLt}
 use native.Mathlib.Omega.{arith}
-use lib.Arith.{mul-pred}
-use lib.Pow.{pow-pos, pow-add, ones-lt}
+use lib.Pow.{pow-pos, pow-add}
 use Rattle.format.specs.declared.Format.{Format}
 use Rattle.format.specs.Format.{Supported, precision}
 use Rattle.adder.specs.declared.Direction.{Direction}
 use Rattle.adder.specs.declared.Direction.the-variants.{Nearest, TowardZero, Away}
-use Rattle.adder.specs.Word.{significand, allOnes}
+use Rattle.adder.specs.Word.{allOnes}
 use Rattle.adder.specs.Rounding.{magnitudeWord, infinityWord}
 use Rattle.adder.proofs.Bounds.{four-exponents, infinity-pos}
-use Rattle.standard.specs.Representable.{Representable, magnitudeOf, largest, afterLargest, roundedMagnitude}
+use Rattle.standard.specs.Representable.{magnitudeOf, largest, afterLargest, roundedMagnitude}
 use Rattle.standard.specs.Rounds.{distance}
 use Rattle.standard.proofs.Magnitudes.{magnitude-kept, magnitude-representable, word-order, word-order-le, word-by-magnitude}
 use Rattle.standard.proofs.Rounding.{rounded-toward-zero, rounded-away, rounded-nearest, significand-parity, tie-even}

@@ -3,14 +3,14 @@
 use mathlib.Core.Path.{_≡_, refl, sym, ap, ap₂, _∙_, subst}
 use mathlib.Core.Logic.{_↔_}
 use mathlib.Core.Bool.{Bool, true, false, not, cond}
-use Prim.Native.Nat.{ℕ, zero, suc, _+_, _-_, _*_, _/_, _%_, _^_, _≤_, _<_, compare, Ordering, Ordering·lt, Ordering·eq, Ordering·gt}
+use Prim.Native.Nat.{ℕ, suc, _+_, _-_, _*_, _/_, _%_, _^_, _≤_, _<_, compare, Ordering, Ordering·lt, Ordering·eq, Ordering·gt}
 use native.Mathlib.Nat.{add-zero, add-assoc, mul-comm, mul-assoc, mul-pos, mul-div-cancel}
 use native.Mathlib.Decide.{decLt}
 use native.Mathlib.Omega.{arith}
 use borrow.Author.Tests.{lt-ltb, le-ltb}
 use lib.Dec.{T, ltb, eqb, isLe, isEq, leb→le, nleb→lt}
-use lib.Pow.{pow-pos, pow-add}
-use lib.Ieee.{Float, nan, inf, fin, binary32, prec, emax, low, size, up, down, nearest, odd, units, round, top, hid, toBits}
+use lib.Pow.{pow-pos}
+use lib.Ieee.{Float, nan, inf, fin, binary32, emax, low, size, up, down, nearest, units, round, top, hid, toBits}
 use lib.Ieee.Fits.{down-pos, round-is}
 use lib.Ieee.Exact.{HasValue, units-val}
 use lib.Ieee.Nearest.{closest, closest-same}
@@ -21,7 +21,7 @@ use Rattle.adder.proofs.AddConstant.{round-toward-zero}
 use Rattle.adder.proofs.Rounded.{bounded-within, bounded-past}
 use Rattle.standard.specs.Representable.{magnitudeOf, roundedMagnitude}
 use Rattle.standard.specs.Single.{single}
-use Rattle.standard.proofs.Magnitudes.{magnitude-fields, rounded-kept, word-order}
+use Rattle.standard.proofs.Magnitudes.{rounded-kept, word-order}
 use Rattle.standard.proofs.Words.{word-encoded}
 
 -- q, or the next number up, by two tests

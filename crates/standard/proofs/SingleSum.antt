@@ -2,25 +2,24 @@
 -- being so many smallest steps, and each case of the sum is the same. Assumes nothing.
 use mathlib.Core.Path.{_≡_, refl, sym, ap, ap₂, _∙_, subst₂, subst₃}
 use mathlib.Core.Bool.{Bool, true, false, not, _&&_, Bool·beq, cond}
-use Prim.Native.Nat.{ℕ, zero, suc, _+_, _-_, _*_, _/_, _%_, _^_, _≤_, _<_}
-use native.Mathlib.Nat.{mul-assoc, mul-comm, mul-right-comm, mul-pos, add-mul}
-use native.Mathlib.Decide.{decLt, decLe, ℕ-discrete}
+use Prim.Native.Nat.{ℕ, zero, suc, _+_, _-_, _*_, _%_, _^_, _≤_, _<_}
+use native.Mathlib.Nat.{mul-assoc, mul-right-comm, mul-pos, add-mul}
+use native.Mathlib.Decide.{decLt, decLe}
 use native.Mathlib.Omega.{arith}
 use borrow.Author.Tests.{lt-ltb, le-ltb, le-leb, lt-leb, eq-eqb, ne-eqb}
 use lib.Dec.{ltb, leb, eqb, lit≤}
 use lib.Pow.{pow-pos, field}
-use lib.IntN.{ℤ}
 use lib.Ieee.{Float, nan, inf, fin, binary32, low, up, down, odd, round, sum, add, neg, sub, top, hid, ofFields, ofBits, toBits}
 use lib.Ieee.Fits.{down-pos}
 use lib.Ieee.Exact.{HasValue, odd-sign}
 use lib.Ieee.Scale.{round-same}
-use Rattle.format.specs.Format.{Supported, wordBits}
+use Rattle.format.specs.Format.{Supported}
 use Rattle.adder.specs.declared.Finite as record-of
 use Rattle.adder.specs.declared.Operand as kind
 use Rattle.adder.specs.declared.Operand.the-variants.{Finite, Infinite, Nan}
 use Rattle.adder.specs.declared.Direction.the-variants.{Nearest}
-use Rattle.adder.specs.Word.{fraction, biased, sign, significand, allOnes, signed}
-use Rattle.adder.specs.Operand.{finiteOf, operandOf, magnitude, Sound}
+use Rattle.adder.specs.Word.{fraction, biased, sign, significand, signed}
+use Rattle.adder.specs.Operand.{operandOf, magnitude, Sound}
 use Rattle.adder.specs.Rounding.{direction, boundedWord, rounded}
 use Rattle.adder.specs.Result.{effective, infinity, cancelledSign, finiteSum, infiniteSum, kindSum, result}
 use Rattle.adder.proofs.Division.{ltb-scale, mul-sub-right}

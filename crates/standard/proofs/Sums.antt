@@ -4,7 +4,7 @@ use mathlib.Core.Path.{_≡_, refl, sym, ap, ap₂, _∙_, subst₂}
 use mathlib.Core.Bool.{cond}
 use Prim.Native.Nat.{ℕ, zero, suc, _+_, _-_, _*_, _/_, _%_, _^_, _≤_, _<_}
 use native.Mathlib.Nat.{mod-lt}
-use native.Mathlib.Decide.{decLt, ℕ-discrete}
+use native.Mathlib.Decide.{decLt}
 use native.Mathlib.Omega.{arith}
 use borrow.Author.Tests.{lt-ltb, le-ltb, eq-eqb, ne-eqb}
 use lib.Dec.{ltb, eqb}
@@ -12,7 +12,7 @@ use lib.IntN.{ℤ, pos, negℤ, natAbs, _+ℤ_, negℤ-+ℤ, negℤ-negℤ, +ℤ
 use Rattle.format.specs.declared.Format.{Format}
 use Rattle.format.specs.Format.{Supported}
 use Rattle.adder.specs.declared.Finite.{Finite}
-use Rattle.adder.specs.Word.{biased, sign, significand, signed}
+use Rattle.adder.specs.Word.{sign, significand, signed}
 use Rattle.adder.specs.Operand.{finiteOf, magnitude}
 use Rattle.adder.specs.Rounding.{direction, overflowWord, rounded}
 use Rattle.adder.specs.Result.{effective, cancelledSign, result}

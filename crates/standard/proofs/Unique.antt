@@ -1,23 +1,30 @@
--- What the standard asks of a rounded number leaves one answer, in every mode: so it is a definition. Assumes nothing.
+-- What the standard asks of a rounded number leaves one answer, in every mode, and what it asks of the sum of two finite words leaves one
+-- word: so it is a definition. Assumes nothing.
 use mathlib.Core.Path.{_≡_, refl, sym, ap, _∙_, subst, subst₂}
-use Prim.Native.Nat.{ℕ, zero, suc, _+_, _-_, _*_, _%_, _≤_, _<_}
+use Prim.Native.Nat.{ℕ, zero, suc, _+_, _*_, _%_, _^_, _≤_, _<_}
 use native.Mathlib.Nat.{le-antisymm}
 use native.Mathlib.Decide.{decLt, ℕ-discrete}
 use native.Mathlib.Omega.{arith}
 use lib.Dec.{leb→le}
-use lib.IntN.{ℤ, pos, negsuc, natAbs}
+use lib.IntN.{ℤ, pos, negsuc, natAbs, ℤ-discrete}
 use lib.Signed.{_≤ℤ_}
 use Rattle.format.specs.declared.Format.{Format}
-use Rattle.format.specs.Format.{Supported}
+use Rattle.format.specs.Format.{Supported, wordBits}
 use Rattle.adder.specs.declared.Direction.the-variants.{Nearest, TowardZero}
+use Rattle.adder.specs.Word.{sign}
+use Rattle.adder.specs.Operand.{finiteOf, magnitude}
 use Rattle.adder.specs.Rounding.{magnitudeWord}
-use Rattle.standard.specs.Representable.{Representable, magnitudeOf, EvenWord, roundedMagnitude}
+use Rattle.adder.specs.Result.{effective, result}
+use Rattle.adder.proofs.ResultLaws.{result-lt}
+use Rattle.standard.specs.Representable.{Representable, magnitudeOf, EvenWord, largest, roundedMagnitude}
 use Rattle.standard.specs.Rounds.{GreatestNotAbove, LeastNotBelow, Closest, distance}
-use Rattle.standard.specs.Number.{signedNumber, OfFormat, apart, EvenNumber, TiesToEven, RoundsTo}
-use Rattle.standard.specs.Sum.{signOf}
-use Rattle.standard.proofs.Magnitudes.{magnitude-representable, word-order, word-by-magnitude}
-use Rattle.standard.proofs.Rounding.{rounded-representable, rounded-toward-zero, rounded-nearest, zero-representable, significand-parity, tie-even}
+use Rattle.standard.specs.Number.{signedNumber, FiniteWord, OfFormat, apart, TiesToEven, RoundsTo}
+use Rattle.standard.specs.Sum.{exactNumber, signOf, RoundedWord, SignOfSum}
+use Rattle.standard.proofs.Magnitudes.{magnitude-representable, word-order}
+use Rattle.standard.proofs.Rounding.{rounded-toward-zero, rounded-nearest, zero-representable, significand-parity, tie-even}
 use Rattle.standard.proofs.Integers.{signed-magnitude, signed-same, like-apart, unlike-apart, by-sign}
+use Rattle.standard.proofs.Words.{encoding-unique}
+use Rattle.standard.proofs.Sums.{result-rounded, result-sign}
 use Rattle.standard.proofs.Signed.{format-magnitude, signed-nearest, signed-toward-zero}
 
 -- ---- up and down
@@ -127,3 +134,36 @@ rounds-unique F ok (suc zero) z r q g h =
     toward-zero-only F s X r (subst (λ (n : ℤ). RoundsTo F 1 n r) e g) ∙ sym (toward-zero-only F s X q (subst (λ (n : ℤ). RoundsTo F 1 n q) e h))
 rounds-unique F ok (suc (suc zero)) z r q g h = least-unique g h
 rounds-unique F ok (suc (suc (suc m))) z r q g h = greatest-unique g h
+
+-- ---- and one word
+module _ (F : Format) (ok : Supported F) (operation mode a b c d : ℕ) where
+  sign-unique : SignOfSum F operation mode a b c → SignOfSum F operation mode a b d → sign F c ≡ sign F d
+  sign-unique g h = go (ℤ-discrete (exactNumber F operation a b) (pos 0)) (ℕ-discrete (sign F a) (sign F (effective F operation b))) (ℕ-discrete mode 3)
+    where
+      go : Dec (exactNumber F operation a b ≡ pos 0) → Dec (sign F a ≡ sign F (effective F operation b)) → Dec (mode ≡ 3) → sign F c ≡ sign F d
+      go (no n) l m = g .not-zero n ∙ sym (h .not-zero n)
+      go (yes z) (yes l) m = g .like l ∙ sym (h .like l)
+      go (yes z) (no l) (yes m) = g .unlike-down l z m ∙ sym (h .unlike-down l z m)
+      go (yes z) (no l) (no m) = g .unlike-not-down l z m ∙ sym (h .unlike-not-down l z m)
+
+  word-unique : c < 2 ^ wordBits F → d < 2 ^ wordBits F → RoundedWord F mode (exactNumber F operation a b) c → RoundedWord F mode (exactNumber F operation a b) d
+      → SignOfSum F operation mode a b c → SignOfSum F operation mode a b d → c ≡ d
+  word-unique hc hd g h sc sd = go (decLt (largest F) (natAbs (g .r)))
+    where
+      same : g .r ≡ h .r
+      same = rounds-unique F ok mode (exactNumber F operation a b) (g .r) (h .r) (g .rounds) (h .rounds)
+
+      go : Dec (largest F < natAbs (g .r)) → c ≡ d
+      go (yes l) = g .past l ∙ sym (h .past (subst (λ (n : ℤ). largest F < natAbs n) same l))
+      go (no l) =
+          let p = g .within (omega arith) in
+          let q = h .within (subst (λ (n : ℤ). natAbs n ≤ largest F) same (omega arith)) in
+          encoding-unique F c d hc hd (p .0) (q .0) (sign-unique sc sd)
+          (sym (signed-magnitude (sign F c) (magnitude (finiteOf F c))) ∙ ap natAbs (p .1 ∙ same ∙ sym (q .1)) ∙ signed-magnitude (sign F d) (magnitude (finiteOf F d)))
+
+-- a word that is what the standard asks of the sum of two finite words is the rounded result
+pub result-only : (F : Format) → Supported F → (operation mode a b c : ℕ) → operation < 2 → mode < 4 → FiniteWord F a → FiniteWord F b → c < 2 ^ wordBits F
+    → RoundedWord F mode (exactNumber F operation a b) c → SignOfSum F operation mode a b c → c ≡ result F operation mode a b
+result-only F ok operation mode a b c ho hm fa fb hc g s =
+    word-unique F ok operation mode a b c (result F operation mode a b) hc (result-lt F ok operation mode a b) g
+    (result-rounded F ok operation mode a b ho fa fb hm) s (result-sign F ok operation mode a b ho fa fb)
