@@ -9,3 +9,5 @@ pub mod SingleRounding
 pub mod SingleSum
 pub mod Unique
 pub mod Overflow
+pub mod Special
+pub mod Standard

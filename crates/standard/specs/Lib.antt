@@ -3,3 +3,5 @@ pub mod Rounds
 pub mod Number
 pub mod Sum
 pub mod Single
+pub mod Special
+pub mod Standard
