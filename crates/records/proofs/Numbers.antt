@@ -8,7 +8,9 @@ use native.Mathlib.Numerals.{add-one}
 use mathlib.Core.List.{List, [], _∷_, _++_, append-assoc}
 use lib.ListN.{length, getD, take, drop, set, length-append, length-take, length-drop, take-append-drop}
 use lib.Seq.{length-take-le, getD-drop, take-at, drop-at, drop-cons, set-split, drop-drop}
-use Rattle.records.specs.Number.{Bytes, littleEndian, number, put}
+use mathlib.Core.Bool.{Bool, cond}
+use borrow.Author.Tests.{le-leb, lt-leb}
+use Rattle.records.specs.Number.{Bytes, littleEndian, number, put, putWithin}
 
 -- ---- parts of bytes are bytes
 pub bytes-drop : (n : ℕ) (s : List ℕ) → Bytes s → Bytes (drop n s)
@@ -135,3 +137,12 @@ pub put-numbers : (s : List ℕ) (at j k x y : ℕ) → at + (j + k) ≤ length 
 put-numbers s at j k x y h =
     ap (λ (n : ℕ). put (put s at (littleEndian j x)) (at + n) (littleEndian k y)) (sym (length-number j x))
     ∙ put-put s at (littleEndian j x) (littleEndian k y) (rw (length-number j x, length-number k y) h)
+
+-- bytes that find room are put, and others are not
+pub put-room : (s : List ℕ) (at : ℕ) (bs : List ℕ) → at + length bs ≤ length s → putWithin s at bs ≡ put s at bs
+unfolding putWithin
+put-room s at bs h = ap (λ (t : Bool). cond t (put s at bs) s) (le-leb (at + length bs) (length s) h)
+
+pub put-full : (s : List ℕ) (at : ℕ) (bs : List ℕ) → length s < at + length bs → putWithin s at bs ≡ s
+unfolding putWithin
+put-full s at bs h = ap (λ (t : Bool). cond t (put s at bs) s) (lt-leb (at + length bs) (length s) h)

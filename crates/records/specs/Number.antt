@@ -2,6 +2,8 @@
 use Prim.Native.Nat.{ℕ, zero, suc, _+_, _*_, _/_, _%_, _<_}
 use mathlib.Core.List.{List, [], _∷_, _++_}
 use lib.ListN.{length, getD, take, drop}
+use lib.Dec.{leb}
+use mathlib.Core.Bool.{cond}
 
 -- every element is a byte
 abbrev pub Bytes : List ℕ → Type 0
@@ -20,3 +22,7 @@ number (b ∷ bs) = b + 256 * number bs
 -- the buffer with these bytes from position `at` on
 abbrev pub put : List ℕ → ℕ → List ℕ → List ℕ
 put s at bs = take at s ++ (bs ++ drop (at + length bs) s)
+
+-- the same where the buffer has room for them, else the buffer as it was
+unfoldable pub putWithin : List ℕ → ℕ → List ℕ → List ℕ
+putWithin s at bs = cond (leb (at + length bs) (length s)) (put s at bs) s

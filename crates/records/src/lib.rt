@@ -1,6 +1,6 @@
 // Job records: what stands first in a file, the rest after it, and the writing of a record into a lent buffer.
 mod fields;
-mod number;
+pub mod number;
 
 use fields::mode_in;
 use fields::place;

@@ -2,7 +2,7 @@
 ghost use mathlib.Core.Path.{_≡_};
 ghost use Prim.Native.Nat.{_+_, _≤_};
 ghost use lib.ListN.{length, take, drop};
-ghost use Rattle.records.specs.Number.{littleEndian, number, put};
+ghost use Rattle.records.specs.Number.{littleEndian, number, put, putWithin};
 
 pub(crate) fn wide(byte: u8) -> u64
     ensures { λ r. ⌜ r ≡ byte ⌝ }
@@ -38,4 +38,15 @@ pub(crate) fn put_number(buffer: &mut [u8], at: usize, k: usize, x: u64) -> usiz
         i += 1;
     }
     at + k
+}
+
+// Puts k bytes of x from `at` on where the buffer has room for them, else nothing.
+pub fn put_within(buffer: &mut [u8], at: usize, k: usize, x: u64)
+    ensures { λ _. ⌜ now (buffer .exit) ≡ putWithin (now (buffer .entry)) at (littleEndian k x) ⌝ }
+{
+    if at <= buffer.len() {
+        if k <= buffer.len() - at {
+            put_number(buffer, at, k, x);
+        }
+    }
 }

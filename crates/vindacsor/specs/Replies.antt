@@ -1,0 +1,114 @@
+-- The answer of each exported function, from the reply of the function that it exports (document 01, "Causes and replies"). Where a job
+-- is wanted it is given as a job record; bytes after the record play no part, and no bytes at all are a record cut short. Assumes nothing.
+use Prim.Native.Nat.{ℕ}
+use mathlib.Core.List.{List, [], _∷_}
+use Rattle.format.specs.Cause as cause
+use Rattle.format.specs.declared.Format.{Format}
+use Rattle.mask.specs.declared.Mask.{Mask}
+use Rattle.mask.specs.declared.Joined as joined
+use Rattle.mask.specs.declared.Joined.the-variants as joined-is
+use Rattle.adder.specs.declared.Reply as result
+use Rattle.adder.specs.declared.Reply.the-variants as result-is
+use Rattle.adder.specs.declared.Row as row
+use Rattle.adder.specs.declared.Row.the-variants as row-is
+use Rattle.adder.specs.declared.RowReply as row-reply
+use Rattle.adder.specs.declared.RowReply.the-variants as row-reply-is
+use Rattle.fit.specs.declared.Confirmed as confirmed
+use Rattle.fit.specs.declared.Confirmed.the-variants as confirmed-is
+use Rattle.fit.specs.Fit.{confirmedReply}
+use Rattle.records.specs.declared.Entry.{Entry}
+use Rattle.records.specs.declared.First as first
+use Rattle.records.specs.declared.First.the-variants as first-is
+use Rattle.generator.specs.declared.Reply as case
+use Rattle.generator.specs.declared.Reply.the-variants as case-is
+use Rattle.generator.specs.Promise as generator
+use Rattle.whole.specs.declared.Masks.{Masks}
+use Rattle.whole.specs.declared.Words.{Words}
+use Rattle.whole.specs.declared.Job as whole-job
+use Rattle.whole.specs.declared.Reply as whole
+use Rattle.whole.specs.declared.Reply.the-variants as whole-is
+use Rattle.whole.specs.Reply as whole-generator
+use Rattle.vindacsor.specs.Answer.{Answer, numbers, refusal, Handed}
+
+-- the format and the mask of two numbers each
+abbrev pub formatOf : ℕ → ℕ → Format
+formatOf w f = record { w = w; f = f }
+
+abbrev pub maskOf : ℕ → ℕ → Mask
+maskOf care value = record { care = care; value = value }
+
+-- a job of the whole-number generator
+abbrev pub masksOf : Mask → Mask → Mask → Mask → Masks
+masksOf x y z carries = record { x = x; y = y; z = z; carries = carries }
+
+abbrev pub wordsOf : ℕ → ℕ → ℕ → Words
+wordsOf x y z = record { x = x; y = y; z = z }
+
+abbrev pub wholeJob : ℕ → Masks → Words → whole-job.Job
+wholeJob length masks words = record { length = length; masks = masks; words = words }
+
+-- the rounded result: c
+abbrev pub ofResult : result.Reply → Answer
+ofResult (result-is.Word c) = numbers (c ∷ [])
+ofResult (result-is.Refused k) = refusal k
+
+-- whether there is a row, 1 or 0, and the row, 0 where there is none
+abbrev pub rowNumbers : row.Row → List ℕ
+rowNumbers (row-is.Carries r) = 1 ∷ r ∷ []
+rowNumbers row-is.NoRow = 0 ∷ 0 ∷ []
+
+-- the carry row
+abbrev pub ofRow : row-reply.RowReply → Answer
+ofRow (row-reply-is.Row r) = numbers (rowNumbers r)
+ofRow (row-reply-is.Refused k) = refusal k
+
+-- joining: care, then value
+abbrev pub ofJoined : joined.Joined → Answer
+ofJoined (joined-is.Mask m) = numbers (m .care ∷ m .value ∷ [])
+ofJoined (joined-is.Refused k) = refusal k
+
+-- reading: the length of the record that stands first, 0 where no byte is left
+abbrev pub ofFirst : first.First → Answer
+ofFirst first-is.End = numbers (0 ∷ [])
+ofFirst (first-is.Job e n) = numbers (n ∷ [])
+ofFirst (first-is.Refused k) = refusal k
+
+-- confirmation: 1 for yes, 0 for no
+abbrev pub ofConfirmed : confirmed.Confirmed → Answer
+ofConfirmed confirmed-is.Yes = numbers (1 ∷ [])
+ofConfirmed confirmed-is.No = numbers (0 ∷ [])
+ofConfirmed (confirmed-is.Refused k) = refusal k
+
+-- confirmation of a case for the job of a record
+abbrev pub confirmation : first.First → ℕ → ℕ → ℕ → Answer
+confirmation first-is.End a b c = refusal cause.cut
+confirmation (first-is.Job e n) a b c = ofConfirmed (confirmedReply (e .job) a b c)
+confirmation (first-is.Refused k) a b c = refusal k
+
+-- a case: a, b, c, whether there is a row, and the row
+abbrev pub ofCase : case.Reply → Answer
+ofCase (case-is.Found x) = numbers (x .a ∷ x .b ∷ x .c ∷ rowNumbers (x .row))
+ofCase (case-is.Refused k) = refusal k
+
+-- the generator's function on a job and its random words: the reply is one that the promise allows, which is one alone
+pub record EntryGenerated (e : Entry) (before after : List ℕ) (n : ℕ) : Type 0 where
+  pub reply : case.Reply
+  pub replied : generator.Replied (e .job) (e .r1) (e .r2) reply
+  pub handed : Handed (ofCase reply) before after n
+
+-- the same on a record
+abbrev pub Generated : first.First → List ℕ → List ℕ → ℕ → Type 0
+Generated first-is.End = Handed (refusal cause.cut)
+Generated (first-is.Job e n) = EntryGenerated e
+Generated (first-is.Refused k) = Handed (refusal k)
+
+-- a whole-number case: x, y, z, carries
+abbrev pub ofWhole : whole.Reply → Answer
+ofWhole (whole-is.Found c) = numbers (c .x ∷ c .y ∷ c .z ∷ c .carries ∷ [])
+ofWhole (whole-is.Refused k) = refusal k
+
+-- the whole-number generator's function
+pub record WholeGenerated (j : whole-job.Job) (before after : List ℕ) (n : ℕ) : Type 0 where
+  pub reply : whole.Reply
+  pub replied : whole-generator.Replied j reply
+  pub handed : Handed (ofWhole reply) before after n
