@@ -1,0 +1,190 @@
+//! What takes a job file: reading, confirmation and the case generator.
+
+use second::arith::Adder;
+use second::choice::{free_bits, generate, Job};
+use second::fits::{confirm, Case};
+use second::format::{Refusal, CUT_SHORT};
+use second::random::Random;
+use second::record::{encode, read, Reply};
+use second::sample::{job, numbers, pair};
+use second::table::Table;
+use vindacsor::buffer;
+
+use crate::call::{self, compare, Tally};
+use crate::damage::{damage_file, damaged_word};
+
+/// The job that a function which wants one takes from a file.
+fn job_in(file: &[u8]) -> Result<Job, Refusal> {
+    match read(file).0 {
+        Reply::End => Err(CUT_SHORT),
+        Reply::Job(job) => Ok(job),
+        Reply::Refused(number) => Err(number),
+    }
+}
+
+/// The record of a job that is not refused with 1 to 6.
+fn record(job: &Job) -> Vec<u8> {
+    encode(job).expect("a well-made job")
+}
+
+/// A job of any format; about `care` of 8 bits are fixed in the masks of a and b.
+fn any_job(random: &mut Random, care: u64) -> Job {
+    let numbers = numbers(random);
+    job(random, numbers, care)
+}
+
+/// The numbers of a case.
+fn case_numbers(case: Case) -> Vec<u64> {
+    let [flag, row] = case.row.map_or([0, 0], |row| [1, row]);
+    vec![case.a, case.b, case.c, flag, row]
+}
+
+/// One to three records, damaged but for one file in eight; some files are random bytes.
+pub fn damaged_file(random: &mut Random) -> Vec<u8> {
+    if random.one_in(16) {
+        let length = random.below(64);
+        return (0..length).map(|_| random.bits(8) as u8).collect();
+    }
+    let mut file = Vec::new();
+    for _ in 0..1 + random.below(3) {
+        file.extend(record(&any_job(random, 4)));
+    }
+    if !random.one_in(8) {
+        damage_file(random, &mut file);
+    }
+    file
+}
+
+/// Reading, on `count` files, each to its end or its first refusal.
+pub fn readings(random: &mut Random, count: u64) -> Result<Tally, String> {
+    let mut tally = Tally::default();
+    for _ in 0..count {
+        let file = damaged_file(random);
+        let mut rest = &file[..];
+        loop {
+            let (first, after) = read(rest);
+            let reply: call::Reply = match first {
+                Reply::Refused(number) => Err(number),
+                _ => Ok(vec![(rest.len() - after.len()) as u64]),
+            };
+            let call = |out: &mut [u8]| buffer::read(rest, out);
+            compare(random, &mut tally, &reply, call, || {
+                format!("reading {rest:02x?}")
+            })?;
+            if !matches!(first, Reply::Job(_)) {
+                break;
+            }
+            rest = after;
+        }
+    }
+    Ok(tally)
+}
+
+/// A proposed case: one that the masks were made around where it can be had, or any.
+fn proposed(random: &mut Random, job: &Job, adder: &Adder) -> [u64; 3] {
+    let width = adder.format.width();
+    let masks = &job.conditions;
+    let (mut a, mut b) = pair(random, adder.format);
+    if !random.one_in(4) {
+        a = a & !masks.a.care | masks.a.value;
+        b = b & !masks.b.care | masks.b.value;
+    }
+    let mut case = [a, b, adder.result(a, b)];
+    if random.one_in(8) {
+        let at = random.below(3) as usize;
+        case[at] = damaged_word(random, case[at], width);
+    } else if random.one_in(4) {
+        case[2] ^= 1 << random.below(u64::from(width));
+    }
+    case
+}
+
+/// Confirmation, on `count` calls.
+pub fn confirmations(random: &mut Random, count: u64) -> Result<Tally, String> {
+    let mut tally = Tally::default();
+    for _ in 0..count {
+        let care = random.below(3);
+        let mut job = any_job(random, care);
+        if random.one_in(2) {
+            job.conditions.carries = second::mask::Mask::FREE;
+        }
+        let adder = job.check().expect("a well-made job");
+        let [a, b, c] = proposed(random, &job, &adder);
+        // Every second job asks of c only what this case has.
+        if random.one_in(2) {
+            job.conditions.c.value = c & job.conditions.c.care;
+        }
+        let mut file = record(&job);
+        if random.one_in(8) {
+            damage_file(random, &mut file);
+        }
+        let reply = job_in(&file)
+            .and_then(|job| confirm(&job.conditions, a, b, c))
+            .map(|fits| vec![u64::from(fits)]);
+        let call = |out: &mut [u8]| buffer::confirm(&file, a, b, c, out);
+        let asked = || format!("confirming {a:x} {b:x} {c:x} for {file:02x?}");
+        compare(random, &mut tally, &reply, call, asked)?;
+    }
+    Ok(tally)
+}
+
+/// The generator on the job of a file, held against `wanted`.
+fn generation(
+    random: &mut Random,
+    tally: &mut Tally,
+    file: &[u8],
+    wanted: Result<Case, Refusal>,
+) -> Result<(), String> {
+    let reply = wanted.map(case_numbers);
+    let call = |out: &mut [u8]| buffer::generate(file, out);
+    compare(random, tally, &reply, call, || {
+        format!("the case for {file:02x?}")
+    })
+}
+
+/// The generator in every format of at most `WIDTH` bits, each operation and mode, with `each`
+/// jobs for each of them.
+pub fn small_generations(random: &mut Random, each: u64) -> Result<Tally, String> {
+    const WIDTH: u64 = 8;
+    let mut tally = Tally::default();
+    for (w, f) in (2..WIDTH).flat_map(|w| (2..WIDTH).map(move |f| (w, f))) {
+        if w + f + 1 > WIDTH {
+            continue;
+        }
+        for [operation, mode] in (0..8).map(|n| [n / 4, n % 4]) {
+            let adder = Adder::new(w, f, operation, mode).expect("within the limits");
+            let table = Table::new(adder).expect("a small format");
+            for _ in 0..each {
+                let care = random.below(6);
+                let job = job(random, [w, f, operation, mode], care);
+                generation(random, &mut tally, &record(&job), table.generate(&job))?;
+            }
+        }
+    }
+    Ok(tally)
+}
+
+/// The generator on `count` jobs of any format whose masks leave few bits free, and on damaged
+/// files.
+pub fn wide_generations(random: &mut Random, count: u64) -> Result<Tally, String> {
+    const FREE: u32 = 10;
+    let mut tally = Tally::default();
+    while tally.calls() < count {
+        let mut file = record(&any_job(random, 7));
+        if random.one_in(8) {
+            damage_file(random, &mut file);
+        }
+        let wanted = match job_in(&file) {
+            Err(number) => Err(number),
+            Ok(job) => {
+                let adder = job.check().expect("a job that was read");
+                if free_bits(&job.conditions, &adder) > FREE {
+                    continue;
+                }
+                generate(&job)
+            }
+        };
+        generation(random, &mut tally, &file, wanted)?;
+    }
+    Ok(tally)
+}

@@ -1,0 +1,70 @@
+//! Compares every function of the proved static library with the second implementation, on
+//! numbers and bytes that are valid and damaged. `compare [SEED]` prints the seed and a line of
+//! counts for each function, and ends with status 1 at the first unlike reply.
+
+use std::process::ExitCode;
+use std::time::Instant;
+
+use compare::call::Tally;
+use compare::{files, numbers, whole};
+use second::random::{seed, Random};
+
+const SEED: u64 = 0x5EED;
+
+type Part = fn(&mut Random, u64) -> Result<Tally, String>;
+
+/// Each part with how many calls, files or jobs it makes.
+const PARTS: [(&str, Part, u64); 8] = [
+    ("rounded result", numbers::results, 4_000_000),
+    ("carry row", numbers::rows, 4_000_000),
+    ("joining", numbers::joinings, 200_000),
+    ("reading", files::readings, 200_000),
+    ("confirmation", files::confirmations, 200_000),
+    // 80 adders of at most eight bits, so 40,000 jobs.
+    ("generator, small formats", files::small_generations, 500),
+    (
+        "generator, any format, few bits free",
+        files::wide_generations,
+        20_000,
+    ),
+    ("whole numbers", whole::generations, 40_000),
+];
+
+fn run(seed: u64) -> Result<(), String> {
+    println!("seed {seed:#x}");
+    let mut calls = 0;
+    for (name, part, count) in PARTS {
+        let start = Instant::now();
+        // Each part has its own sequence, so that a part can change alone.
+        let mut random = Random::new(seed ^ u64::from_le_bytes(first_eight(name)));
+        let tally = part(&mut random, count)?;
+        calls += tally.calls();
+        println!(
+            "{} ({:.1} s)",
+            tally.line(name),
+            start.elapsed().as_secs_f64()
+        );
+    }
+    println!("{calls} calls, all alike");
+    Ok(())
+}
+
+/// The first eight bytes of a name, with zeros after a shorter one.
+fn first_eight(name: &str) -> [u8; 8] {
+    std::array::from_fn(|i| name.as_bytes().get(i).copied().unwrap_or(0))
+}
+
+fn main() -> ExitCode {
+    let given = std::env::args().nth(1);
+    let Some(seed) = seed(given.as_deref(), SEED) else {
+        eprintln!("usage: compare [SEED]");
+        return ExitCode::from(2);
+    };
+    match run(seed) {
+        Ok(()) => ExitCode::SUCCESS,
+        Err(unlike) => {
+            println!("unlike: {unlike}");
+            ExitCode::FAILURE
+        }
+    }
+}

@@ -1,0 +1,97 @@
+//! The whole-number generator.
+
+use second::mask::Mask;
+use second::random::Random;
+use second::whole::{generate_whole, WholeCase, WholeJob};
+use vindacsor::buffer;
+
+use crate::call::{compare, Tally};
+use crate::damage::{damaged_number, damaged_word};
+use crate::numbers::given;
+
+/// The most bits of x and y together that a job leaves free: the second implementation tries
+/// them all.
+const FREE: u32 = 11;
+
+/// A mask that a word meets, with about `care` of 8 bits fixed.
+fn around(random: &mut Random, word: u64, width: u32, care: u64) -> Mask {
+    let bits = (0..width).filter(|_| random.below(8) < care);
+    let care = bits.map(|i| 1 << i).sum();
+    Mask {
+        care,
+        value: word & care,
+    }
+}
+
+/// A job whose masks are made around a true case; in one of two a fixed bit is turned.
+fn job(random: &mut Random) -> WholeJob {
+    let n = 1 + random.below(32) as u32;
+    let case = WholeCase::of(n, random.bits(n), random.bits(n), random.below(2));
+    let care = if n < 6 { random.below(8) } else { 7 };
+    let (care_z, care_carries) = (random.below(9), random.below(5));
+    let mut job = WholeJob {
+        n: u64::from(n),
+        x: around(random, case.x, n, care),
+        y: around(random, case.y, n, care),
+        z: around(random, case.z, n, care_z),
+        carries: around(random, case.carries, n + 1, care_carries),
+        words: [0; 3].map(|_: u64| random.bits(n)),
+    };
+    if random.one_in(2) {
+        let bit = 1 << random.below(u64::from(n) + 1);
+        job.z.value ^= bit & job.z.care;
+        job.carries.value ^= bit & job.carries.care;
+    }
+    if random.one_in(8) {
+        damage(random, &mut job, n);
+    }
+    job
+}
+
+fn damage(random: &mut Random, job: &mut WholeJob, n: u32) {
+    match random.below(4) {
+        0 => job.n = damaged_number(random, 33),
+        1 => job.words[random.below(3) as usize] = damaged_word(random, 0, n),
+        2 => job.carries.care = damaged_word(random, job.carries.care, n + 1),
+        _ => {
+            let mask = match random.below(4) {
+                0 => &mut job.x,
+                1 => &mut job.y,
+                2 => &mut job.z,
+                _ => &mut job.carries,
+            };
+            mask.value |= 1 << random.below(64);
+        }
+    }
+}
+
+/// Whether the second implementation answers the job at once.
+fn is_quick(job: &WholeJob) -> bool {
+    job.check()
+        .map_or(true, |n| job.x.free_bits(n) + job.y.free_bits(n) <= FREE)
+}
+
+/// Whole numbers, on `count` jobs.
+pub fn generations(random: &mut Random, count: u64) -> Result<Tally, String> {
+    let mut tally = Tally::default();
+    while tally.calls() < count {
+        let job = job(random);
+        if !is_quick(&job) {
+            continue;
+        }
+        let reply = generate_whole(&job).map(|case| vec![case.x, case.y, case.z, case.carries]);
+        let asked = vindacsor::WholeJob {
+            length: job.n,
+            x: given(job.x),
+            y: given(job.y),
+            z: given(job.z),
+            carries: given(job.carries),
+            words: job.words,
+        };
+        let call = |out: &mut [u8]| buffer::whole(&asked, out);
+        compare(random, &mut tally, &reply, call, || {
+            format!("whole numbers {job:x?}")
+        })?;
+    }
+    Ok(tally)
+}

@@ -1,0 +1,24 @@
+//! The case of document 01's first job for two pairs of random words, and a job with no case.
+//! Run it with `cargo run --offline --manifest-path ffi/Cargo.toml --example case`.
+
+/// Format 3/4, add, mode 0; a 0100x101, b 001x1011, c 010xx10x.
+const MASKS: [u8; 24] = [
+    0xF7, 0, 0, 0, 0x45, 0, 0, 0, 0xEF, 0, 0, 0, 0x2B, 0, 0, 0, 0xE6, 0, 0, 0, 0x44, 0, 0, 0,
+];
+
+/// A job record: the map byte, the header, the masks and the fields after them.
+fn record(map: u8, fields: &[u8]) -> Vec<u8> {
+    [&[map, 3, 4, 0], &MASKS[..], fields].concat()
+}
+
+fn main() {
+    let no_words = record(0x07, &[]);
+    let words = record(0x27, &[0x4D, 0, 0, 0, 0, 0, 0, 0]);
+    let carry_1 = record(0x0F, &[2, 0, 0, 0, 2, 0, 0, 0]);
+    for job in [no_words, words, carry_1] {
+        match vindacsor::generate(&job) {
+            Ok(case) => println!("{case:x?}"),
+            Err(refusal) => println!("{refusal:?}"),
+        }
+    }
+}

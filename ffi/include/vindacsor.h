@@ -1,0 +1,106 @@
+/* Vindacsor: a proved generator of test cases for floating-point adders.
+ *
+ * Link with libvindacsor.a, which `rt staticlib vindacsor` writes. Document 01 names the
+ * formats, operations, modes, masks, job records and refusals that stand here.
+ *
+ * Every function returns the number of the refusal, 0 for none, and writes the numbers of its
+ * answer to the front of out, which has out_length bytes, each number as eight bytes, low byte
+ * first. Where the answer does not fit, the function returns VINDACSOR_BUFFER; this comes after
+ * all other refusals. On every refusal out is as it was, and otherwise the bytes after the
+ * answer are. Any numbers and any bytes may be given. A pointer is to as many bytes as the
+ * length after it says, and is not null even where that is 0; out must not overlap a file.
+ *
+ * w is 2 to 8 exponent bits, f is 2 to 23 fraction bits; a word has w + f + 1 bits: the sign,
+ * the exponent field and the fraction, from the top. operation is 0 to add and 1 to subtract.
+ * mode is 0 nearest with ties to even, 1 toward zero, 2 up, 3 down. A mask is two words: care,
+ * with a 1 for each fixed bit, and value, with the fixed bits.
+ */
+#ifndef VINDACSOR_H
+#define VINDACSOR_H
+
+#include <stddef.h>
+#include <stdint.h>
+
+#ifdef __cplusplus
+extern "C" {
+#endif
+
+/* The refusals. */
+enum {
+    VINDACSOR_EXPONENT_BITS = 1, /* w below 2 or above 8 */
+    VINDACSOR_FRACTION_BITS = 2, /* f below 2 or above 23 */
+    VINDACSOR_OPERATION = 3,     /* operation above 1 */
+    VINDACSOR_MODE = 4,          /* mode above 3 */
+    VINDACSOR_MASK = 5,          /* mask bit above its width, or value outside care */
+    VINDACSOR_WORD = 6,          /* operand, proposed or random word too wide */
+    VINDACSOR_NO_CASE = 7,       /* no case fits */
+    VINDACSOR_CUT = 8,           /* record cut short, or no byte where a record is wanted */
+    VINDACSOR_MAP = 9,           /* map bit 6 or 7 set */
+    VINDACSOR_DEFAULT = 10,      /* field that says its default */
+    VINDACSOR_BUFFER = 11,       /* out too short */
+    VINDACSOR_LENGTH = 12,       /* length outside 1 to 32 */
+    VINDACSOR_CLASH = 13         /* two masks fix one bit unlike */
+};
+
+/* The bytes of each answer. */
+enum {
+    VINDACSOR_RESULT_BYTES = 8,
+    VINDACSOR_ROW_BYTES = 16,
+    VINDACSOR_JOIN_BYTES = 16,
+    VINDACSOR_READ_BYTES = 8,
+    VINDACSOR_CONFIRM_BYTES = 8,
+    VINDACSOR_GENERATE_BYTES = 40,
+    VINDACSOR_WHOLE_BYTES = 32
+};
+
+/* The rounded sum or difference of the words a and b.
+ * Answer: the word c. Refusals: 1, 2, 3, 4, 6, 11. */
+uint64_t vindacsor_result(uint64_t w, uint64_t f, uint64_t operation, uint64_t mode,
+                          uint64_t a, uint64_t b, uint8_t *out, size_t out_length);
+
+/* The carry row of the words a and b, f + 1 bits.
+ * Answer: 1 and the row, or 0 and 0 where an operand is infinite or a NaN.
+ * Refusals: 1, 2, 3, 6, 11. */
+uint64_t vindacsor_row(uint64_t w, uint64_t f, uint64_t operation,
+                       uint64_t a, uint64_t b, uint8_t *out, size_t out_length);
+
+/* The mask that fixes what either of two masks fixes.
+ * Answer: care, value. Refusals: 5 (value outside care), 13, 11. */
+uint64_t vindacsor_join(uint64_t care, uint64_t value, uint64_t care2, uint64_t value2,
+                        uint8_t *out, size_t out_length);
+
+/* What stands first in a job file.
+ * Answer: the length in bytes of the job record that stands there, 0 where no byte is left.
+ * Refusals: 9, 8, 1 to 6, 10, 11. */
+uint64_t vindacsor_read(const uint8_t *file, size_t file_length,
+                        uint8_t *out, size_t out_length);
+
+/* Whether the case a, b, c fits the job whose record stands first in a file.
+ * Answer: 1 or 0. Refusals: those of reading, with 8 for no byte at all, then 6, 11. */
+uint64_t vindacsor_confirm(const uint8_t *file, size_t file_length,
+                           uint64_t a, uint64_t b, uint64_t c,
+                           uint8_t *out, size_t out_length);
+
+/* The case that the random words choose for the job whose record stands first in a file.
+ * Answer: a, b, c, then 1 and the carry row, or 0 and 0 where there is none.
+ * Refusals: those of reading, with 8 for no byte at all, then 7 where no case fits, 11. */
+uint64_t vindacsor_generate(const uint8_t *file, size_t file_length,
+                            uint8_t *out, size_t out_length);
+
+/* The whole-number case of a length of 1 to 32 bits, chosen by three random words:
+ * x + y + (carry in) = z + 2^length * (carry out). The carry mask has length + 1 bits; bit i of
+ * the carries goes into position i.
+ * Answer: x, y, z, carries. Refusals: 12, 5, 6, 7, 11. */
+uint64_t vindacsor_whole(uint64_t length,
+                         uint64_t x_care, uint64_t x_value,
+                         uint64_t y_care, uint64_t y_value,
+                         uint64_t z_care, uint64_t z_value,
+                         uint64_t carries_care, uint64_t carries_value,
+                         uint64_t r1, uint64_t r2, uint64_t r3,
+                         uint8_t *out, size_t out_length);
+
+#ifdef __cplusplus
+}
+#endif
+
+#endif

@@ -1,0 +1,173 @@
+//! Vindacsor for Rust: the proved functions of `libvindacsor.a`, which `rt staticlib vindacsor`
+//! writes, behind safe ones. Document 01 names the formats, operations, modes, masks, job
+//! records and refusals. [`buffer`] has the functions as the library has them.
+//!
+//! w is 2 to 8 exponent bits and f is 2 to 23 fraction bits. Operation 0 adds and 1 subtracts.
+//! Mode 0 is nearest with ties to even, 1 toward zero, 2 up, 3 down.
+
+pub mod buffer;
+
+/// The number of a refusal, 1 to 13.
+#[derive(Clone, Copy, Debug, PartialEq, Eq)]
+pub struct Refusal(pub u64);
+
+/// Which bits are fixed (`care`), and to what (`value`).
+#[derive(Clone, Copy, Debug, Default, PartialEq, Eq)]
+pub struct Mask {
+    pub care: u64,
+    pub value: u64,
+}
+
+/// Operands, their rounded result, and their carry row where there is one.
+#[derive(Clone, Copy, Debug, PartialEq, Eq)]
+pub struct Case {
+    pub a: u64,
+    pub b: u64,
+    pub c: u64,
+    pub row: Option<u64>,
+}
+
+/// A job of the whole-number generator: the length in bits, 1 to 32, the masks of x, y, z and
+/// the carries, and a random word for each of x, y and z.
+#[derive(Clone, Copy, Debug, Default, PartialEq, Eq)]
+pub struct WholeJob {
+    pub length: u64,
+    pub x: Mask,
+    pub y: Mask,
+    pub z: Mask,
+    pub carries: Mask,
+    pub words: [u64; 3],
+}
+
+/// x + y + (carry in) = z + 2^length × (carry out). Bit i of the carries goes into position i.
+#[derive(Clone, Copy, Debug, PartialEq, Eq)]
+pub struct WholeCase {
+    pub x: u64,
+    pub y: u64,
+    pub z: u64,
+    pub carries: u64,
+}
+
+/// The most numbers that an answer has.
+const MOST: usize = 5;
+
+/// The numbers that a function writes, or the refusal that it returns.
+fn answer(call: impl FnOnce(&mut [u8]) -> u64) -> Result<[u64; MOST], Refusal> {
+    let mut bytes = [0; 8 * MOST];
+    match call(&mut bytes) {
+        0 => Ok(std::array::from_fn(|i| number(&bytes[8 * i..8 * i + 8]))),
+        refusal => Err(Refusal(refusal)),
+    }
+}
+
+fn number(bytes: &[u8]) -> u64 {
+    u64::from_le_bytes(bytes.try_into().expect("eight bytes"))
+}
+
+fn row_in(flag: u64, row: u64) -> Option<u64> {
+    (flag == 1).then_some(row)
+}
+
+/// The rounded sum or difference of two words. Refuses with 1, 2, 3, 4, 6.
+pub fn result(w: u64, f: u64, operation: u64, mode: u64, a: u64, b: u64) -> Result<u64, Refusal> {
+    Ok(answer(|out| buffer::result(w, f, operation, mode, a, b, out))?[0])
+}
+
+/// The carry row of two words; none where one is infinite or a NaN. Refuses with 1, 2, 3, 6.
+pub fn row(w: u64, f: u64, operation: u64, a: u64, b: u64) -> Result<Option<u64>, Refusal> {
+    let numbers = answer(|out| buffer::row(w, f, operation, a, b, out))?;
+    Ok(row_in(numbers[0], numbers[1]))
+}
+
+/// The mask that fixes what either of two fixes. Refuses with 5 for a value outside its care,
+/// then with 13 where the two fix one bit unlike.
+pub fn join(one: Mask, other: Mask) -> Result<Mask, Refusal> {
+    let [care, value, ..] = answer(|out| buffer::join(one, other, out))?;
+    Ok(Mask { care, value })
+}
+
+/// The length of the job record that stands first in a file; none where no byte is left.
+/// Refuses with 9, 8, 1 to 6, 10.
+pub fn read(file: &[u8]) -> Result<Option<usize>, Refusal> {
+    let length = answer(|out| buffer::read(file, out))?[0];
+    Ok((length != 0).then_some(length as usize))
+}
+
+/// Whether a case fits the job whose record stands first in a file. Refuses as [`read`] does,
+/// with 8 for no byte at all, then with 6 for a word that is too wide.
+pub fn confirm(file: &[u8], a: u64, b: u64, c: u64) -> Result<bool, Refusal> {
+    Ok(answer(|out| buffer::confirm(file, a, b, c, out))?[0] == 1)
+}
+
+/// The case that the random words choose for the job whose record stands first in a file.
+/// Refuses as [`read`] does, with 8 for no byte at all, then with 7 where no case fits.
+pub fn generate(file: &[u8]) -> Result<Case, Refusal> {
+    let [a, b, c, flag, row] = answer(|out| buffer::generate(file, out))?;
+    Ok(Case {
+        a,
+        b,
+        c,
+        row: row_in(flag, row),
+    })
+}
+
+/// The whole-number case that the random words choose. Refuses with 12, 5, 6, 7.
+pub fn whole(job: &WholeJob) -> Result<WholeCase, Refusal> {
+    let [x, y, z, carries, _] = answer(|out| buffer::whole(job, out))?;
+    Ok(WholeCase { x, y, z, carries })
+}
+
+#[cfg(test)]
+mod tests {
+    use super::*;
+
+    /// The job of document 01's case 1.
+    const CASE_1: [u8; 28] = [
+        0x07, 3, 4, 0, 0xF7, 0, 0, 0, 0x45, 0, 0, 0, 0xEF, 0, 0, 0, 0x2B, 0, 0, 0, 0xE6, 0, 0, 0,
+        0x44, 0, 0, 0,
+    ];
+
+    #[test]
+    fn cases_of_the_document() {
+        assert_eq!(result(3, 4, 0, 0, 0x45, 0x2B), Ok(0x4C));
+        assert_eq!(row(3, 4, 0, 0x45, 0x2B), Ok(Some(0x04)));
+        assert_eq!(row(3, 4, 1, 0x70, 0x70), Ok(None));
+        assert_eq!(read(&CASE_1), Ok(Some(28)));
+        assert_eq!(read(&[]), Ok(None));
+        assert_eq!(read(&CASE_1[..27]), Err(Refusal(8)));
+        assert_eq!(confirm(&CASE_1, 0x4D, 0x3B, 0x55), Ok(true));
+        assert_eq!(confirm(&CASE_1, 0x4D, 0x2B, 0x55), Ok(false));
+        let found = Case {
+            a: 0x45,
+            b: 0x2B,
+            c: 0x4C,
+            row: Some(0x04),
+        };
+        assert_eq!(generate(&CASE_1), Ok(found));
+        assert_eq!(generate(&[]), Err(Refusal(8)));
+    }
+
+    #[test]
+    fn whole_numbers_and_joining() {
+        let fixed = |value| Mask { care: 3, value };
+        let job = WholeJob {
+            length: 2,
+            x: fixed(3),
+            y: fixed(1),
+            carries: Mask { care: 1, value: 0 },
+            ..WholeJob::default()
+        };
+        let case = WholeCase {
+            x: 3,
+            y: 1,
+            z: 0,
+            carries: 6,
+        };
+        assert_eq!(whole(&job), Ok(case));
+        assert_eq!(join(fixed(1), fixed(3)), Err(Refusal(13)));
+        assert_eq!(
+            join(fixed(1), Mask { care: 4, value: 4 }),
+            Ok(Mask { care: 7, value: 5 })
+        );
+    }
+}
