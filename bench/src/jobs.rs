@@ -1,0 +1,172 @@
+//! The jobs that are timed. The seed decides all of them.
+
+use second::arith::Adder;
+use second::choice::Job;
+use second::fits::{Case, Conditions};
+use second::mask::Mask;
+use second::random::Random;
+use second::record::encode;
+use second::sample::pair;
+use second::whole::WholeCase;
+use vindacsor::WholeJob;
+
+/// How the masks of a job are made.
+#[derive(Clone, Copy)]
+pub enum Kind {
+    /// Around a true case, with about this many of 16 bits fixed in each mask; the carries' too
+    /// where that is said.
+    Fixed { of_16: u64, carries: bool },
+    /// All fractions fixed at random, exponents and signs free, and no case.
+    Impossible,
+    /// Document 01's case 13: only signs are fixed, and there is no case.
+    Signs,
+}
+
+pub const KINDS: [(&str, Kind); 6] = [
+    ("sparse (1/16 of the bits fixed)", fixed(1)),
+    ("half fixed", fixed(8)),
+    ("dense (7/8 fixed)", fixed(14)),
+    ("impossible (all fractions fixed)", Kind::Impossible),
+    ("impossible (case 13: + and + give -)", Kind::Signs),
+    (
+        "half fixed, carries too",
+        Kind::Fixed {
+            of_16: 8,
+            carries: true,
+        },
+    ),
+];
+
+const fn fixed(of_16: u64) -> Kind {
+    Kind::Fixed {
+        of_16,
+        carries: false,
+    }
+}
+
+impl Kind {
+    /// Whether z3 is asked too: it is given no carry masks.
+    pub fn has_carries(self) -> bool {
+        matches!(self, Kind::Fixed { carries: true, .. })
+    }
+}
+
+/// A care word with about `of_16` of 16 bits.
+fn care(random: &mut Random, width: u32, of_16: u64) -> u64 {
+    (0..width)
+        .filter(|_| random.below(16) < of_16)
+        .map(|i| 1 << i)
+        .sum()
+}
+
+fn mask(word: u64, care: u64) -> Mask {
+    Mask {
+        care,
+        value: word & care,
+    }
+}
+
+/// A job of a format with any operation and mode, of a kind. One that is to be impossible may
+/// have a case: `jobs` leaves such out.
+fn job(random: &mut Random, (w, f): (u64, u64), kind: Kind) -> Job {
+    let operation = match kind {
+        Kind::Signs => 0,
+        _ => random.below(2),
+    };
+    let adder = Adder::new(w, f, operation, random.below(4)).expect("within the limits");
+    let (width, precision) = (adder.format.width(), adder.format.precision());
+    let mut conditions = Conditions::free(w, f, operation, adder.mode as u64);
+    match kind {
+        Kind::Fixed { of_16, carries } => {
+            let (a, b) = pair(random, adder.format);
+            let case = Case::of(&adder, a, b);
+            conditions.a = mask(case.a, care(random, width, of_16));
+            conditions.b = mask(case.b, care(random, width, of_16));
+            conditions.c = mask(case.c, care(random, width, of_16));
+            if let (true, Some(row)) = (carries, case.row) {
+                conditions.carries = mask(row, care(random, precision, of_16));
+            }
+        }
+        Kind::Impossible => {
+            let fraction = (1 << adder.format.fraction_bits()) - 1;
+            for mask_of in [&mut conditions.a, &mut conditions.b, &mut conditions.c] {
+                *mask_of = mask(random.word(), fraction);
+            }
+        }
+        Kind::Signs => {
+            let sign = adder.format.sign_bit();
+            conditions.a = mask(0, sign);
+            conditions.b = mask(0, sign);
+            conditions.c = mask(sign, sign);
+        }
+    }
+    let words = [random.bits(width), random.bits(width)];
+    Job { conditions, words }
+}
+
+/// A job with its record.
+pub struct Recorded {
+    pub job: Job,
+    pub record: Vec<u8>,
+}
+
+/// `count` jobs of a kind, and how many draws were left out because they had a case.
+pub fn jobs(
+    random: &mut Random,
+    format: (u64, u64),
+    kind: Kind,
+    count: usize,
+) -> (Vec<Recorded>, u64) {
+    let (mut kept, mut left_out) = (Vec::new(), 0);
+    while kept.len() < count {
+        let job = job(random, format, kind);
+        let record = encode(&job).expect("a well-made job");
+        if matches!(kind, Kind::Impossible) && vindacsor::generate(&record).is_ok() {
+            left_out += 1;
+        } else {
+            kept.push(Recorded { job, record });
+        }
+    }
+    (kept, left_out)
+}
+
+/// `count` whole-number jobs of 32 bits around true cases. Where `possible` does not hold, bits
+/// of z are turned until there is no case.
+pub fn whole_jobs(random: &mut Random, of_16: u64, possible: bool, count: usize) -> Vec<WholeJob> {
+    let mut kept = Vec::new();
+    while kept.len() < count {
+        let mut job = whole_job(random, of_16);
+        if !possible {
+            job.z.value ^= random.bits(32) & job.z.care;
+        }
+        if vindacsor::whole(&job).is_ok() == possible {
+            kept.push(job);
+        }
+    }
+    kept
+}
+
+fn whole_job(random: &mut Random, of_16: u64) -> WholeJob {
+    const LENGTH: u32 = 32;
+    let case = WholeCase::of(
+        LENGTH,
+        random.bits(LENGTH),
+        random.bits(LENGTH),
+        random.below(2),
+    );
+    let mut masked = |word, width| {
+        let m = mask(word, care(random, width, of_16));
+        vindacsor::Mask {
+            care: m.care,
+            value: m.value,
+        }
+    };
+    WholeJob {
+        length: u64::from(LENGTH),
+        x: masked(case.x, LENGTH),
+        y: masked(case.y, LENGTH),
+        z: masked(case.z, LENGTH),
+        carries: masked(case.carries, LENGTH + 1),
+        words: [0; 3].map(|_: u64| random.bits(LENGTH)),
+    }
+}

@@ -1,0 +1,197 @@
+//! Times of the proved generators per job, and of z3 on the same jobs where it is installed.
+//!
+//! `bench [--seed N] [--jobs N] [--limit SECONDS] [--write]`: at least one job of each kind, 40
+//! by default; z3 may spend the limit on a job, 20 seconds by default; `--write` writes what is
+//! printed to docs/SPEED.md.
+
+mod jobs;
+mod report;
+mod solver;
+mod times;
+
+use std::process::ExitCode;
+use std::time::Duration;
+
+use jobs::{Kind, Recorded, KINDS};
+use second::random::{seed, Random};
+use solver::{Said, Solver};
+use times::{least, Times};
+
+const SEED: u64 = 0xB3AC4;
+/// The stack of the thread on which every job runs.
+const STACK: usize = 64 * 1024;
+
+struct Options {
+    seed: u64,
+    jobs: usize,
+    limit: Duration,
+    write: bool,
+}
+
+fn options() -> Option<Options> {
+    let mut options = Options {
+        seed: SEED,
+        jobs: 40,
+        limit: Duration::from_secs(20),
+        write: false,
+    };
+    let mut words = std::env::args().skip(1);
+    while let Some(word) = words.next() {
+        match word.as_str() {
+            "--seed" => options.seed = seed(Some(&words.next()?), SEED)?,
+            "--jobs" => options.jobs = words.next()?.parse().ok().filter(|&jobs| jobs > 0)?,
+            "--limit" => options.limit = Duration::from_secs(words.next()?.parse().ok()?),
+            "--write" => options.write = true,
+            _ => return None,
+        }
+    }
+    Some(options)
+}
+
+/// What z3 did with the jobs of one kind.
+pub struct Other {
+    pub times: Times,
+    pub over_limit: usize,
+    pub alike: usize,
+}
+
+/// The times of the jobs of one kind.
+pub struct Row {
+    pub name: String,
+    pub jobs: usize,
+    pub left_out: u64,
+    pub times: Times,
+    pub other: Option<Other>,
+}
+
+/// Times z3 on the jobs and holds its answers against the generator's. An unlike answer is an
+/// error.
+fn ask_other(solver: &mut Solver, jobs: &[Recorded]) -> Result<Other, String> {
+    let (mut times, mut over_limit, mut alike) = (Vec::new(), 0, 0);
+    for Recorded { job, record } in jobs {
+        let found = vindacsor::generate(record);
+        let (said, time) = solver
+            .ask(job, found.is_ok())
+            .map_err(|error| format!("z3: {error}"))?;
+        times.push(time);
+        match (said, found) {
+            (Said::Nothing, _) => over_limit += 1,
+            (Said::None, Err(_)) => alike += 1,
+            (Said::Case(a, b), Ok(case)) if (a, b) == (case.a, case.b) => alike += 1,
+            (said, found) => {
+                return Err(format!(
+                    "unlike: z3 {said:x?}, generator {found:x?}, job {job:x?}"
+                ))
+            }
+        }
+    }
+    Ok(Other {
+        times: Times::of(times),
+        over_limit,
+        alike,
+    })
+}
+
+fn row(
+    random: &mut Random,
+    solver: &mut Option<Solver>,
+    (format, format_name): ((u64, u64), &str),
+    (kind, kind_name): (Kind, &str),
+    count: usize,
+) -> Result<Row, String> {
+    let (jobs, left_out) = jobs::jobs(random, format, kind, count);
+    let times = jobs
+        .iter()
+        .map(|job| least(|| vindacsor::generate(&job.record)))
+        .collect();
+    let other = match solver {
+        Some(solver) if !kind.has_carries() => Some(ask_other(solver, &jobs)?),
+        _ => None,
+    };
+    Ok(Row {
+        name: format!("{format_name}, {kind_name}"),
+        jobs: count,
+        left_out,
+        times: Times::of(times),
+        other,
+    })
+}
+
+fn whole_row(random: &mut Random, of_16: u64, possible: bool, name: &str, count: usize) -> Row {
+    let jobs = jobs::whole_jobs(random, of_16, possible, count);
+    let times = jobs
+        .iter()
+        .map(|job| least(|| vindacsor::whole(job)))
+        .collect();
+    Row {
+        name: format!("whole numbers (32 bits), {name}"),
+        jobs: count,
+        left_out: 0,
+        times: Times::of(times),
+        other: None,
+    }
+}
+
+fn run(options: &Options) -> Result<String, String> {
+    let version = solver::version();
+    let mut solver = match version {
+        Some(_) => Some(Solver::start(options.limit).map_err(|error| format!("z3: {error}"))?),
+        None => None,
+    };
+    let mut random = Random::new(options.seed);
+    let mut rows = Vec::new();
+    for format in [
+        ((5, 10), "half precision (5/10)"),
+        ((8, 23), "single precision (8/23)"),
+    ] {
+        for (name, kind) in KINDS {
+            rows.push(row(
+                &mut random,
+                &mut solver,
+                format,
+                (kind, name),
+                options.jobs,
+            )?);
+        }
+    }
+    for (of_16, possible, name) in [
+        (1, true, "sparse"),
+        (8, true, "half fixed"),
+        (14, true, "dense"),
+        (8, false, "impossible, half fixed"),
+    ] {
+        rows.push(whole_row(&mut random, of_16, possible, name, options.jobs));
+    }
+    Ok(report::report(
+        options.seed,
+        options.limit,
+        version.as_deref(),
+        &rows,
+    ))
+}
+
+fn main() -> ExitCode {
+    let Some(options) = options() else {
+        eprintln!("usage: bench [--seed N] [--jobs N] [--limit SECONDS] [--write]");
+        return ExitCode::from(2);
+    };
+    let write = options.write;
+    let thread = std::thread::Builder::new().stack_size(STACK);
+    let done = thread.spawn(move || run(&options)).expect("a thread");
+    let text = match done.join().expect("no panic") {
+        Ok(text) => text,
+        Err(error) => {
+            println!("{error}");
+            return ExitCode::FAILURE;
+        }
+    };
+    print!("{text}");
+    if write {
+        let path = std::path::Path::new(env!("CARGO_MANIFEST_DIR")).join("../docs/SPEED.md");
+        if let Err(error) = std::fs::write(path, text) {
+            eprintln!("docs/SPEED.md: {error}");
+            return ExitCode::FAILURE;
+        }
+    }
+    ExitCode::SUCCESS
+}

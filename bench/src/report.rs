@@ -1,0 +1,123 @@
+//! The report: what docs/SPEED.md holds.
+
+use std::time::Duration;
+
+use crate::times::{ratio, text, RUNS};
+use crate::{Row, STACK};
+
+/// The whole report.
+pub fn report(seed: u64, limit: Duration, version: Option<&str>, rows: &[Row]) -> String {
+    let compared: Vec<&Row> = rows.iter().filter(|row| row.other.is_some()).collect();
+    let mut parts = vec!["# Speed\n".to_string()];
+    match version {
+        Some(version) => {
+            parts.push(headline(&compared));
+            parts.push(comparison(version, limit, &compared));
+        }
+        None => parts.push("z3 was not installed, so there is no comparison.\n".to_string()),
+    }
+    parts.push(own(rows));
+    parts.push(conditions(seed, rows));
+    parts.join("\n")
+}
+
+/// The ratio first: its range over the kinds that have no case, and over the others.
+fn headline(compared: &[&Row]) -> String {
+    let range = |impossible: bool| {
+        let mut ratios: Vec<f64> = compared
+            .iter()
+            .filter(|row| row.name.contains("impossible") == impossible)
+            .filter_map(|row| Some(ratio(row.other.as_ref()?.times.median, row.times.median)))
+            .collect();
+        ratios.sort_by(f64::total_cmp);
+        let text = |at: Option<&f64>| at.map_or("-".to_string(), |ratio| plain(*ratio));
+        format!("{} to {}", text(ratios.first()), text(ratios.last()))
+    };
+    format!(
+        "**Ratio of medians, z3's time by the generator's: {} where it is decided that there is no \
+         case, {} where the smallest case is found.**\n",
+        range(true),
+        range(false)
+    )
+}
+
+/// A ratio with a digit after the point where it is small.
+fn plain(ratio: f64) -> String {
+    let digits = usize::from(ratio < 10.0);
+    format!("{ratio:.digits$}")
+}
+
+fn comparison(version: &str, limit: Duration, compared: &[&Row]) -> String {
+    let mut table = format!(
+        "## Beside z3\n\n\
+         {version}. It is started once and asked over its standard input, so its start is not in \
+         the times. A job is three bit vectors under the masks, with c the IEEE 754 sum or \
+         difference (fp.add, fp.sub) in the job's mode and the one NaN. Of a job with a case z3's \
+         optimizer is asked for the smallest a exclusive-or the first random word, then b with the \
+         second; of an impossible one whether it has a case (QF_BVFP). These jobs have no carry \
+         mask. A job may take z3 {} s; one that hits the limit counts with that time. Every answer \
+         that z3 gave is the generator's.\n\n\
+         | Ratio of medians | Jobs | z3 median | z3 mean | z3 largest | over the limit | answers alike | generator median |\n\
+         |---|---|---|---|---|---|---|---|\n",
+        limit.as_secs()
+    );
+    for row in compared {
+        let Some(other) = &row.other else { continue };
+        table += &format!(
+            "| {} | {} | {} | {} | {} | {} |\n",
+            plain(ratio(other.times.median, row.times.median)),
+            row.name,
+            other.times.columns(),
+            other.over_limit,
+            other.alike,
+            text(row.times.median)
+        );
+    }
+    table
+}
+
+fn own(rows: &[Row]) -> String {
+    let mut table =
+        "## The generators\n\n| Jobs | count | median | mean | largest |\n|---|---|---|---|---|\n"
+            .to_string();
+    for row in rows {
+        table += &format!(
+            "| {} | {} | {} |\n",
+            row.name,
+            row.jobs,
+            row.times.columns()
+        );
+    }
+    table
+}
+
+fn conditions(seed: u64, rows: &[Row]) -> String {
+    let left_out: u64 = rows.iter().map(|row| row.left_out).sum();
+    format!(
+        "## How it was measured\n\n\
+         `rt staticlib vindacsor`, then `cargo run --release --offline --manifest-path \
+         bench/Cargo.toml -- --write`, on {}. Seed {seed:#x}. Each job is run {RUNS} times and the \
+         least time counts; the operation and the mode of each are random. Masks are made around a \
+         true case, but those of impossible jobs, of which {left_out} were drawn again because they \
+         had a case. All jobs ran on a thread with a stack of {} KiB. That no job takes longer than \
+         the largest here is not shown.\n",
+        machine(),
+        STACK / 1024
+    )
+}
+
+/// The processor's name where the system tells it, and how many of them there are.
+fn machine() -> String {
+    let count = std::thread::available_parallelism().map_or(1, usize::from);
+    let name = std::fs::read_to_string("/proc/cpuinfo")
+        .ok()
+        .and_then(|text| {
+            let line = text.lines().find(|line| line.starts_with("model name"))?;
+            Some(line.split_once(':')?.1.trim().to_string())
+        });
+    format!(
+        "{} of {}",
+        count,
+        name.unwrap_or_else(|| "an unnamed processor".to_string())
+    )
+}

@@ -1,0 +1,165 @@
+//! z3, run once and asked many jobs over its standard input, so that its start is not timed.
+//! A job is a and b as bit vectors with c the floating-point sum, under the masks. Of a job that
+//! has a case the smallest a exclusive-or the first random word is asked for, then b with the
+//! second, by z3's optimizer; of an impossible one only whether it has a case.
+
+use std::io::{BufRead, BufReader, Write};
+use std::process::{Child, ChildStdin, Command, Stdio};
+use std::sync::mpsc::{channel, Receiver};
+use std::thread;
+use std::time::{Duration, Instant};
+
+use second::choice::Job;
+use second::format::Format;
+use second::mask::Mask;
+
+/// What z3 said of a job.
+#[derive(Debug, PartialEq, Eq)]
+pub enum Said {
+    Case(u64, u64),
+    None,
+    Nothing,
+}
+
+pub struct Solver {
+    process: Child,
+    input: ChildStdin,
+    lines: Receiver<String>,
+    limit: Duration,
+}
+
+/// z3's version, where it is installed.
+pub fn version() -> Option<String> {
+    let output = Command::new("z3").arg("--version").output().ok()?;
+    Some(String::from_utf8_lossy(&output.stdout).trim().to_string())
+}
+
+impl Solver {
+    /// Starts z3, which is to spend no more than the limit on a job.
+    pub fn start(limit: Duration) -> std::io::Result<Solver> {
+        let mut process = Command::new("z3")
+            .arg("-in")
+            .stdin(Stdio::piped())
+            .stdout(Stdio::piped())
+            .spawn()?;
+        let input = process.stdin.take().expect("a pipe");
+        let output = BufReader::new(process.stdout.take().expect("a pipe"));
+        let (sender, lines) = channel();
+        thread::spawn(move || {
+            for line in output.lines().map_while(Result::ok) {
+                if sender.send(line).is_err() {
+                    break;
+                }
+            }
+        });
+        Ok(Solver {
+            process,
+            input,
+            lines,
+            limit,
+        })
+    }
+
+    /// What z3 says of a job, and how long it took; nothing where the limit was hit, after which
+    /// z3 is started anew.
+    pub fn ask(&mut self, job: &Job, has_case: bool) -> std::io::Result<(Said, Duration)> {
+        let script = script(job, has_case);
+        let start = Instant::now();
+        self.input.write_all(script.as_bytes())?;
+        self.input.flush()?;
+        let mut reply = String::new();
+        loop {
+            let left = self.limit.saturating_sub(start.elapsed());
+            match self.lines.recv_timeout(left) {
+                Ok(line) if line == END => return Ok((said(&reply), start.elapsed())),
+                Ok(line) => reply += &(line + " "),
+                Err(_) => {
+                    let time = start.elapsed();
+                    self.stop();
+                    *self = Solver::start(self.limit)?;
+                    return Ok((Said::Nothing, time));
+                }
+            }
+        }
+    }
+
+    fn stop(&mut self) {
+        // Either fails only where z3 has ended by itself.
+        let _ = self.process.kill();
+        let _ = self.process.wait();
+    }
+}
+
+impl Drop for Solver {
+    fn drop(&mut self) {
+        self.stop();
+    }
+}
+
+const END: &str = "end of job";
+
+fn literal(word: u64, width: u32) -> String {
+    format!("(_ bv{word} {width})")
+}
+
+fn meets(name: &str, mask: Mask, width: u32) -> String {
+    let [care, value] = [mask.care, mask.value].map(|word| literal(word, width));
+    format!("(assert (= (bvand {name} {care}) {value}))\n")
+}
+
+/// The job for z3: declarations, masks, the sum, the objectives and the question.
+fn script(job: &Job, has_case: bool) -> String {
+    let conditions = &job.conditions;
+    let format = Format::new(conditions.w, conditions.f).expect("within the limits");
+    let width = format.width();
+    let float = format!("{} {}", format.exponent_bits(), format.precision());
+    let operation = ["fp.add", "fp.sub"][conditions.operation as usize];
+    let mode = ["RNE", "RTZ", "RTP", "RTN"][conditions.mode as usize];
+    let mut script = String::from("(reset)\n");
+    if !has_case {
+        script += "(set-logic QF_BVFP)\n";
+    }
+    for (name, mask) in [
+        ("a", conditions.a),
+        ("b", conditions.b),
+        ("c", conditions.c),
+    ] {
+        script += &format!("(declare-const {name} (_ BitVec {width}))\n");
+        script += &meets(name, mask, width);
+    }
+    let nan = literal(format.nan(), width);
+    script += &format!(
+        "(define-fun s () (_ FloatingPoint {float}) \
+         ({operation} {mode} ((_ to_fp {float}) a) ((_ to_fp {float}) b)))\n\
+         (assert (= ((_ to_fp {float}) c) s))\n\
+         (assert (=> (fp.isNaN s) (= c {nan})))\n"
+    );
+    if has_case {
+        for (name, word) in [("a", job.words[0]), ("b", job.words[1])] {
+            let word = literal(word, width);
+            script += &format!("(minimize (bvxor {name} {word}))\n");
+        }
+    }
+    script += "(check-sat)\n";
+    if has_case {
+        script += "(get-value (a b))\n";
+    }
+    script + &format!("(echo \"{END}\")\n")
+}
+
+/// The reply's meaning: z3 writes words as `#x` and hexadecimal or `#b` and binary digits.
+fn said(reply: &str) -> Said {
+    let words: Vec<u64> = reply.split(['(', ')', ' ']).filter_map(word).collect();
+    match words[..] {
+        [a, b] if reply.starts_with("sat") => Said::Case(a, b),
+        _ if reply.starts_with("unsat") => Said::None,
+        _ => Said::Nothing,
+    }
+}
+
+fn word(text: &str) -> Option<u64> {
+    if let Some(digits) = text.strip_prefix("#x") {
+        return u64::from_str_radix(digits, 16).ok();
+    }
+    u64::from_str_radix(text.strip_prefix("#b")?, 2).ok()
+}

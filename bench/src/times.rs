@@ -1,0 +1,60 @@
+//! Times of jobs: taken, gathered and written.
+
+use std::hint::black_box;
+use std::time::{Duration, Instant};
+
+/// How often each job is run; the least time counts.
+pub const RUNS: u32 = 3;
+
+/// The least time of a few runs of a call, whose reply is kept from being optimised away.
+pub fn least<R>(call: impl Fn() -> R) -> Duration {
+    let time = |_| {
+        let start = Instant::now();
+        black_box(call());
+        start.elapsed()
+    };
+    (0..RUNS).map(time).min().expect("some runs")
+}
+
+/// The median, mean and largest of some times.
+pub struct Times {
+    pub median: Duration,
+    pub mean: Duration,
+    pub largest: Duration,
+}
+
+impl Times {
+    /// The times of at least one job.
+    pub fn of(mut times: Vec<Duration>) -> Times {
+        times.sort();
+        let (low, high) = ((times.len() - 1) / 2, times.len() / 2);
+        Times {
+            median: (times[low] + times[high]) / 2,
+            mean: times.iter().sum::<Duration>() / times.len() as u32,
+            largest: times[times.len() - 1],
+        }
+    }
+
+    /// Three columns of a table.
+    pub fn columns(&self) -> String {
+        [self.median, self.mean, self.largest].map(text).join(" | ")
+    }
+}
+
+/// A time with three digits.
+pub fn text(time: Duration) -> String {
+    let nanoseconds = time.as_nanos() as f64;
+    let (number, unit) = match nanoseconds {
+        n if n < 1e3 => (n, "ns"),
+        n if n < 1e6 => (n / 1e3, "µs"),
+        n if n < 1e9 => (n / 1e6, "ms"),
+        n => (n / 1e9, "s"),
+    };
+    let digits = usize::from(number < 100.0) + usize::from(number < 10.0);
+    format!("{number:.digits$} {unit}")
+}
+
+/// How many times longer the first is.
+pub fn ratio(long: Duration, short: Duration) -> f64 {
+    long.as_secs_f64() / short.as_secs_f64()
+}
