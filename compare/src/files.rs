@@ -23,7 +23,7 @@ fn job_in(file: &[u8]) -> Result<Job, Refusal> {
 }
 
 /// The record of a job that is not refused with 1 to 6.
-fn record(job: &Job) -> Vec<u8> {
+pub fn record(job: &Job) -> Vec<u8> {
     encode(job).expect("a well-made job")
 }
 
