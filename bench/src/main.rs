@@ -1,8 +1,9 @@
 //! Times of the proved generators per job, and of z3 on the same jobs where it is installed.
 //!
-//! `bench [--seed N] [--jobs N] [--limit SECONDS] [--write]`: at least one job of each kind, 40
-//! by default; z3 may spend the limit on a job, 20 seconds by default; `--write` writes what is
-//! printed to docs/SPEED.md.
+//! `bench [--seed N] [--jobs N] [--limit SECONDS] [--stack KIB] [--write]`: at least one job of
+//! each kind, 40 by default; z3 may spend the limit on a job, 20 seconds by default; every job
+//! runs on a thread with a stack of so many KiB, 1024 by default; `--write` writes what is printed
+//! to docs/SPEED.md.
 
 mod jobs;
 mod report;
@@ -18,13 +19,13 @@ use solver::{Said, Solver};
 use times::{least, Times};
 
 const SEED: u64 = 0xB3AC4;
-/// The stack of the thread on which every job runs.
-const STACK: usize = 64 * 1024;
 
-struct Options {
-    seed: u64,
+pub struct Options {
+    pub seed: u64,
     jobs: usize,
-    limit: Duration,
+    pub limit: Duration,
+    /// The stack of the thread on which every job runs, in KiB.
+    pub stack: usize,
     write: bool,
 }
 
@@ -33,6 +34,7 @@ fn options() -> Option<Options> {
         seed: SEED,
         jobs: 40,
         limit: Duration::from_secs(20),
+        stack: 1024,
         write: false,
     };
     let mut words = std::env::args().skip(1);
@@ -41,6 +43,7 @@ fn options() -> Option<Options> {
             "--seed" => options.seed = seed(Some(&words.next()?), SEED)?,
             "--jobs" => options.jobs = words.next()?.parse().ok().filter(|&jobs| jobs > 0)?,
             "--limit" => options.limit = Duration::from_secs(words.next()?.parse().ok()?),
+            "--stack" => options.stack = words.next()?.parse().ok()?,
             "--write" => options.write = true,
             _ => return None,
         }
@@ -51,7 +54,7 @@ fn options() -> Option<Options> {
 /// What z3 did with the jobs of one kind.
 pub struct Other {
     pub times: Times,
-    pub over_limit: usize,
+    pub unanswered: usize,
     pub alike: usize,
 }
 
@@ -67,7 +70,7 @@ pub struct Row {
 /// Times z3 on the jobs and holds its answers against the generator's. An unlike answer is an
 /// error.
 fn ask_other(solver: &mut Solver, jobs: &[Recorded]) -> Result<Other, String> {
-    let (mut times, mut over_limit, mut alike) = (Vec::new(), 0, 0);
+    let (mut times, mut unanswered, mut alike) = (Vec::new(), 0, 0);
     for Recorded { job, record } in jobs {
         let found = vindacsor::generate(record);
         let (said, time) = solver
@@ -75,7 +78,7 @@ fn ask_other(solver: &mut Solver, jobs: &[Recorded]) -> Result<Other, String> {
             .map_err(|error| format!("z3: {error}"))?;
         times.push(time);
         match (said, found) {
-            (Said::Nothing, _) => over_limit += 1,
+            (Said::Nothing, _) => unanswered += 1,
             (Said::None, Err(_)) => alike += 1,
             (Said::Case(a, b), Ok(case)) if (a, b) == (case.a, case.b) => alike += 1,
             (said, found) => {
@@ -87,7 +90,7 @@ fn ask_other(solver: &mut Solver, jobs: &[Recorded]) -> Result<Other, String> {
     }
     Ok(Other {
         times: Times::of(times),
-        over_limit,
+        unanswered,
         alike,
     })
 }
@@ -162,21 +165,16 @@ fn run(options: &Options) -> Result<String, String> {
     ] {
         rows.push(whole_row(&mut random, of_16, possible, name, options.jobs));
     }
-    Ok(report::report(
-        options.seed,
-        options.limit,
-        version.as_deref(),
-        &rows,
-    ))
+    Ok(report::report(options, version.as_deref(), &rows))
 }
 
 fn main() -> ExitCode {
     let Some(options) = options() else {
-        eprintln!("usage: bench [--seed N] [--jobs N] [--limit SECONDS] [--write]");
+        eprintln!("usage: bench [--seed N] [--jobs N] [--limit SECONDS] [--stack KIB] [--write]");
         return ExitCode::from(2);
     };
     let write = options.write;
-    let thread = std::thread::Builder::new().stack_size(STACK);
+    let thread = std::thread::Builder::new().stack_size(1024 * options.stack);
     let done = thread.spawn(move || run(&options)).expect("a thread");
     let text = match done.join().expect("no panic") {
         Ok(text) => text,

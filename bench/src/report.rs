@@ -1,23 +1,21 @@
 //! The report: what docs/SPEED.md holds.
 
-use std::time::Duration;
-
 use crate::times::{ratio, text, RUNS};
-use crate::{Row, STACK};
+use crate::{Options, Row};
 
 /// The whole report.
-pub fn report(seed: u64, limit: Duration, version: Option<&str>, rows: &[Row]) -> String {
+pub fn report(options: &Options, version: Option<&str>, rows: &[Row]) -> String {
     let compared: Vec<&Row> = rows.iter().filter(|row| row.other.is_some()).collect();
     let mut parts = vec!["# Speed\n".to_string()];
     match version {
         Some(version) => {
             parts.push(headline(&compared));
-            parts.push(comparison(version, limit, &compared));
+            parts.push(comparison(version, options, &compared));
         }
         None => parts.push("z3 was not installed, so there is no comparison.\n".to_string()),
     }
     parts.push(own(rows));
-    parts.push(conditions(seed, rows));
+    parts.push(conditions(options, rows));
     parts.join("\n")
 }
 
@@ -47,7 +45,7 @@ fn plain(ratio: f64) -> String {
     format!("{ratio:.digits$}")
 }
 
-fn comparison(version: &str, limit: Duration, compared: &[&Row]) -> String {
+fn comparison(version: &str, options: &Options, compared: &[&Row]) -> String {
     let mut table = format!(
         "## Beside z3\n\n\
          {version}. It is started once and asked over its standard input, so its start is not in \
@@ -57,9 +55,9 @@ fn comparison(version: &str, limit: Duration, compared: &[&Row]) -> String {
          second; of an impossible one whether it has a case (QF_BVFP). These jobs have no carry \
          mask. A job may take z3 {} s; one that hits the limit counts with that time. Every answer \
          that z3 gave is the generator's.\n\n\
-         | Ratio of medians | Jobs | z3 median | z3 mean | z3 largest | over the limit | answers alike | generator median |\n\
+         | Ratio of medians | Jobs | z3 median | z3 mean | z3 largest | no answer | answers alike | generator median |\n\
          |---|---|---|---|---|---|---|---|\n",
-        limit.as_secs()
+        options.limit.as_secs()
     );
     for row in compared {
         let Some(other) = &row.other else { continue };
@@ -68,7 +66,7 @@ fn comparison(version: &str, limit: Duration, compared: &[&Row]) -> String {
             plain(ratio(other.times.median, row.times.median)),
             row.name,
             other.times.columns(),
-            other.over_limit,
+            other.unanswered,
             other.alike,
             text(row.times.median)
         );
@@ -91,18 +89,19 @@ fn own(rows: &[Row]) -> String {
     table
 }
 
-fn conditions(seed: u64, rows: &[Row]) -> String {
+fn conditions(options: &Options, rows: &[Row]) -> String {
     let left_out: u64 = rows.iter().map(|row| row.left_out).sum();
     format!(
         "## How it was measured\n\n\
          `rt staticlib vindacsor`, then `cargo run --release --offline --manifest-path \
-         bench/Cargo.toml -- --write`, on {}. Seed {seed:#x}. Each job is run {RUNS} times and the \
+         bench/Cargo.toml -- --write`, on {}. Seed {:#x}. Each job is run {RUNS} times and the \
          least time counts; the operation and the mode of each are random. Masks are made around a \
          true case, but those of impossible jobs, of which {left_out} were drawn again because they \
          had a case. All jobs ran on a thread with a stack of {} KiB. That no job takes longer than \
          the largest here is not shown.\n",
         machine(),
-        STACK / 1024
+        options.seed,
+        options.stack
     )
 }
 
