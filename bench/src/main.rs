@@ -16,7 +16,7 @@ use std::time::Duration;
 use jobs::{Kind, Recorded, KINDS};
 use second::random::{seed, Random};
 use solver::{Said, Solver};
-use times::{least, Times};
+use times::{least, Times, RUNS};
 
 const SEED: u64 = 0xB3AC4;
 
@@ -74,7 +74,7 @@ fn ask_other(solver: &mut Solver, jobs: &[Recorded]) -> Result<Other, String> {
     for Recorded { job, record } in jobs {
         let found = vindacsor::generate(record);
         let (said, time) = solver
-            .ask(job, found.is_ok())
+            .ask_again(job, found.is_ok(), RUNS)
             .map_err(|error| format!("z3: {error}"))?;
         times.push(time);
         match (said, found) {

@@ -53,7 +53,7 @@ fn comparison(version: &str, options: &Options, compared: &[&Row]) -> String {
          difference (fp.add, fp.sub) in the job's mode and the one NaN. Of a job with a case z3's \
          optimizer is asked for the smallest a exclusive-or the first random word, then b with the \
          second; of an impossible one whether it has a case (QF_BVFP). These jobs have no carry \
-         mask. A job may take z3 {} s; one that hits the limit counts with that time. Every answer \
+         mask. A job may take z3 {} s; one that hits the limit counts with the time so far. Every answer \
          that z3 gave is the generator's.\n\n\
          | Ratio of medians | Jobs | z3 median | z3 mean | z3 largest | no answer | answers alike | generator median |\n\
          |---|---|---|---|---|---|---|---|\n",
@@ -94,8 +94,8 @@ fn conditions(options: &Options, rows: &[Row]) -> String {
     format!(
         "## How it was measured\n\n\
          `rt staticlib vindacsor`, then `cargo run --release --offline --manifest-path \
-         bench/Cargo.toml -- --write`, on {}. Seed {:#x}. Each job is run {RUNS} times and the \
-         least time counts; the operation and the mode of each are random. Masks are made around a \
+         bench/Cargo.toml -- --write`, on {}. Seed {:#x}. Each job is given {RUNS} times, to \
+         z3 as to the generator, and the least time counts; the operation and the mode of each are random. Masks are made around a \
          true case, but those of impossible jobs, of which {left_out} were drawn again because they \
          had a case. All jobs ran on a thread with a stack of {} KiB. That no job takes longer than \
          the largest here is not shown.\n",

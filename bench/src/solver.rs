@@ -60,9 +60,28 @@ impl Solver {
         })
     }
 
+    /// What z3 says of a job that it is asked `runs` times, and the least time; nothing where the
+    /// limit was hit once.
+    pub fn ask_again(
+        &mut self,
+        job: &Job,
+        has_case: bool,
+        runs: u32,
+    ) -> std::io::Result<(Said, Duration)> {
+        let (mut said, mut least) = self.ask(job, has_case)?;
+        for _ in 1..runs {
+            if said == Said::Nothing {
+                break;
+            }
+            let (again, time) = self.ask(job, has_case)?;
+            (said, least) = (again, least.min(time));
+        }
+        Ok((said, least))
+    }
+
     /// What z3 says of a job, and how long it took; nothing where the limit was hit, after which
     /// z3 is started anew.
-    pub fn ask(&mut self, job: &Job, has_case: bool) -> std::io::Result<(Said, Duration)> {
+    fn ask(&mut self, job: &Job, has_case: bool) -> std::io::Result<(Said, Duration)> {
         let script = script(job, has_case);
         let start = Instant::now();
         self.input.write_all(script.as_bytes())?;
