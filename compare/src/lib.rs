@@ -5,4 +5,5 @@ pub mod call;
 pub mod damage;
 pub mod files;
 pub mod numbers;
+pub mod program;
 pub mod whole;
