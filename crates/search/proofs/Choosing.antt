@@ -1,6 +1,6 @@
 -- Two walks, one for each operand, end at the chosen pair: the first settles a, the second b among the cases with that a. Assumes nothing.
 use mathlib.Core.Path.{_≡_, refl, sym, ap, subst}
-use Prim.Native.Nat.{ℕ, _≤_}
+use Prim.Native.Nat.{ℕ, _≤_, _<_}
 use native.Mathlib.Nat.{le-refl}
 use native.Mathlib.Omega.{arith}
 use Rattle.format.specs.declared.Format.{Format}
@@ -9,15 +9,27 @@ use Rattle.columns.specs.Choice.{Closest, ClosestPair}
 use Rattle.columns.proofs.Closest.{closest-cong}
 use Rattle.columns.proofs.Pair.{First, pair-of}
 use Rattle.job.specs.declared.Job.{Job}
+use Rattle.adder.specs.Word.{biased}
 use Rattle.fit.specs.Fit.{Fits}
 use Rattle.search.specs.declared.Role.{Role}
 use Rattle.search.specs.declared.Role.the-variants.{A, B}
 use Rattle.search.specs.Left.{Fitting, Ready}
-use Rattle.search.specs.Walk.{Open, Has, Settled}
+use Rattle.search.specs.Walk.{NoneBelow, Open, Has, Settled}
 
 -- before a walk every bit is open
 pub all-open : (j : Job) (role : Role) (width : ℕ) → Ready j → width ≡ wordBits (j .format) → Open j role width
 all-open j role width ready e = record { ready = ready; most = omega arith; settled = λ i l h. absurd (omega arith) }
+
+-- and no case that the first walk leaves has a row that none had
+pub settled-none : (j : Job) (word : ℕ) (t : Job) (n : ℕ) → Settled j A word t → NoneBelow j n → NoneBelow t n
+settled-none j word t n q none d e h p = none d e h (record {
+  a = p .a;
+  b = p .b;
+  c = p .c;
+  fits = q .same (p .a) (p .b) (p .c) .0 (p .fits) .0;
+  a-exponent = subst (λ (F : Format). biased F (p .a) .0 ≡ d) (q .format) (p .a-exponent);
+  b-exponent = subst (λ (F : Format). biased F (p .b) .0 ≡ e) (q .format) (p .b-exponent);
+})
 
 module _ (j : Job) (r1 r2 : ℕ) (t u : Job) (qa : Settled j A r1 t) (qb : Settled t B r2 u) where
   a-closest : Closest (First (Fitting j)) r1 (t .a .value)

@@ -1,19 +1,24 @@
 -- A case is left exactly where some pair of exponent fields admits one: the operands of a fitting case have exponent fields below 2^w, and
 -- these meet the masks on them. Assumes nothing.
-use mathlib.Core.Path.{_≡_, refl, subst}
-use Prim.Native.Nat.{ℕ, _/_, _%_, _^_, _<_}
-use native.Mathlib.Nat.{mod-lt}
-use lib.Pow.{pow-pos}
+use mathlib.Core.Path.{_≡_, refl, sym, ap, _∙_, subst}
+use mathlib.Core.Bool.{Bool, true}
+use mathlib.Core.Logic.{_↔_}
+use Prim.Native.Nat.{ℕ, _/_, _%_, _^_, _≤_, _<_}
+use native.Mathlib.Nat.{mod-lt, mod-eq-of-lt}
+use native.Mathlib.Omega.{arith}
+use lib.Pow.{pow-pos, pow-lt}
 use Rattle.format.specs.declared.Format.{Format}
 use Rattle.format.specs.Format.{wordBits}
 use Rattle.mask.specs.declared.Mask.{Mask}
-use Rattle.mask.specs.Mask.{WellFormed, Meets}
+use Rattle.mask.specs.Mask.{WellFormed, Meets, meets}
+use Rattle.mask.proofs.Checks.{meets-true}
 use Rattle.mask.proofs.ByParts.{meets-fields}
 use Rattle.job.specs.declared.Job.{Job}
 use Rattle.job.specs.Job.{Valid}
 use Rattle.adder.specs.Word.{biased}
 use Rattle.pair.specs.Asked.{Asked, PairFits, exponentMask}
 use Rattle.search.specs.Left.{Left}
+use Rattle.search.specs.Walk.{FirstRow}
 
 -- the exponent field of a word is below 2^w
 field-lt : (F : Format) (x : ℕ) → biased F x .0 < 2 ^ F .w
@@ -41,3 +46,18 @@ pub none-left : (j : Job) → ((ea eb : ℕ) → ea < 2 ^ j .format .w → eb < 
 none-left j none p =
     none (biased (j .format) (p .a) .0) (biased (j .format) (p .b) .0) (field-lt (j .format) (p .a)) (field-lt (j .format) (p .b))
     (record { a = p .a; b = p .b; c = p .c; fits = p .fits; a-exponent = refl; b-exponent = refl })
+
+-- the test of an exponent field against its mask
+pub tested : (F : Format) (m : Mask) (e : ℕ) {m′ : Mask} {t : Bool} → m′ ≡ exponentMask F m → t ≡ meets e m′ → (t ≡ true) ↔ Meets e (exponentMask F m)
+tested F m e is q =
+    let law = meets-true e (exponentMask F m) in
+    let same = q ∙ ap (meets e) is in
+    (λ h. law .0 (sym same ∙ h), λ h. same ∙ law .1 h)
+
+-- the number of exponent fields is that of the format
+pub count-is : (j : Job) (count : ℕ) → Valid j → count ≡ 2 ^ j .format .w % 2 ^ 64 → count ≡ 2 ^ j .format .w
+count-is j count v e = e ∙ mod-eq-of-lt (pow-lt {i = j .format .w} {j = 64} (omega (arith, v .format .w-most)))
+
+-- no row that is a pair's has a case left
+pub row-none : (j : Job) (row : ℕ) → FirstRow j row → 2 ^ j .format .w ≤ row → Left j → ⊥
+row-none j row first past = none-left j (λ d e hd he p. first .none d e (omega arith) p)

@@ -7,6 +7,7 @@ use Rattle.mask.specs.Mask.{WellFormed, Meets}
 use Rattle.job.specs.declared.Job.{Job}
 use Rattle.job.specs.Job.{Valid}
 use Rattle.fit.specs.Fit.{Fits}
+use Rattle.pair.specs.Asked.{PairFits}
 use Rattle.search.specs.declared.Role.{Role}
 use Rattle.search.specs.declared.Role.the-variants.{A, B}
 use Rattle.search.specs.Role.{operand, maskOf, withMask}
@@ -57,3 +58,10 @@ with-back B j m = refl
 pub fits-back : (j : Job) (a b c : ℕ) (role : Role) (m : Mask) → Fits (withMask role j m) a b c → Meets (operand role a b) (maskOf role j) → Fits j a b c
 fits-back j a b c role m f e =
     subst (λ (t : Job). Fits t a b c) (with-back role j m) (fits-with (withMask role j m) a b c role (maskOf role j) f e)
+
+-- a pair that admits a case of the job with the mask replaced, where each such case fits the job
+pub pair-back : (j : Job) (role : Role) (m : Mask) → ((a b c : ℕ) → Fits (withMask role j m) a b c → Fits j a b c) → (d e : ℕ) → PairFits (withMask role j m) d e → PairFits j d e
+pair-back j A m back d e p =
+    record { a = p .a; b = p .b; c = p .c; fits = back (p .a) (p .b) (p .c) (p .fits); a-exponent = p .a-exponent; b-exponent = p .b-exponent }
+pair-back j B m back d e p =
+    record { a = p .a; b = p .b; c = p .c; fits = back (p .a) (p .b) (p .c) (p .fits); a-exponent = p .a-exponent; b-exponent = p .b-exponent }

@@ -25,8 +25,9 @@ use Rattle.search.specs.declared.Role.{Role}
 use Rattle.search.specs.declared.Role.the-variants.{A, B}
 use Rattle.search.specs.Role.{operand, maskOf, withMask}
 use Rattle.search.specs.Left.{Left, Ready}
-use Rattle.search.specs.Walk.{Open, Has, Settled}
-use Rattle.search.proofs.Roles.{mask-with, format-with, valid-own, valid-with, operand-lt, fits-own, fits-with, fits-mask, fits-back}
+use Rattle.search.specs.Walk.{NoneBelow, FirstRow, Open, Started, Has, Settled}
+use Rattle.search.proofs.Roles.{mask-with, format-with, valid-own, valid-with, operand-lt, fits-own, fits-with, fits-mask, fits-back, pair-back}
+use Rattle.search.proofs.Pairs.{row-none}
 
 -- a mask that fixes the bits from position k on, put in the place of the operand's
 open-with : (j : Job) (k : ℕ) (m : Mask) (role : Role) → Ready (withMask role j m) → k ≤ wordBits (j .format)
@@ -114,6 +115,11 @@ module _ (j : Job) (role : Role) where
       λ p. fits-with j a b c role (fix (maskOf role j) k v) (p .0) (met .same (operand role a b) .1 (fits-own j a b c role (p .0), p .1)),
     )
 
+    -- fixing more never gains a case
+    next-none : (s : ℕ) → NoneBelow j s → NoneBelow next s
+    next-none s none d e h p =
+        none d e h (pair-back j role (fix (maskOf role j) k v) (λ a b c f. next-fits a b c .0 f .0) d e p)
+
     -- and so for the operands that are left
     next-narrows : Narrowed (Has j role) (Has next role) k v
     next-narrows = record { is = met .is; same = λ y. (to y, from y); why = why (met .why) }
@@ -167,9 +173,30 @@ module _ (j : Job) (role : Role) (n : ℕ) (o : Open j role n) (h : n ≡ 0 → 
     v-lt : v < 2
     v-lt = omega (arith, bit-lt word (n - 1))
 
+    pub tried-valid : Valid t
+    tried-valid = subst Valid (sym is) (next-valid j role (n - 1) v below v-lt)
+
+    pub tried-none : (s : ℕ) → NoneBelow j s → NoneBelow t s
+    tried-none s none = subst (λ (u : Job). NoneBelow u s) (sym is) (next-none j role (n - 1) v below v-lt s none)
+
+    tried-format : t .format ≡ j .format
+    tried-format = ap (λ (u : Job). u .format) is ∙ format-with role j (fix (maskOf role j) (n - 1) v)
+
     pub tried-open : Ready t → Open t role (n - 1)
     tried-open ready =
         subst (λ (u : Job). Open u role (n - 1)) (sym is) (next-open j role (n - 1) v below v-lt (subst Left is (ready .left)))
+
+    -- the row that was found starts the walk below
+    pub tried-started : (row : ℕ) → FirstRow t row → row < 2 ^ j .format .w → Started t role (n - 1) row
+    tried-started row first h = record {
+      top = tried-open (record { valid = tried-valid; left = first .left (subst (λ (F : Format). row < 2 ^ F .w) (sym tried-format) h) });
+      none = first .none;
+    }
+
+    -- past the last row no case is left
+    pub tried-past : (row : ℕ) → FirstRow t row → 2 ^ j .format .w ≤ row → Ready t → ⊥
+    tried-past row first past ready =
+        row-none t row first (subst (λ (F : Format). 2 ^ F .w ≤ row) (sym tried-format) past) (ready .left)
 
     pub tried-settled : (u : Job) → Settled t role word u → Settled j role word u
     tried-settled u q =
@@ -195,8 +222,11 @@ module _ (j : Job) (role : Role) (n : ℕ) (o : Open j role n) (h : n ≡ 0 → 
           let kept = narrowed-all (Has j role) (Has (next j role (n - 1) (1 - v) below w-lt) role) (n - 1) (1 - v) (next-narrows j role (n - 1) (1 - v) below w-lt) other (operand role (p .a) (p .b)) (record { a = p .a; b = p .b; c = p .c; fits = p .fits; is = refl }) in
           record { a = kept .a; b = kept .b; c = kept .c; fits = kept .fits }
 
-      pub other-open : Open t′ role (n - 1)
-      other-open = subst (λ (u : Job). Open u role (n - 1)) (sym is′) (next-open j role (n - 1) (1 - v) below w-lt still)
+      pub other-started : (s : ℕ) → NoneBelow j s → Started t′ role (n - 1) s
+      other-started s none = record {
+        top = subst (λ (u : Job). Open u role (n - 1)) (sym is′) (next-open j role (n - 1) (1 - v) below w-lt still);
+        none = subst (λ (u : Job). NoneBelow u s) (sym is′) (next-none j role (n - 1) (1 - v) below w-lt s none);
+      }
 
       pub other-settled : (u : Job) → Settled t′ role word u → Settled j role word u
       other-settled u q =

@@ -2,22 +2,37 @@
 -- still open). Nothing here is needed to read the choice. Assumes nothing.
 use mathlib.Core.Path.{_≡_}
 use mathlib.Core.Logic.{_↔_}
-use Prim.Native.Nat.{ℕ, _≤_, _<_}
+use Prim.Native.Nat.{ℕ, _^_, _≤_, _<_}
 use Rattle.bits.specs.Bit.{bit}
 use Rattle.format.specs.declared.Format.{Format}
 use Rattle.format.specs.Format.{wordBits}
 use Rattle.columns.specs.Choice.{Closest}
 use Rattle.job.specs.declared.Job.{Job}
 use Rattle.fit.specs.Fit.{Fits}
+use Rattle.pair.specs.Asked.{PairFits}
 use Rattle.search.specs.declared.Role.{Role}
 use Rattle.search.specs.Role.{operand, maskOf}
-use Rattle.search.specs.Left.{Ready}
+use Rattle.search.specs.Left.{Left, Ready}
 
 -- a case is left, and the operand's bits from position k on are fixed
 pub record Open (j : Job) (role : Role) (k : ℕ) : Type 0 where
   pub ready : Ready j
   pub most : k ≤ wordBits (j .format)
   pub settled : (i : ℕ) → k ≤ i → i < wordBits (j .format) → bit (maskOf role j .care) i ≡ 1
+
+-- no pair of exponent fields of which a's is below n admits a case
+abbrev pub NoneBelow : Job → ℕ → Type 0
+NoneBelow j n = (d e : ℕ) → d < n → PairFits j d e → ⊥
+
+-- r is the first exponent field of a that a case left has, or one past them all
+pub record FirstRow (j : Job) (r : ℕ) : Type 0 where
+  pub none : NoneBelow j r
+  pub left : r < 2 ^ j .format .w → Left j
+
+-- and no case left has an exponent field of a below n
+pub record Started (j : Job) (role : Role) (k n : ℕ) : Type 0 where
+  pub top : Open j role k
+  pub none : NoneBelow j n
 
 -- v is the operand of a fitting case
 pub record Has (j : Job) (role : Role) (v : ℕ) : Type 0 where

@@ -10,10 +10,11 @@ use pair::pair_admits;
 ghost use mathlib.Core.Path.{_≡_};
 ghost use mathlib.Core.Bool.{true};
 ghost use mathlib.Core.Logic.{_↔_};
-ghost use Prim.Native.Nat.{_^_, _<_};
+ghost use Prim.Native.Nat.{ℕ, _^_, _<_};
 ghost use Rattle.job.specs.Job.{Valid};
 ghost use Rattle.pair.specs.Asked.{PairFits};
-ghost use Rattle.search.specs.Left.{Left, Ready};
+ghost use Rattle.search.specs.Left.{Ready};
+ghost use Rattle.search.specs.Walk.{NoneBelow, FirstRow};
 ghost use Rattle.search.specs.Choice.{Chosen};
 
 // Which operand is chosen.
@@ -47,15 +48,28 @@ fn admits(job: Job, ea: u64, eb: u64) -> bool
     false
 }
 
-// Whether a case is left: the loops are left at the first pair of exponent fields that admits one.
-fn some_pair(job: Job) -> bool
+// Where a row of pairs begins: at its first pair, or past its last one where the exponent field of a does not meet its mask.
+fn row_start(job: Job, ea: u64, count: u64) -> u64
     requires { ⌜ Valid job ⌝ }
-    ensures { λ r. ⌜ (r ≡ true) ↔ Left job ⌝ }
+    ensures { λ r. ⌜ ((e : ℕ) → e < r → PairFits job ea e → ⊥) ⌝ }
+{
+    if meets(exponent_mask(job.format, job.a), ea) {
+        0
+    } else {
+        count
+    }
+}
+
+// The first exponent field of a that some case left has, or one past them all. Those below `start` are known to have none. The loops are
+// left at the first pair of exponent fields that admits a case.
+pub(crate) fn first_row(job: Job, start: u64) -> u64
+    requires { ⌜ Valid job × NoneBelow job start ⌝ }
+    ensures { λ r. ⌜ FirstRow job r ⌝ }
 {
     let count = power(job.format.w);
-    let mut ea = 0;
+    let mut ea = start;
     'pairs: while ea < count {
-        let mut eb = 0;
+        let mut eb = row_start(job, ea, count);
         while eb < count {
             if admits(job, ea, eb) {
                 break 'pairs;
@@ -64,7 +78,7 @@ fn some_pair(job: Job) -> bool
         }
         ea += 1;
     }
-    ea < count
+    ea
 }
 
 // Whether the job is valid and a case is left.
@@ -74,17 +88,21 @@ pub fn case_left(job: Job) -> bool
     if job_cause(job) != 0 {
         return false;
     }
-    some_pair(job)
+    first_row(job, 0) < power(job.format.w)
 }
 
 // The operands that the random words choose: each bit of a, from the top, follows the first, and then each bit of b the second.
 pub fn choose(job: Job, r1: u64, r2: u64) -> Choice
     ensures { λ r. ⌜ Chosen job r1 r2 r ⌝ }
 {
-    if case_left(job) {
+    if job_cause(job) != 0 {
+        return Choice::Nothing;
+    }
+    let row = first_row(job, 0);
+    if row < power(job.format.w) {
         let width = job.format.w + job.format.f + 1;
-        let with_a = walk::settle(job, Role::A, r1, width);
-        let with_b = walk::settle(with_a, Role::B, r2, width);
+        let with_a = walk::settle(job, Role::A, r1, width, row);
+        let with_b = walk::settle(with_a, Role::B, r2, width, row);
         return Choice::Operands(Pair {
             a: with_a.a.value,
             b: with_b.b.value,

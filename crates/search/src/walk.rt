@@ -1,6 +1,7 @@
 // The bits of one operand, settled from the top: each follows the random word where that leaves a case.
 use super::Role;
-use super::case_left;
+use super::first_row;
+use bits::power;
 use job::Job;
 use mask::Mask;
 use mask::fix;
@@ -8,7 +9,7 @@ use mask::free;
 ghost use mathlib.Core.Path.{_≡_};
 ghost use Rattle.mask.specs.Mask.{fix};
 ghost use Rattle.search.specs.Role.{maskOf, withMask};
-ghost use Rattle.search.specs.Walk.{Open, Settled};
+ghost use Rattle.search.specs.Walk.{Started, Settled};
 
 // The mask of an operand.
 fn mask_of(job: Job, role: Role) -> Mask
@@ -40,9 +41,10 @@ fn fix_bit(job: Job, role: Role, i: u64, v: u64) -> Job
 }
 
 // One operand settled, where its bits from position `open_bits` on are fixed: the bit below them, where it is free, follows the random
-// word, or is the other where no case would be left. The other needs no question: a case was left, so one is left there.
-pub(crate) fn settle(job: Job, role: Role, word: u64, open_bits: u64) -> Job
-    requires { ⌜ Open job role open_bits ⌝ }
+// word, or is the other where no case would be left. The other needs no question: a case was left, so one is left there. No case left has
+// an exponent field of a below `start`, and fixing more never gains one.
+pub(crate) fn settle(job: Job, role: Role, word: u64, open_bits: u64, start: u64) -> Job
+    requires { ⌜ Started job role open_bits start ⌝ }
     ensures { λ r. ⌜ Settled job role word r ⌝ }
 {
     if open_bits == 0 {
@@ -50,12 +52,13 @@ pub(crate) fn settle(job: Job, role: Role, word: u64, open_bits: u64) -> Job
     }
     let k = open_bits - 1;
     if !free(mask_of(job, role), k) {
-        return settle(job, role, word, k);
+        return settle(job, role, word, k, start);
     }
     let v = bits::bit_at(word, k);
     let tried = fix_bit(job, role, k, v);
-    if case_left(tried) {
-        return settle(tried, role, word, k);
+    let row = first_row(tried, start);
+    if row < power(job.format.w) {
+        return settle(tried, role, word, k, row);
     }
-    settle(fix_bit(job, role, k, 1 - v), role, word, k)
+    settle(fix_bit(job, role, k, 1 - v), role, word, k, start)
 }

@@ -9,17 +9,10 @@ use Rattle.mask.specs.declared.Mask.{Mask}
 use Rattle.mask.specs.Mask.{Meets, meets}
 use Rattle.mask.proofs.Checks.{meets-true}
 use Rattle.pair.specs.Asked.{Asked, exponentMask}
-use Rattle.search.proofs.Pairs.{pair-asked}
+use Rattle.search.proofs.Pairs.{pair-asked, tested}
 use borrow.Author.Needs.{needs}
 use Rattle.search.proofs.admits.Statement.{statement}
 use Rattle.search.proofs.admits.Tie as tie
-
--- the test of an exponent field against its mask
-tested : (F : Format) (m : Mask) (e : ℕ) {m′ : Mask} {t : Bool} → m′ ≡ exponentMask F m → t ≡ meets e m′ → (t ≡ true) ↔ Meets e (exponentMask F m)
-tested F m e is q =
-    let law = meets-true e (exponentMask F m) in
-    let same = q ∙ ap (meets e) is in
-    (λ h. law .0 (sym same ∙ h), λ h. same ∙ law .1 h)
 
 exponent-mask-requires : tie.Need-exponent-mask-requires
 exponent-mask-requires c κs = search needs

@@ -1,0 +1,29 @@
+-- `search::row_start` meets its contract: a pair whose exponent field of a does not meet its mask admits no case, by `pair-asked`.
+-- Assumes nothing.
+use mathlib.Core.Path.{sym, _∙_}
+use mathlib.Core.Bool.{false≢true}
+use native.Mathlib.Omega.{arith}
+use Rattle.search.proofs.Pairs.{pair-asked, tested}
+use borrow.Author.Needs.{needs}
+use Rattle.search.proofs.row_start.Statement.{statement}
+use Rattle.search.proofs.row_start.Tie as tie
+
+exponent-mask-requires : tie.Need-exponent-mask-requires
+exponent-mask-requires c κs = search needs
+
+meets-requires : tie.Need-meets-requires
+meets-requires c κs = search needs
+
+returns : tie.Need-returns
+returns c = λ e h. absurd (omega arith)
+
+returns-2 : tie.Need-returns-2
+returns-2 c =
+    let m = c .before in
+    let st = m .before .before in
+    let a = st .args in
+    λ e h p. false≢true (sym (c .if1 .left)
+    ∙ tested (a .job .format) (a .job .a) (a .ea) (m .before .exponent-mask .ensures) (m .meets .ensures) .1 (pair-asked (a .job) (a .ea) e (st .pre) p .a-exponent))
+
+pub row-start-spec : {M : Type 1} → statement M
+row-start-spec = tie.close (tie.spec exponent-mask-requires meets-requires returns returns-2)
