@@ -8,3 +8,4 @@ pub mod Asked
 pub mod Range
 pub mod Counted
 pub mod Admitted
+pub mod Moved

@@ -7,3 +7,5 @@ pub mod Finites
 pub mod SpecialWords
 pub mod SpecialLaws
 pub mod SpecialKinds
+pub mod ClassMasks
+pub mod Classes

@@ -2,9 +2,9 @@
 -- between those of the least and the greatest. Back from a number t between these: its upper part is that of a significand, and below
 -- that stands what the least has dropped if t's sticky bit is the least's, and else what the greatest has dropped. Assumes nothing.
 use mathlib.Core.Logic.{_↔_}
-use mathlib.Core.Path.{_≡_, ap, ap₂, _∙_, subst}
+use mathlib.Core.Path.{_≡_, sym, ap, ap₂, _∙_, subst}
 use Prim.Native.Nat.{ℕ, _+_, _-_, _*_, _/_, _%_, _^_, _≤_, _<_}
-use native.Mathlib.Nat.{mod-lt, mod-one, div-one, lt-of-lt-of-le, lt-of-le-of-lt}
+use native.Mathlib.Nat.{mod-lt, mod-one, div-one, div-eq-of-lt, mod-eq-of-lt, lt-of-lt-of-le, lt-of-le-of-lt}
 use native.Mathlib.Decide.{ℕ-discrete}
 use native.Mathlib.Omega.{arith}
 use borrow.Author.Tests.{le-leb}
@@ -18,7 +18,7 @@ use Rattle.mask.proofs.ByBits.{value-below}
 use Rattle.mask.proofs.Checks.{wellFormed-true}
 use Rattle.adder.specs.Sticky.{sticky, withSticky}
 use Rattle.adder.proofs.Sticky.{sticky-lt, with-sticky-bounds}
-use Rattle.significand.specs.Tail.{least, greatest, alignedMask, tailMask}
+use Rattle.significand.specs.Tail.{complement, least, greatest, alignedMask, tailMask}
 use Rattle.significand.proofs.Complements.{complement-bit}
 use Rattle.significand.proofs.Part.{Part, part-le, part-shr, part-mod, part-block, part-four, part-with-sticky}
 use Rattle.significand.proofs.Range.{greatest-lt, meets-range, spanned-formed, spanned-meets}
@@ -152,3 +152,20 @@ module _ (p : ℕ) (m : Mask) (d : ℕ) (hp : p ≤ 60) (w : WellFormed p m) whe
   -- so a number of 63 bits that meets the mask has none of them
   pub tail-below : (t : ℕ) → t < 2 ^ 63 → Meets t (tailMask p m d) → t < 2 ^ (p + 3)
   tail-below t h met = let r = tail-complete t h met in subst (λ (n : ℕ). n < 2 ^ (p + 3)) (r .3) (aligned-lt p (r .0) d (r .1))
+
+-- ---- a gap of p + 2 places or more drops the whole significand: which one does not matter
+far-sticky : (x d : ℕ) → x < 2 ^ d → withSticky x d ≡ sticky x
+unfolding withSticky
+far-sticky x d h = ap₂ (λ (q r : ℕ). q * 2 + sticky r) (div-eq-of-lt h) (mod-eq-of-lt h) ∙ omega arith
+
+pub tail-far : (p : ℕ) (m : Mask) (d e : ℕ) → p ≤ 60 → WellFormed p m → p + 2 ≤ d → p + 2 ≤ e → tailMask p m d ≡ tailMask p m e
+tail-far p m d e hp w hd he =
+    tail-aligned p m d hp w
+    ∙ ap₂ (λ (l g : ℕ). record { care = complement 63 (g - l); value = l }) (same (least m) (value-below p m w)) (same (greatest p m) (greatest-lt p m w))
+    ∙ sym (tail-aligned p m e hp w)
+  where
+    below : (x k : ℕ) → x < 2 ^ p → p + 2 ≤ k → 4 * x < 2 ^ k
+    below x k h l = let q = pow-add 2 p 2 in lt-of-lt-of-le (omega arith) (pow-mono {i = p + 2} {j = k} l)
+
+    same : (x : ℕ) → x < 2 ^ p → withSticky (4 * x) d ≡ withSticky (4 * x) e
+    same x h = far-sticky (4 * x) d (below x d h hd) ∙ sym (far-sticky (4 * x) e (below x e h he))

@@ -1,0 +1,131 @@
+-- The word that x makes does not depend on the unit but in its exponent field, which moves with the unit: so pairs of operands whose
+-- significands are aligned alike have one answer. It holds where x is 0 or has digits enough for a normal number, and the word is within
+-- the format. The unit with the exponent f + 3 stands for all others. Assumes nothing.
+use mathlib.Core.Logic.{_⊎_, inl, inr, ⊎-elim}
+use mathlib.Core.Path.{_≡_, refl, sym, ap, ap₂, _∙_, subst}
+use mathlib.Core.Bool.{Bool, true, false}
+use Prim.Native.Nat.{ℕ, zero, suc, _+_, _-_, _*_, _/_, _%_, _^_, _≤_, _<_}
+use native.Mathlib.Nat.{mod-lt}
+use native.Mathlib.Decide.{decLt}
+use native.Mathlib.Omega.{arith}
+use borrow.Author.Tests.{lt-ltb, le-ltb}
+use lib.Ieee.{size}
+use lib.Pow.{pow-pos}
+use Rattle.format.specs.declared.Format.{Format}
+use Rattle.adder.specs.declared.Direction.{Direction}
+use Rattle.adder.specs.Word.{allOnes, signed}
+use Rattle.adder.specs.Rounding.{direction, overflowWord, roundOff}
+use Rattle.adder.proofs.ResultLaws.{cancelled-lt}
+use Rattle.outcome.specs.Outcome.{droppedOf, boundedHeld, zeroSign, outcome}
+use Rattle.outcome.specs.Question.{keptOf, wordOf}
+use Rattle.outcome.specs.Class.{fieldAt}
+use Rattle.outcome.proofs.Topped.{size-none}
+use Rattle.outcome.proofs.Kept.{kept-shifted, quotient-high}
+use Rattle.outcome.proofs.Fields.{held-word}
+
+-- x makes two words that differ in the exponent field only: at the unit u, and at f + 3
+pub record Moved (F : Format) (mode : ℕ) (like : Bool) (s u x : ℕ) : Type 0 where
+  pub sign : ℕ
+  pub field : ℕ
+  pub fraction : ℕ
+  pub sign-lt : sign < 2
+  pub most : field ≤ F .f + 6
+  pub within : fieldAt (F .f) u field < 2 ^ F .w
+  pub fraction-lt : fraction < 2 ^ F .f
+  pub here : outcome F mode like s u x ≡ signed F sign (fieldAt (F .f) u field * 2 ^ F .f + fraction)
+  pub there : outcome F mode like s (F .f + 3) x ≡ signed F sign (field * 2 ^ F .f + fraction)
+
+-- the kept part of a number of n + 1 digits
+kept-moved : (f : ℕ) (d : Direction) (x u n : ℕ) → size x ≡ suc n → suc n ≤ f + 5 → f + 4 ≤ suc n + u → keptOf f d x u ≡ keptOf f d x (f + 3)
+kept-moved f d x u n digits most large =
+    kept-shifted f d x u n digits most
+    ∙ ap₂ (λ (j z : ℕ). roundOff d x j * 2 ^ z) (omega arith) (omega arith)
+    ∙ sym (kept-shifted f d x (f + 3) n digits most)
+
+-- the word of an exponent field within the format
+word-within : (F : Format) (d : Direction) (s e t : ℕ) → e < allOnes F → wordOf F d s e t ≡ signed F s (e * 2 ^ F .f + t)
+word-within F d s e t h = rw (lt-ltb e (allOnes F) h)
+
+module _ (F : Format) (mode : ℕ) (like : Bool) (s u : ℕ) (sign-lt : s < 2) (wide : F .f + 9 ≤ allOnes F) where
+  zero-lt : (b : Bool) → zeroSign mode b s < 2
+  zero-lt true = sign-lt
+  zero-lt false = cancelled-lt mode
+
+  none : 0 ≡ 0 * 2 ^ F .f + 0
+  none = omega arith
+
+  zero-moved : Moved F mode like s u zero
+  unfolding outcome
+  zero-moved = record {
+    sign = zeroSign mode like s;
+    field = 0;
+    fraction = 0;
+    most = omega arith;
+    within = pow-pos (F .w);
+    fraction-lt = pow-pos (F .f);
+    sign-lt = zero-lt like;
+    here = ap (signed F (zeroSign mode like s)) none;
+    there = ap (signed F (zeroSign mode like s)) none;
+  }
+
+  -- the sum of any digits
+  some-moved : (x n : ℕ) → size (suc x) ≡ suc n → suc n ≤ F .f + 5 → F .f + 4 ≤ suc n + u
+      → (u + 4 ≤ allOnes F) ⊎ (outcome F mode like s u (suc x) ≡ signed F s (overflowWord F (direction mode s)) → ⊥) → Moved F mode like s u (suc x)
+  unfolding outcome
+  some-moved x n digits most large within = ⊎-elim (λ e. go 1 e (omega arith) (omega arith)) (λ e. go 2 e (omega arith) (omega arith)) (quotient-high f d (suc x) u n digits most large)
+    where
+      f : ℕ
+      f = F .f
+
+      d : Direction
+      d = direction mode s
+
+      t : ℕ
+      t = keptOf f d (suc x) u % 2 ^ f
+
+      go : (q : ℕ) → keptOf f d (suc x) u / 2 ^ f ≡ q → 1 ≤ q → q ≤ 2 → Moved F mode like s u (suc x)
+      go q e least at-most = fits (decLt (suc n + u - (f + 4) + q) (allOnes F))
+        where
+          held : signed F s (boundedHeld F d (suc x) u) ≡ wordOf F d s (suc n + u - (f + 4) + q) t
+          held = held-word F d s (suc x) u ∙ ap₂ (λ (m k : ℕ). wordOf F d s (m + u - (f + 4) + k) t) digits e
+
+          same : keptOf f d (suc x) (f + 3) ≡ keptOf f d (suc x) u
+          same = sym (kept-moved f d (suc x) u n digits most large)
+
+          moved : signed F s (boundedHeld F d (suc x) (f + 3)) ≡ wordOf F d s (suc n + (f + 3) - (f + 4) + q) t
+          moved =
+              held-word F d s (suc x) (f + 3)
+              ∙ ap₂ (λ (m k : ℕ). wordOf F d s (m + (f + 3) - (f + 4) + k / 2 ^ f) (k % 2 ^ f)) digits same
+              ∙ ap (λ (k : ℕ). wordOf F d s (suc n + (f + 3) - (f + 4) + k) t) e
+
+          at : suc n + (f + 3) - (f + 4) + q ≡ n + q
+          at = omega arith
+
+          shifted : (i : ℕ) → i ≡ n + q → fieldAt f u i ≡ suc n + u - (f + 4) + q
+          shifted zero ei = absurd (omega arith)
+          shifted (suc i) ei = omega arith
+
+          fits : Dec (suc n + u - (f + 4) + q < allOnes F) → Moved F mode like s u (suc x)
+          fits (yes h) = record {
+            sign = s;
+            field = n + q;
+            fraction = t;
+            most = omega arith;
+            within = rw (shifted (n + q) refl) (omega arith);
+            sign-lt = sign-lt;
+            fraction-lt = mod-lt (keptOf f d (suc x) u) (pow-pos f);
+            here = held ∙ word-within F d s (suc n + u - (f + 4) + q) t h ∙ ap (λ (k : ℕ). signed F s (k * 2 ^ f + t)) (sym (shifted (n + q) refl));
+            there = moved ∙ ap (λ (k : ℕ). wordOf F d s k t) at ∙ word-within F d s (n + q) t (omega arith);
+          }
+          fits (no h) =
+              let past : wordOf F d s (suc n + u - (f + 4) + q) t ≡ signed F s (overflowWord F d) = rw (le-ltb (suc n + u - (f + 4) + q) (allOnes F) (omega arith)) in
+              ⊎-elim (λ l. absurd (omega arith)) (λ never. absurd (never (held ∙ past))) within
+
+  pub moved : (x : ℕ) → size x ≤ F .f + 5 → (x ≡ 0) ⊎ (F .f + 4 ≤ size x + u)
+      → (u + 4 ≤ allOnes F) ⊎ (outcome F mode like s u x ≡ signed F s (overflowWord F (direction mode s)) → ⊥) → Moved F mode like s u x
+  moved zero most reach within = zero-moved
+  moved (suc x) most reach within = go (size (suc x)) refl
+    where
+      go : (n : ℕ) → size (suc x) ≡ n → Moved F mode like s u (suc x)
+      go zero e = absurd (let z = size-none (suc x) .0 e in omega arith)
+      go (suc n) e = some-moved x n e (omega arith) (⊎-elim (λ z. absurd (omega arith)) (λ l. omega arith) reach) within

@@ -1,0 +1,325 @@
+-- Pairs of one class have one answer: what a pair admits, the pair that stands for its class admits too, with c's exponent field moved by
+-- as much as the unit. Assumes nothing.
+use mathlib.Core.Logic.{_⊎_, inl, inr, ⊎-elim}
+use mathlib.Core.Path.{_≡_, refl, sym, ap, ap₂, _∙_, subst, subst₂}
+use mathlib.Core.Bool.{Bool, true, false, cond}
+use Prim.Native.Nat.{ℕ, zero, suc, _+_, _-_, _*_, _/_, _%_, _^_, _≤_, _<_}
+use native.Mathlib.Nat.{mod-lt}
+use native.Mathlib.Decide.{decLe, ℕ-discrete}
+use native.Mathlib.Omega.{arith}
+use borrow.Author.Tests.{le-leb, lt-leb}
+use lib.Dec.{eqb, leb}
+use lib.Ieee.{size}
+use lib.Pow.{pow-pos, pow-add, low}
+use Rattle.format.specs.declared.Format.{Format}
+use Rattle.format.specs.Format.{Supported, precision, wordBits}
+use Rattle.mask.specs.declared.Mask.{Mask}
+use Rattle.mask.specs.Mask as mask
+use Rattle.mask.specs.Mask.{Meets, WellFormed, fix}
+use Rattle.mask.proofs.ByParts.{meets-parts, fraction-formed}
+use Rattle.job.specs.declared.Job.{Job}
+use Rattle.job.specs.Job.{Valid}
+use Rattle.adder.specs.declared.Direction.{Direction}
+use Rattle.adder.specs.declared.Direction.the-variants.{Nearest, TowardZero, Away}
+use Rattle.adder.specs.Word.{allOnes, signed, sign}
+use Rattle.adder.specs.Rounding.{direction, infinityWord, overflowWord}
+use Rattle.significand.specs.Significand.{significandMask}
+use Rattle.significand.specs.Tail.{tailMask}
+use Rattle.significand.proofs.Significand.{significand-formed}
+use Rattle.significand.proofs.Tail.{tail-far}
+use Rattle.outcome.specs.declared.Aligned as pair
+use Rattle.outcome.specs.Outcome.{outcome, Admits}
+use Rattle.outcome.specs.Class.{fieldAt}
+use Rattle.outcome.proofs.Topped.{size-none}
+use Rattle.outcome.proofs.Range.{made-most}
+use Rattle.outcome.proofs.Admitted.{admits-making}
+use Rattle.outcome.proofs.Moved.{Moved, moved}
+use Rattle.pair.specs.Asked.{signMask, exponentMask, fractionMask, PairFits}
+use Rattle.pair.specs.Pair.{unitAt, alignedOf, Larger, turned, Posed, Finites}
+use Rattle.pair.specs.Class.{lowField, classOf, aField, bField, withExponent, asking, onlyField, ClassAdmits, NeverPast, Classed}
+use Rattle.pair.proofs.ClassMasks.{asking-meets, own-meets}
+use Rattle.pair.proofs.Finites.{pair-posed}
+
+-- a gap that is not far is kept
+near-gap : (f e g r : ℕ) → r + e ≡ g + (f + 4) → suc g ≤ e → unitAt e - unitAt (suc g) ≡ unitAt (f + 4) - unitAt (suc r)
+near-gap f e g r is l = ap (λ (k : ℕ). e - 1 - k) (down g) ∙ middle ∙ ap₂ _-_ up (sym (down r))
+  where
+    down : (k : ℕ) → suc k - 1 ≡ k
+    down k = omega arith
+
+    up : f + 3 ≡ f + 4 - 1
+    up = omega arith
+
+    middle : e - 1 - g ≡ f + 3 - r
+    middle = omega arith
+
+-- ---- the masks of aligned significands
+module _ (F : Format) (ok : Supported F) (m : Mask) (formed : WellFormed (F .f) m) where
+  head-same : (e k : ℕ) → 1 ≤ e → 1 ≤ k → significandMask (F .f) m e ≡ significandMask (F .f) m k
+  unfolding significandMask
+  head-same zero k h l = absurd (omega arith)
+  head-same (suc e) zero h l = absurd (omega arith)
+  head-same (suc e) (suc k) h l = refl
+
+  far : (g d e : ℕ) → F .f + 3 ≤ d → F .f + 3 ≤ e → tailMask (precision F) (significandMask (F .f) m g) d ≡ tailMask (precision F) (significandMask (F .f) m g) e
+  far g d e hd he =
+      tail-far (precision F) (significandMask (F .f) m g) d e (omega (arith, ok .f-most)) (significand-formed (F .f) m (omega (arith, ok .f-most)) formed g) (omega arith) (omega arith)
+
+  tail-same : (e g : ℕ) → F .f + 4 ≤ e → g ≤ e
+      → tailMask (precision F) (significandMask (F .f) m g) (unitAt e - unitAt g)
+      ≡ tailMask (precision F) (significandMask (F .f) m (lowField (F .f) e g)) (unitAt (F .f + 4) - unitAt (lowField (F .f) e g))
+  tail-same e zero h l = far 0 (unitAt e - unitAt 0) (unitAt (F .f + 4) - unitAt 0) (omega arith) (omega arith)
+  tail-same e (suc g) h l = go (decLe e (g + (F .f + 4)))
+    where
+      r : ℕ
+      r = g + (F .f + 4) - e
+
+      same : significandMask (F .f) m (suc g) ≡ significandMask (F .f) m (suc r)
+      same = head-same (suc g) (suc r) (omega arith) (omega arith)
+
+      go : Dec (e ≤ g + (F .f + 4))
+          → tailMask (precision F) (significandMask (F .f) m (suc g)) (unitAt e - unitAt (suc g))
+          ≡ tailMask (precision F) (significandMask (F .f) m (suc r)) (unitAt (F .f + 4) - unitAt (suc r))
+      go (yes near) = ap₂ (tailMask (precision F)) same (near-gap (F .f) e g r (omega arith) l)
+      go (no past) =
+          far (suc g) (unitAt e - unitAt (suc g)) (unitAt (F .f + 4) - unitAt (suc r)) (omega arith) (omega arith)
+          ∙ ap (λ (n : Mask). tailMask (precision F) n (unitAt (F .f + 4) - unitAt (suc r))) same
+
+aligned-same : (F : Format) → Supported F → (like : Bool) (carries m n : Mask) (e g : ℕ) → WellFormed (F .f) m → WellFormed (F .f) n → F .f + 4 ≤ e → g ≤ e
+    → alignedOf F like carries m e n g ≡ alignedOf F like carries m (F .f + 4) n (lowField (F .f) e g)
+aligned-same F ok like carries m n e g fm fn h l =
+    ap₂ (λ (x t : Mask). record { like = like; head = x; tail = t; carries = carries })
+    (ap (λ (k : Mask). tailMask (precision F) k 0) (head-same F ok m fm e (F .f + 4) (omega arith) (omega arith))) (tail-same F ok n fn e g h l)
+
+-- ---- the word past the largest finite number
+module _ (F : Format) (c : Mask) (never : NeverPast F c) where
+  fraction-of : (q r : ℕ) → r < 2 ^ F .f → Meets (q * 2 ^ F .f + r) c → Meets r (fractionMask F c)
+  fraction-of q r h met = subst (λ (k : ℕ). Meets k (fractionMask F c)) (low q (F .f) h) (meets-parts (F .f) (q * 2 ^ F .f + r) c .0 met .0)
+
+  infinity-never : (s : ℕ) → Meets (signed F s (infinityWord F)) c → ⊥
+  infinity-never s met = never .zeros (fraction-of (s * 2 ^ F .w + allOnes F) 0 (pow-pos (F .f)) (subst (λ (k : ℕ). Meets k c) whole met))
+    where
+      whole : signed F s (infinityWord F) ≡ (s * 2 ^ F .w + allOnes F) * 2 ^ F .f + 0
+      whole =
+          let p = pow-add 2 (F .w) (F .f) in
+          let a = native.Mathlib.Nat.mul-assoc s (2 ^ F .w) (2 ^ F .f) in
+          let m = native.Mathlib.Nat.add-mul (s * 2 ^ F .w) (allOnes F) (2 ^ F .f) in
+          let q = ap (_*_ s) p in
+          omega arith
+
+  largest-never : (s : ℕ) → 1 ≤ allOnes F → Meets (signed F s (infinityWord F - 1)) c → ⊥
+  largest-never s some met =
+      never .ones (fraction-of (s * 2 ^ F .w + (allOnes F - 1)) (2 ^ F .f - 1) (omega (arith, pow-pos (F .f))) (subst (λ (k : ℕ). Meets k c) whole met))
+    where
+      whole : signed F s (infinityWord F - 1) ≡ (s * 2 ^ F .w + (allOnes F - 1)) * 2 ^ F .f + (2 ^ F .f - 1)
+      whole =
+          let p = pow-add 2 (F .w) (F .f) in
+          let a = native.Mathlib.Nat.mul-assoc s (2 ^ F .w) (2 ^ F .f) in
+          let m = native.Mathlib.Nat.add-mul (s * 2 ^ F .w) (allOnes F - 1) (2 ^ F .f) in
+          let n = native.Mathlib.Nat.add-mul (allOnes F - 1) 1 (2 ^ F .f) in
+          let o : allOnes F - 1 + 1 ≡ allOnes F = omega arith in
+          let t = ap (λ (k : ℕ). k * 2 ^ F .f) o in
+          let q = ap (_*_ s) p in
+          omega (arith, pow-pos (F .f))
+
+  past-never : (d : Direction) (s : ℕ) → 1 ≤ allOnes F → Meets (signed F s (overflowWord F d)) c → ⊥
+  unfolding overflowWord
+  past-never Nearest s some met = infinity-never s met
+  past-never TowardZero s some met = largest-never s some met
+  past-never Away s some met = infinity-never s met
+
+-- ---- one order of the operands: e is the larger exponent field, g the other
+only-formed : (F : Format) (i : ℕ) → i ≤ allOnes F → WellFormed (F .w) (onlyField F i)
+only-formed F i h = record { below = omega (arith, pow-pos (F .w)); inside = lib.Bits.and-mask i (F .w) ∙ native.Mathlib.Nat.mod-eq-of-lt (omega (arith, pow-pos (F .w))) }
+
+-- what a class has where E is the larger exponent field: c's exponent field is one that its mask lets through
+pub record Reached (j : Job) (E : ℕ) (P : Mask → Type 0) : Type 0 where
+  pub field : ℕ
+  pub most : field ≤ j .format .f + 6
+  pub meets : Meets (fieldAt (j .format .f) (unitAt E) field) (exponentMask (j .format) (j .c))
+  pub holds : P (onlyField (j .format) field)
+
+module _ (j : Job) (valid : Valid j) where
+  abbrev f : ℕ
+  f = j .format .f
+
+  larger-moved : (like : Bool) (s e : ℕ) (m : Mask) (g : ℕ) (n : Mask) → s < 2 → WellFormed f m → WellFormed f n → Classed (j .format) (j .c) e
+      → Larger j like s e m g n → Reached j e (λ (i : Mask). Larger (asking j i) like s (f + 4) m (lowField f e g) n)
+  larger-moved like s e m g n hs fm fn classed (order, a) = record {
+    field = w .field;
+    most = w .most;
+    meets = own .1;
+    holds = (
+      lower g (omega (arith, classed .normal)),
+      subst (λ (u : ℕ). Admits F (j .mode) s u A′ (withExponent F (j .c) (onlyField F (w .field)))) up (admits-making F (j .mode) s (f + 3) A′ (withExponent F (j .c) (onlyField F (w .field))) .1 (record {
+        x = k .x;
+        made = k .made;
+        holds = subst (λ (v : ℕ). Meets v (withExponent F (j .c) (onlyField F (w .field)))) (sym (w .there))
+            (asking-meets F (j .c) (onlyField F (w .field)) (valid .c) formed (w .sign) (w .field) (w .fraction) small (w .fraction-lt) .1 (own .0, only-formed F (w .field) (omega (arith, w .most, classed .wide)) .inside, own .2));
+      })),
+    );
+  }
+    where
+      F : Format
+      F = j .format
+
+      under : g ≤ e
+      under = omega (arith, classed .normal)
+
+      A′ : pair.Aligned
+      A′ = alignedOf F like (j .carries) m (f + 4) n (lowField f e g)
+
+      k : Rattle.outcome.specs.Question.Making f A′ (λ (x : ℕ). Meets (outcome F (j .mode) like s (unitAt e) x) (j .c))
+      k =
+          admits-making F (j .mode) s (unitAt e) A′ (j .c) .0
+          (subst (λ (A : pair.Aligned). Admits F (j .mode) s (unitAt e) A (j .c)) (aligned-same F (valid .format) like (j .carries) m n e g fm fn (classed .normal) under) a)
+
+      reach : Dec (k .x ≡ 0) → (k .x ≡ 0) ⊎ (f + 4 ≤ size (k .x) + unitAt e)
+      reach (yes z) = inl z
+      reach (no z) = inr (some (size (k .x)) refl)
+        where
+          some : (d : ℕ) → size (k .x) ≡ d → f + 4 ≤ size (k .x) + unitAt e
+          some zero z′ = absurd (z (size-none (k .x) .0 z′))
+          some (suc d) z′ = omega (arith, classed .normal)
+
+      w : Moved F (j .mode) like s (unitAt e) (k .x)
+      w =
+          moved F (j .mode) like s (unitAt e) hs (classed .wide) (k .x) (made-most f A′ (k .x) (k .made)) (reach (ℕ-discrete (k .x) 0))
+          (⊎-elim (λ l. inl (omega (arith, classed .normal))) (λ never. inr (λ is. past-never F (j .c) never (direction (j .mode) s) s (omega (arith, classed .wide)) (subst (λ (v : ℕ). Meets v (j .c)) is (k .holds)))) (classed .within))
+
+      formed : WellFormed (F .w) (onlyField F (w .field))
+      formed = only-formed F (w .field) (omega (arith, w .most, classed .wide))
+
+      own : Meets (w .sign) (signMask F (j .c)) × Meets (fieldAt f (unitAt e) (w .field)) (exponentMask F (j .c)) × Meets (w .fraction) (fractionMask F (j .c))
+      own =
+          own-meets F (j .c) (onlyField F (w .field)) (valid .c) formed (w .sign) (fieldAt f (unitAt e) (w .field)) (w .fraction) (w .sign-lt) (w .within) (w .fraction-lt)
+          (subst (λ (v : ℕ). Meets v (j .c)) (w .here) (k .holds))
+
+      small : w .field < 2 ^ F .w
+      small = omega (arith, w .most, classed .wide)
+
+      up : f + 3 ≡ unitAt (f + 4)
+      up = omega arith
+
+      lower : (g : ℕ) → g ≤ e → unitAt (lowField f e g) ≤ unitAt (f + 4)
+      lower zero l = omega arith
+      lower (suc g) l = omega arith
+
+  -- both orders
+  abbrev Both : ℕ → ℕ → ℕ → ℕ → Job → Type 0
+  Both ea eb sa sb j′ =
+      Larger j′ (eqb sa (turned (j .operation) sb)) sa ea (fractionMask (j .format) (j .a)) eb (fractionMask (j .format) (j .b))
+      ⊎ Larger j′ (eqb (turned (j .operation) sb) sa) (turned (j .operation) sb) eb (fractionMask (j .format) (j .b)) ea (fractionMask (j .format) (j .a))
+
+  module _ (ea eb sa sb : ℕ) (ha : sa < 2) (P : Posed j ea eb sa sb) where
+    abbrev t : ℕ
+    t = turned (j .operation) sb
+
+    ma : WellFormed f (fractionMask (j .format) (j .a))
+    ma = fraction-formed (j .format .w) f (j .a) (valid .a)
+
+    mb : WellFormed f (fractionMask (j .format) (j .b))
+    mb = fraction-formed (j .format .w) f (j .b) (valid .b)
+
+    -- the pair that stands for the class, with the signs
+    posing : (E : ℕ) → Reached j E (λ (i : Mask). Both (aField f (classOf f ea eb)) (bField f (classOf f ea eb)) sa sb (asking j i))
+        → Reached j E (λ (i : Mask). Posed (asking j i) (aField f (classOf f ea eb)) (bField f (classOf f ea eb)) sa sb)
+    posing E r = record { field = r .field; most = r .most; meets = r .meets; holds = record { a-sign = P .a-sign; b-sign = P .b-sign; sums = r .holds } }
+
+    low-le : (E e : ℕ) → e ≤ E → lowField f E e ≤ f + 4
+    low-le E zero l = omega arith
+    low-le E (suc e) l = omega arith
+
+    low-same : (E : ℕ) → f + 4 ≤ E → lowField f E E ≡ f + 4
+    low-same zero l = omega arith
+    low-same (suc E) l = omega arith
+
+    -- a's exponent field is not the smaller one
+    module _ (l : eb ≤ ea) where
+      class-is : classOf f ea eb ≡ lowField f ea eb
+      class-is = rw (le-leb eb ea l)
+
+      a-is : f + 4 ≡ aField f (classOf f ea eb)
+      a-is = rw (class-is, le-leb (lowField f ea eb) (f + 4) (low-le ea eb l))
+
+      b-is : lowField f ea eb ≡ bField f (classOf f ea eb)
+      b-is = rw (class-is, le-leb (lowField f ea eb) (f + 4) (low-le ea eb l))
+
+      pub a-larger : Classed (j .format) (j .c) ea → Reached j ea (λ (i : Mask). Posed (asking j i) (aField f (classOf f ea eb)) (bField f (classOf f ea eb)) sa sb)
+      a-larger classed = posing ea (⊎-elim first second (P .sums))
+        where
+          moved-to : (x y : ℕ) → f + 4 ≡ x → lowField f ea eb ≡ y → Reached j ea (λ (i : Mask). Both (f + 4) (lowField f ea eb) sa sb (asking j i)) → Reached j ea (λ (i : Mask). Both x y sa sb (asking j i))
+          moved-to x y ex ey r = subst₂ (λ (u v : ℕ). Reached j ea (λ (i : Mask). Both u v sa sb (asking j i))) ex ey r
+
+          first : Larger j (eqb sa t) sa ea (fractionMask (j .format) (j .a)) eb (fractionMask (j .format) (j .b)) → Reached j ea (λ (i : Mask). Both (aField f (classOf f ea eb)) (bField f (classOf f ea eb)) sa sb (asking j i))
+          first p =
+              let r = larger-moved (eqb sa t) sa ea (fractionMask (j .format) (j .a)) eb (fractionMask (j .format) (j .b)) ha ma mb classed p in
+              moved-to (aField f (classOf f ea eb)) (bField f (classOf f ea eb)) a-is b-is (record { field = r .field; most = r .most; meets = r .meets; holds = inl (r .holds) })
+
+          second : Larger j (eqb t sa) t eb (fractionMask (j .format) (j .b)) ea (fractionMask (j .format) (j .a)) → Reached j ea (λ (i : Mask). Both (aField f (classOf f ea eb)) (bField f (classOf f ea eb)) sa sb (asking j i))
+          second p =
+              let same : eb ≡ ea = omega (arith, p .0, classed .normal) in
+              let q = subst (λ (e : ℕ). Larger j (eqb t sa) t e (fractionMask (j .format) (j .b)) ea (fractionMask (j .format) (j .a))) same p in
+              let r = larger-moved (eqb t sa) t ea (fractionMask (j .format) (j .b)) ea (fractionMask (j .format) (j .a)) (mod-lt (sb + j .operation) (omega arith)) mb ma classed q in
+              let top = low-same ea (classed .normal) in
+              let b-top : f + 4 ≡ bField f (classOf f ea eb) = sym top ∙ ap (lowField f ea) (sym same) ∙ b-is in
+              let a-top : lowField f ea ea ≡ aField f (classOf f ea eb) = top ∙ a-is in
+              record {
+                field = r .field;
+                most = r .most;
+                meets = r .meets;
+                holds = inr (subst₂ (λ (u v : ℕ). Larger (asking j (onlyField (j .format) (r .field))) (eqb t sa) t u (fractionMask (j .format) (j .b)) v (fractionMask (j .format) (j .a))) b-top a-top (r .holds));
+              }
+
+    -- b's is the larger one
+    module _ (l : ea < eb) where
+      class-then : classOf f ea eb ≡ f + 5 + lowField f eb ea
+      class-then = rw (lt-leb eb ea l)
+
+      above : leb (f + 5 + lowField f eb ea) (f + 4) ≡ false
+      above = lt-leb (f + 5 + lowField f eb ea) (f + 4) (omega arith)
+
+      b-then : f + 4 ≡ bField f (classOf f ea eb)
+      b-then = rw (class-then, above)
+
+      a-then : lowField f eb ea ≡ aField f (classOf f ea eb)
+      a-then = rw (class-then, above) (omega arith)
+
+      pub b-larger : Classed (j .format) (j .c) eb → Reached j eb (λ (i : Mask). Posed (asking j i) (aField f (classOf f ea eb)) (bField f (classOf f ea eb)) sa sb)
+      b-larger classed = posing eb (⊎-elim (λ p. absurd (omega (arith, p .0, classed .normal))) second (P .sums))
+        where
+          second : Larger j (eqb t sa) t eb (fractionMask (j .format) (j .b)) ea (fractionMask (j .format) (j .a)) → Reached j eb (λ (i : Mask). Both (aField f (classOf f ea eb)) (bField f (classOf f ea eb)) sa sb (asking j i))
+          second p =
+              let r = larger-moved (eqb t sa) t eb (fractionMask (j .format) (j .b)) ea (fractionMask (j .format) (j .a)) (mod-lt (sb + j .operation) (omega arith)) mb ma classed p in
+              record {
+                field = r .field;
+                most = r .most;
+                meets = r .meets;
+                holds = inr (subst₂ (λ (u v : ℕ). Larger (asking j (onlyField (j .format) (r .field))) (eqb t sa) t u (fractionMask (j .format) (j .b)) v (fractionMask (j .format) (j .a))) b-then a-then (r .holds));
+              }
+
+-- ---- a pair that fits, and its class
+module _ (j : Job) (ea eb : ℕ) (fin : Finites j ea eb) (P : PairFits j ea eb) where
+  classing : (E : ℕ) → Reached j E (λ (i : Mask). Posed (asking j i) (aField (j .format .f) (classOf (j .format .f) ea eb)) (bField (j .format .f) (classOf (j .format .f) ea eb)) (sign (j .format) (P .a)) (sign (j .format) (P .b)))
+      → Reached j E (ClassAdmits j (classOf (j .format .f) ea eb))
+  classing E r = record {
+    field = r .field;
+    most = r .most;
+    meets = r .meets;
+    holds = record {
+      sa = sign (j .format) (P .a);
+      sb = sign (j .format) (P .b);
+      sa-lt = mod-lt (P .a / 2 ^ (j .format .w + j .format .f)) (omega arith);
+      sb-lt = mod-lt (P .b / 2 ^ (j .format .w + j .format .f)) (omega arith);
+      posed = r .holds;
+    };
+  }
+
+  -- the larger of the exponent fields is E
+  pub class-reached : (E : ℕ) → ((E ≡ ea) × (eb ≤ ea)) ⊎ ((E ≡ eb) × (ea < eb)) → Classed (j .format) (j .c) E → Reached j E (ClassAdmits j (classOf (j .format .f) ea eb))
+  class-reached E (inl (is, l)) classed =
+      subst (λ (e : ℕ). Reached j e (ClassAdmits j (classOf (j .format .f) ea eb))) (sym is)
+      (classing ea (a-larger j (fin .valid) ea eb (sign (j .format) (P .a)) (sign (j .format) (P .b)) (mod-lt (P .a / 2 ^ (j .format .w + j .format .f)) (omega arith)) (pair-posed j ea eb fin P) l (subst (Classed (j .format) (j .c)) is classed)))
+  class-reached E (inr (is, l)) classed =
+      subst (λ (e : ℕ). Reached j e (ClassAdmits j (classOf (j .format .f) ea eb))) (sym is)
+      (classing eb (b-larger j (fin .valid) ea eb (sign (j .format) (P .a)) (sign (j .format) (P .b)) (mod-lt (P .a / 2 ^ (j .format .w + j .format .f)) (omega arith)) (pair-posed j ea eb fin P) l (subst (Classed (j .format) (j .c)) is classed)))

@@ -1,0 +1,66 @@
+-- Classes of pairs of exponent fields. Of two finite operands the significands are aligned by the gap between their units, and from p + 2
+-- places on all gaps are alike; the word c then depends on the units in its exponent field only. So a pair stands for its class, and whether
+-- some case has c's exponent field i there is one answer for all pairs of the class. No definition of the promise cites this file.
+-- Assumes nothing.
+use mathlib.Core.Bool.{cond}
+use mathlib.Core.Logic.{_⊎_}
+use Prim.Native.Nat.{ℕ, zero, suc, _+_, _-_, _*_, _^_, _≤_, _<_}
+use lib.Dec.{leb}
+use Rattle.format.specs.declared.Format.{Format}
+use Rattle.mask.specs.declared.Mask.{Mask}
+use Rattle.mask.specs.Mask.{Meets}
+use Rattle.job.specs.declared.Job.{Job}
+use Rattle.adder.specs.Word.{allOnes}
+use Rattle.pair.specs.Asked.{signMask, exponentMask, fractionMask}
+use Rattle.pair.specs.Pair.{Posed}
+
+-- the smaller field of the pair that stands for a class, whose larger one is f + 4: where the larger field is E and the smaller one e, as
+-- far below, but at most f + 3 places; 0 for 0
+abbrev pub lowField : ℕ → ℕ → ℕ → ℕ
+lowField f E zero = 0
+lowField f E (suc e) = suc (e + (f + 4) - E)
+
+-- the class of a pair: that smaller field, and f + 5 more where b's is the larger one
+abbrev pub classOf : ℕ → ℕ → ℕ → ℕ
+classOf f ea eb = cond (leb eb ea) (lowField f ea eb) (f + 5 + lowField f eb ea)
+
+-- the fields of the pair that stands for a class
+abbrev pub aField : ℕ → ℕ → ℕ
+aField f k = cond (leb k (f + 4)) (f + 4) (k - (f + 5))
+
+abbrev pub bField : ℕ → ℕ → ℕ
+bField f k = cond (leb k (f + 4)) k (f + 4)
+
+-- the mask c with another mask on its exponent field
+unfoldable pub withExponent : Format → Mask → Mask → Mask
+withExponent F c n = record {
+  care = signMask F c .care * 2 ^ (F .w + F .f) + (n .care * 2 ^ F .f + fractionMask F c .care);
+  value = signMask F c .value * 2 ^ (F .w + F .f) + (n .value * 2 ^ F .f + fractionMask F c .value);
+}
+
+-- the job that asks for another mask of c's exponent field
+abbrev pub asking : Job → Mask → Job
+asking j n = record { format = j .format; operation = j .operation; mode = j .mode; a = j .a; b = j .b; c = withExponent (j .format) (j .c) n; carries = j .carries }
+
+-- the mask of one exponent field
+abbrev pub onlyField : Format → ℕ → Mask
+onlyField F i = record { care = allOnes F; value = i }
+
+-- the pair that stands for the class k admits a case, where n is asked of c's exponent field
+pub record ClassAdmits (j : Job) (k : ℕ) (n : Mask) : Type 0 where
+  pub sa : ℕ
+  pub sb : ℕ
+  pub sa-lt : sa < 2
+  pub sb-lt : sb < 2
+  pub posed : Posed (asking j n) (aField (j .format .f) k) (bField (j .format .f) k) sa sb
+
+-- no word past the largest finite number meets c: those have the fraction 0 or all ones
+pub record NeverPast (F : Format) (c : Mask) : Type 0 where
+  pub zeros : Meets 0 (fractionMask F c) → ⊥
+  pub ones : Meets (2 ^ F .f - 1) (fractionMask F c) → ⊥
+
+-- a pair that its class answers for: E is the larger exponent field
+pub record Classed (F : Format) (c : Mask) (E : ℕ) : Type 0 where
+  pub wide : F .f + 9 ≤ allOnes F
+  pub normal : F .f + 4 ≤ E
+  pub within : (E + 3 ≤ allOnes F) ⊎ NeverPast F c
