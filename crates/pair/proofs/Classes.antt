@@ -35,10 +35,10 @@ use Rattle.outcome.proofs.Range.{made-most}
 use Rattle.outcome.proofs.Admitted.{admits-making}
 use Rattle.outcome.proofs.Moved.{Moved, moved}
 use Rattle.pair.specs.Asked.{signMask, exponentMask, fractionMask, PairFits}
-use Rattle.pair.specs.Pair.{unitAt, alignedOf, Larger, turned, Posed, Finites}
+use Rattle.pair.specs.Pair.{unitAt, alignedOf, Larger, turned, Posed, SomeSigns, Finites}
 use Rattle.pair.specs.Class.{lowField, classOf, aField, bField, withExponent, asking, onlyField, ClassAdmits, NeverPast, Classed}
 use Rattle.pair.proofs.ClassMasks.{asking-meets, own-meets}
-use Rattle.pair.proofs.Finites.{pair-posed}
+use Rattle.pair.proofs.Finites.{pair-signs}
 
 -- a gap that is not far is kept
 near-gap : (f e g r : ℕ) → r + e ≡ g + (f + 4) → suc g ≤ e → unitAt e - unitAt (suc g) ≡ unitAt (f + 4) - unitAt (suc r)
@@ -300,26 +300,24 @@ module _ (j : Job) (valid : Valid j) where
 
 -- ---- a pair that fits, and its class
 module _ (j : Job) (ea eb : ℕ) (fin : Finites j ea eb) (P : PairFits j ea eb) where
-  classing : (E : ℕ) → Reached j E (λ (i : Mask). Posed (asking j i) (aField (j .format .f) (classOf (j .format .f) ea eb)) (bField (j .format .f) (classOf (j .format .f) ea eb)) (sign (j .format) (P .a)) (sign (j .format) (P .b)))
+  abbrev own : SomeSigns j ea eb
+  own = pair-signs j ea eb fin P
+
+  classing : (E : ℕ)
+      → Reached j E (λ (i : Mask). Posed (asking j i) (aField (j .format .f) (classOf (j .format .f) ea eb)) (bField (j .format .f) (classOf (j .format .f) ea eb)) (own .sa) (own .sb))
       → Reached j E (ClassAdmits j (classOf (j .format .f) ea eb))
   classing E r = record {
     field = r .field;
     most = r .most;
     meets = r .meets;
-    holds = record {
-      sa = sign (j .format) (P .a);
-      sb = sign (j .format) (P .b);
-      sa-lt = mod-lt (P .a / 2 ^ (j .format .w + j .format .f)) (omega arith);
-      sb-lt = mod-lt (P .b / 2 ^ (j .format .w + j .format .f)) (omega arith);
-      posed = r .holds;
-    };
+    holds = record { sa = own .sa; sb = own .sb; sa-lt = own .sa-lt; sb-lt = own .sb-lt; posed = r .holds };
   }
 
   -- the larger of the exponent fields is E
   pub class-reached : (E : ℕ) → ((E ≡ ea) × (eb ≤ ea)) ⊎ ((E ≡ eb) × (ea < eb)) → Classed (j .format) (j .c) E → Reached j E (ClassAdmits j (classOf (j .format .f) ea eb))
   class-reached E (inl (is, l)) classed =
       subst (λ (e : ℕ). Reached j e (ClassAdmits j (classOf (j .format .f) ea eb))) (sym is)
-      (classing ea (a-larger j (fin .valid) ea eb (sign (j .format) (P .a)) (sign (j .format) (P .b)) (mod-lt (P .a / 2 ^ (j .format .w + j .format .f)) (omega arith)) (pair-posed j ea eb fin P) l (subst (Classed (j .format) (j .c)) is classed)))
+      (classing ea (a-larger j (fin .valid) ea eb (own .sa) (own .sb) (own .sa-lt) (own .posed) l (subst (Classed (j .format) (j .c)) is classed)))
   class-reached E (inr (is, l)) classed =
       subst (λ (e : ℕ). Reached j e (ClassAdmits j (classOf (j .format .f) ea eb))) (sym is)
-      (classing eb (b-larger j (fin .valid) ea eb (sign (j .format) (P .a)) (sign (j .format) (P .b)) (mod-lt (P .a / 2 ^ (j .format .w + j .format .f)) (omega arith)) (pair-posed j ea eb fin P) l (subst (Classed (j .format) (j .c)) is classed)))
+      (classing eb (b-larger j (fin .valid) ea eb (own .sa) (own .sb) (own .sa-lt) (own .posed) l (subst (Classed (j .format) (j .c)) is classed)))

@@ -1,14 +1,14 @@
 -- A pair of finite exponent fields admits a case exactly when it does with some two signs. Assumes nothing.
 use mathlib.Core.Path.{_≡_}
 use mathlib.Core.Logic.{inl, inr, ⊎-elim}
-use Prim.Native.Nat.{ℕ, _+_, _%_, _<_}
+use Prim.Native.Nat.{ℕ, _+_, _/_, _%_, _^_, _<_}
 use native.Mathlib.Nat.{mod-lt}
 use native.Mathlib.Omega.{arith}
 use Rattle.mask.proofs.ByParts.{fraction-formed}
 use Rattle.job.specs.declared.Job.{Job}
 use Rattle.adder.specs.Word.{sign}
 use Rattle.pair.specs.Asked.{fractionMask, PairFits}
-use Rattle.pair.specs.Pair.{turned, Posed, Finites}
+use Rattle.pair.specs.Pair.{turned, Posed, SomeSigns, Finites}
 use Rattle.pair.proofs.Summed.{summed-admits, admits-summed}
 use Rattle.pair.proofs.Words.{Summing, fits-summing, summing-fits}
 
@@ -71,11 +71,23 @@ module _ (j : Job) (ea eb : ℕ) (fin : Finites j ea eb) where
       fb = fraction-formed (F .w) (F .f) (j .b) (fin .valid .b)
 
   -- a fitting case poses its own signs
-  pub pair-posed : (P : PairFits j ea eb) → Posed j ea eb (sign (j .format) (P .a)) (sign (j .format) (P .b))
+  pair-posed : (P : PairFits j ea eb) → Posed j ea eb (sign (j .format) (P .a)) (sign (j .format) (P .b))
   pair-posed P =
       summing-posed (sign (j .format) (P .a)) (sign (j .format) (P .b)) (fits-summing j (fin .valid) ea eb (fin .a-finite) (fin .b-finite) P)
 
   -- and posed signs have a fitting case
-  pub posed-pair : (sa sb : ℕ) → sa < 2 → sb < 2 → Posed j ea eb sa sb → PairFits j ea eb
+  posed-pair : (sa sb : ℕ) → sa < 2 → sb < 2 → Posed j ea eb sa sb → PairFits j ea eb
   posed-pair sa sb ha hb P =
       summing-fits j (fin .valid) ea eb (fin .a-finite) (fin .b-finite) (fin .a-exponent) (fin .b-exponent) sa sb (posed-summing sa sb ha hb P)
+
+  pub pair-signs : PairFits j ea eb → SomeSigns j ea eb
+  pair-signs P = record {
+    sa = sign (j .format) (P .a);
+    sb = sign (j .format) (P .b);
+    sa-lt = mod-lt (P .a / 2 ^ (j .format .w + j .format .f)) (omega arith);
+    sb-lt = mod-lt (P .b / 2 ^ (j .format .w + j .format .f)) (omega arith);
+    posed = pair-posed P;
+  }
+
+  pub signs-pair : SomeSigns j ea eb → PairFits j ea eb
+  signs-pair S = posed-pair (S .sa) (S .sb) (S .sa-lt) (S .sb-lt) (S .posed)

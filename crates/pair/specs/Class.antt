@@ -8,11 +8,12 @@ use Prim.Native.Nat.{ℕ, zero, suc, _+_, _-_, _*_, _^_, _≤_, _<_}
 use lib.Dec.{leb}
 use Rattle.format.specs.declared.Format.{Format}
 use Rattle.mask.specs.declared.Mask.{Mask}
-use Rattle.mask.specs.Mask.{Meets}
+use Rattle.mask.specs.Mask.{Meets, WellFormed}
 use Rattle.job.specs.declared.Job.{Job}
+use Rattle.job.specs.Job.{Valid}
 use Rattle.adder.specs.Word.{allOnes}
 use Rattle.pair.specs.Asked.{signMask, exponentMask, fractionMask}
-use Rattle.pair.specs.Pair.{Posed}
+use Rattle.pair.specs.Pair.{SomeSigns}
 
 -- the smaller field of the pair that stands for a class, whose larger one is f + 4: where the larger field is E and the smaller one e, as
 -- far below, but at most f + 3 places; 0 for 0
@@ -47,12 +48,15 @@ abbrev pub onlyField : Format → ℕ → Mask
 onlyField F i = record { care = allOnes F; value = i }
 
 -- the pair that stands for the class k admits a case, where n is asked of c's exponent field
-pub record ClassAdmits (j : Job) (k : ℕ) (n : Mask) : Type 0 where
-  pub sa : ℕ
-  pub sb : ℕ
-  pub sa-lt : sa < 2
-  pub sb-lt : sb < 2
-  pub posed : Posed (asking j n) (aField (j .format .f) k) (bField (j .format .f) k) sa sb
+abbrev pub ClassAdmits : Job → ℕ → Mask → Type 0
+ClassAdmits j k n = SomeSigns (asking j n) (aField (j .format .f) k) (bField (j .format .f) k)
+
+-- what a question about a class states
+pub record ClassAsked (j : Job) (k : ℕ) (n : Mask) : Type 0 where
+  pub valid : Valid j
+  pub wide : j .format .f + 9 ≤ allOnes (j .format)
+  pub class-lt : k < 2 * (j .format .f + 5)
+  pub formed : WellFormed (j .format .w) n
 
 -- no word past the largest finite number meets c: those have the fraction 0 or all ones
 pub record NeverPast (F : Format) (c : Mask) : Type 0 where

@@ -47,6 +47,20 @@ pub record Posed (j : Job) (ea eb sa sb : ℕ) : Type 0 where
   pub sums : Larger j (eqb sa (turned (j .operation) sb)) sa ea (fractionMask (j .format) (j .a)) eb (fractionMask (j .format) (j .b))
       ⊎ Larger j (eqb (turned (j .operation) sb) sa) (turned (j .operation) sb) eb (fractionMask (j .format) (j .b)) ea (fractionMask (j .format) (j .a))
 
+-- a valid job, and two exponent fields of finite operands
+pub record FinitePair (j : Job) (ea eb : ℕ) : Type 0 where
+  pub valid : Valid j
+  pub a-finite : ea < allOnes (j .format)
+  pub b-finite : eb < allOnes (j .format)
+
+-- some two signs pose a case
+pub record SomeSigns (j : Job) (ea eb : ℕ) : Type 0 where
+  pub sa : ℕ
+  pub sb : ℕ
+  pub sa-lt : sa < 2
+  pub sb-lt : sb < 2
+  pub posed : Posed j ea eb sa sb
+
 -- a valid job, and two exponent fields of finite operands that meet their masks
 pub record Finites (j : Job) (ea eb : ℕ) : Type 0 where
   pub valid : Valid j

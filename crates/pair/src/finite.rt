@@ -19,7 +19,7 @@ ghost use Rattle.job.specs.Job.{Valid};
 ghost use Rattle.adder.specs.Word.{allOnes};
 ghost use Rattle.outcome.specs.Outcome.{Admits};
 ghost use Rattle.pair.specs.Asked.{exponentMask, fractionMask, PairFits};
-ghost use Rattle.pair.specs.Pair.{unitAt, alignedOf, Finites, Larger, turned, Posed};
+ghost use Rattle.pair.specs.Pair.{unitAt, alignedOf, FinitePair, SomeSigns, Finites, Larger, turned, Posed};
 
 // The exponent of the unit that goes with an exponent field.
 fn unit_at(e: u64) -> u64
@@ -54,7 +54,7 @@ fn larger(job: Job, like: bool, sign: u64, e: u64, m: Mask, g: u64, n: Mask) -> 
 
 // Whether a case with these signs and exponent fields fits.
 fn signs_admit(job: Job, sa: u64, ea: u64, sb: u64, eb: u64) -> bool
-    requires { ⌜ Finites job ea eb × (sa < 2) × (sb < 2) ⌝ }
+    requires { ⌜ FinitePair job ea eb × (sa < 2) × (sb < 2) ⌝ }
     ensures { λ r. ⌜ (r ≡ true → Posed job ea eb sa sb) × (Posed job ea eb sa sb → r ≡ true) ⌝ }
 {
     if !meets(sign_mask(job.format, job.a), sa) {
@@ -72,10 +72,10 @@ fn signs_admit(job: Job, sa: u64, ea: u64, sb: u64, eb: u64) -> bool
     larger(job, sign == sa, sign, eb, n, ea, m)
 }
 
-// Whether a case with these exponent fields, both finite, fits.
-pub(crate) fn finite_pair(job: Job, ea: u64, eb: u64) -> bool
-    requires { ⌜ Finites job ea eb ⌝ }
-    ensures { λ r. ⌜ (r ≡ true → PairFits job ea eb) × (PairFits job ea eb → r ≡ true) ⌝ }
+// Whether a case with these exponent fields, both finite, is posed by some signs; their masks are not asked.
+pub(crate) fn some_signs(job: Job, ea: u64, eb: u64) -> bool
+    requires { ⌜ FinitePair job ea eb ⌝ }
+    ensures { λ r. ⌜ (r ≡ true → SomeSigns job ea eb) × (SomeSigns job ea eb → r ≡ true) ⌝ }
 {
     if signs_admit(job, 0, ea, 0, eb) {
         return true;
@@ -87,4 +87,12 @@ pub(crate) fn finite_pair(job: Job, ea: u64, eb: u64) -> bool
         return true;
     }
     signs_admit(job, 1, ea, 1, eb)
+}
+
+// Whether a case with these exponent fields, both finite, fits.
+pub(crate) fn finite_pair(job: Job, ea: u64, eb: u64) -> bool
+    requires { ⌜ Finites job ea eb ⌝ }
+    ensures { λ r. ⌜ (r ≡ true → PairFits job ea eb) × (PairFits job ea eb → r ≡ true) ⌝ }
+{
+    some_signs(job, ea, eb)
 }

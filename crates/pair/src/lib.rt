@@ -7,6 +7,7 @@ use job::job_cause;
 use mask::meets;
 use special::special_pair;
 
+pub mod class;
 pub mod fields;
 mod finite;
 mod special;

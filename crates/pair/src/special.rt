@@ -22,7 +22,7 @@ ghost use Rattle.pair.specs.Asked.{Asked, PairFits};
 ghost use Rattle.pair.specs.Special.{Special, wordOf, extreme, representative, together, partnered};
 
 // The word of a sign, an exponent field and a fraction.
-fn word_of(format: Format, sign: u64, e: u64, t: u64) -> u64
+pub(crate) fn word_of(format: Format, sign: u64, e: u64, t: u64) -> u64
     requires { ⌜ Supported format × (sign < 2) × (e < 2 ^ format .w) × (t < 2 ^ format .f) ⌝ }
     ensures { λ r. ⌜ r ≡ wordOf format sign e t ⌝ }
 {

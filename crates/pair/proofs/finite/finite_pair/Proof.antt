@@ -1,87 +1,18 @@
 -- `pair::finite::finite_pair` meets its contract: some two signs are those of the case. Assumes nothing.
-use mathlib.Core.Path.{_≡_, refl, sym, ap, ap₂, _∙_, subst}
-use Prim.Native.Nat.{ℕ, zero, suc, _+_, _-_, _*_, _/_, _%_, _^_, _≤_, _<_}
-use native.Mathlib.Omega.{arith}
-use mathlib.Core.Bool.{Bool, true, false, not, false≢true}
-use native.Mathlib.Nat.{mod-lt}
-use lib.Dec.{lit<}
-use Rattle.job.specs.declared.Job.{Job}
-use Rattle.adder.specs.Word.{sign}
-use Rattle.pair.specs.Asked.{PairFits}
-use Rattle.pair.specs.Pair.{Posed}
-use Rattle.pair.proofs.Finites.{pair-posed, posed-pair}
+use Prim.Native.Nat.{ℕ}
+use Rattle.pair.proofs.Finites.{pair-signs, signs-pair}
 use borrow.Author.Needs.{needs}
 use Rattle.pair.proofs.finite.finite_pair.Statement.{statement}
 use Rattle.pair.proofs.finite.finite_pair.Tie as tie
 
--- one of two signs
-by-sign : (P : ℕ → Type 0) (n : ℕ) → n < 2 → P n → (P 0 → ⊥) → P 1
-by-sign P zero h p none = absurd (none p)
-by-sign P (suc zero) h p none = p
-by-sign P (suc (suc n)) h p none = absurd (omega arith)
-
--- the last of four sign pairs, where the others are refuted
-last : (P : ℕ → ℕ → Type 0) (m n : ℕ) → m < 2 → n < 2 → P m n → (P 0 0 → ⊥) → (P 0 1 → ⊥) → (P 1 0 → ⊥) → P 1 1
-last P m n hm hn p p00 p01 p10 =
-    by-sign (λ (k : ℕ). P 1 k) n hn
-    (by-sign (λ (k : ℕ). P k n) m hm p (λ q. by-sign-none n hn q))
-    p10
-  where
-    by-sign-none : (n : ℕ) → n < 2 → P 0 n → ⊥
-    by-sign-none zero h q = p00 q
-    by-sign-none (suc zero) h q = p01 q
-    by-sign-none (suc (suc n)) h q = absurd (omega arith)
-
-signs-admit-requires : tie.Need-signs-admit-requires
-signs-admit-requires c κs = search needs
+some-signs-requires : tie.Need-some-signs-requires
+some-signs-requires c κs = record { valid = c .pre .valid; a-finite = c .pre .a-finite; b-finite = c .pre .b-finite }
 
 returns : tie.Need-returns
 returns c =
-    let s = c .before .before in
-    (λ e. posed-pair (s .args .job) (s .args .ea) (s .args .eb) (s .pre) 0 0 (lit< tt) (lit< tt) (c .before .signs-admit .ensures .0 (c .if1 .taken)), λ P. refl)
-
-signs-admit-requires-2 : tie.Need-signs-admit-requires-2
-signs-admit-requires-2 c κs = search needs
-
-returns-2 : tie.Need-returns-2
-returns-2 c =
-    let s = c .before .before .before .before in
-    (λ e. posed-pair (s .args .job) (s .args .ea) (s .args .eb) (s .pre) 0 1 (lit< tt) (lit< tt) (c .before .signs-admit2 .ensures .0 (c .if2 .taken)), λ P. refl)
-
-signs-admit-requires-3 : tie.Need-signs-admit-requires-3
-signs-admit-requires-3 c κs = search needs
-
-returns-3 : tie.Need-returns-3
-returns-3 c =
-    let s = c .before .before .before .before .before .before in
-    (λ e. posed-pair (s .args .job) (s .args .ea) (s .args .eb) (s .pre) 1 0 (lit< tt) (lit< tt) (c .before .signs-admit3 .ensures .0 (c .if3 .taken)), λ P. refl)
-
-signs-admit-requires-4 : tie.Need-signs-admit-requires-4
-signs-admit-requires-4 c κs = search needs
-
-returns-4 : tie.Need-returns-4
-returns-4 c =
-    let s = c .before .before .before .before .before .before .before in
-    let j = s .args .job in (
-      λ e. posed-pair j (s .args .ea) (s .args .eb) (s .pre) 1 1 (lit< tt) (lit< tt) (c .signs-admit4 .ensures .0 e),
-      λ P.
-          c .signs-admit4 .ensures .1
-          (last (Posed j (s .args .ea) (s .args .eb)) (sign (j .format) (P .a)) (sign (j .format) (P .b)) (mod-lt (P .a / 2 ^ (j .format .w + j .format .f)) (omega arith))
-          (mod-lt (P .b / 2 ^ (j .format .w + j .format .f)) (omega arith)) (pair-posed j (s .args .ea) (s .args .eb) (s .pre) P)
-          (λ q. false≢true (sym (c .before .before .before .before .before .if1 .left) ∙ c .before .before .before .before .before .before .signs-admit .ensures .1 q))
-          (λ q. false≢true (sym (c .before .before .before .if2 .left) ∙ c .before .before .before .before .signs-admit2 .ensures .1 q))
-          (λ q. false≢true (sym (c .before .if3 .left) ∙ c .before .before .signs-admit3 .ensures .1 q))),
-    )
+    let s = c .before in
+    let a = s .args in
+    (λ e. signs-pair (a .job) (a .ea) (a .eb) (s .pre) (c .some-signs .ensures .0 e), λ P. c .some-signs .ensures .1 (pair-signs (a .job) (a .ea) (a .eb) (s .pre) P))
 
 pub finite-pair-spec : {M : Type 1} → statement M
-finite-pair-spec =
-    tie.close
-    (tie.spec
-    signs-admit-requires
-    returns
-    signs-admit-requires-2
-    returns-2
-    signs-admit-requires-3
-    returns-3
-    signs-admit-requires-4
-    returns-4)
+finite-pair-spec = tie.close (tie.spec some-signs-requires returns)

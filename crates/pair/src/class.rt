@@ -1,0 +1,84 @@
+// The pair of exponent fields that stands for a class of pairs.
+use crate::fields::fraction_mask;
+use crate::fields::sign_mask;
+use crate::finite::some_signs;
+use crate::special::word_of;
+use bits::power;
+use format::Format;
+use job::Job;
+use job::job_cause;
+use mask::Mask;
+use mask::mask_cause;
+ghost use mathlib.Core.Bool.{true};
+ghost use mathlib.Core.Logic.{_↔_};
+ghost use mathlib.Core.Path.{_≡_};
+ghost use Prim.Native.Nat.{_+_, _*_, _≤_, _<_};
+ghost use Rattle.format.specs.Format.{Supported, wordBits};
+ghost use Rattle.mask.specs.Mask.{WellFormed};
+ghost use Rattle.pair.specs.Class.{aField, bField, withExponent, asking, ClassAdmits, ClassAsked};
+
+// a's exponent field.
+fn a_field(f: u64, k: u64) -> u64
+    requires { ⌜ f ≤ 23 ⌝ }
+    ensures { λ r. ⌜ r ≡ aField f k ⌝ }
+{
+    if k <= f + 4 { f + 4 } else { k - (f + 5) }
+}
+
+// b's.
+fn b_field(f: u64, k: u64) -> u64
+    requires { ⌜ f ≤ 23 ⌝ }
+    ensures { λ r. ⌜ r ≡ bField f k ⌝ }
+{
+    if k <= f + 4 { k } else { f + 4 }
+}
+
+// The mask c with another mask on its exponent field.
+fn with_exponent(format: Format, c: Mask, n: Mask) -> Mask
+    requires { ⌜ Supported format × WellFormed (wordBits format) c × WellFormed (format .w) n ⌝ }
+    ensures { λ r. ⌜ r ≡ withExponent format c n ⌝ }
+{
+    let sign = sign_mask(format, c);
+    let fraction = fraction_mask(format, c);
+    let care = word_of(format, sign.care, n.care, fraction.care);
+    let value = word_of(format, sign.value, n.value, fraction.value);
+    Mask { care, value }
+}
+
+// The job that asks for another mask of c's exponent field.
+fn asking(job: Job, n: Mask) -> Job
+    requires { ⌜ Supported (job .format) × WellFormed (wordBits (job .format)) (job .c) × WellFormed (job .format .w) n ⌝ }
+    ensures { λ r. ⌜ r ≡ asking job n ⌝ }
+{
+    let mut with = job;
+    with.c = with_exponent(job.format, job.c, n);
+    with
+}
+
+// Whether a question about a class may be put.
+fn asked(job: Job, k: u64, n: Mask) -> bool
+    ensures { λ r. ⌜ (r ≡ true) ↔ ClassAsked job k n ⌝ }
+{
+    if job_cause(job) != 0 {
+        return false;
+    }
+    if mask_cause(job.format.w, n) != 0 {
+        return false;
+    }
+    (job.format.f + 9 <= power(job.format.w) - 1) & (k < 2 * (job.format.f + 5))
+}
+
+// Whether the pair that stands for the class k admits a case, where n is asked of c's exponent field; false where the job is not valid, its
+// format has no such pair, or there is no such class or mask.
+pub fn class_admits(job: Job, k: u64, n: Mask) -> bool
+    ensures { λ r. ⌜ (ClassAsked job k n → (r ≡ true) ↔ ClassAdmits job k n) ⌝ }
+{
+    if !asked(job, k, n) {
+        return false;
+    }
+    some_signs(
+        asking(job, n),
+        a_field(job.format.f, k),
+        b_field(job.format.f, k),
+    )
+}
