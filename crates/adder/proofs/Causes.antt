@@ -14,11 +14,6 @@ use Rattle.adder.specs.Result.{result, resultCause, resultReply}
 use Rattle.adder.specs.Row as Rows
 use Rattle.adder.specs.Row.{rowOf, rowCause, rowReply}
 
--- a cause that was found stays
-pub first-kept : (m n : ℕ) → (m ≡ 0 → ⊥) → m ≡ first m n
-first-kept zero n ne = absurd (ne refl)
-first-kept (suc m) n ne = refl
-
 -- a format, an operation and two words with no cause against them
 pub record Fit (F : Format) (operation a b : ℕ) : Type 0 where
   pub supported : Supported F

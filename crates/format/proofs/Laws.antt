@@ -16,6 +16,11 @@ pub first-none : (m n : ℕ) → first m n ≡ 0 ↔ ((m ≡ 0) × (n ≡ 0))
 first-none zero n = (λ e. (refl, e), λ b. b .1)
 first-none (suc m) n = (λ e. absurd (suc-ne-zero m e), λ b. b .0)
 
+-- where the first cause stands, the later ones do not count
+pub first-some : (m n : ℕ) → (m ≡ 0 → ⊥) → first m n ≡ m
+first-some zero n h = absurd (h refl)
+first-some (suc m) n h = refl
+
 -- a test that names the cause suc n names none exactly when it holds
 pub unless-none : (t : Bool) (n : ℕ) → unless t (suc n) ≡ 0 ↔ (t ≡ true)
 unless-none true n = (λ e. refl, λ e. refl)

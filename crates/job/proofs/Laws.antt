@@ -1,7 +1,7 @@
 -- What it means that no cause stands against a job. Assumes nothing.
-use mathlib.Core.Path.{_≡_, refl}
+use mathlib.Core.Path.{_≡_}
 use mathlib.Core.Logic.{_↔_}
-use Prim.Native.Nat.{ℕ, zero, suc}
+use Prim.Native.Nat.{ℕ}
 use Rattle.format.specs.Cause.{first}
 use Rattle.format.specs.Format.{wordBits, precision}
 use Rattle.format.proofs.Laws.{first-none, format-none, operation-none, mode-none}
@@ -9,11 +9,6 @@ use Rattle.mask.specs.Mask.{WellFormed}
 use Rattle.mask.proofs.Checks.{mask-none}
 use Rattle.job.specs.declared.Job.{Job}
 use Rattle.job.specs.Job.{masksCause, jobCause, Valid}
-
--- where the first cause stands, the later ones do not count
-pub first-some : (m n : ℕ) → (m ≡ 0 → ⊥) → first m n ≡ m
-first-some zero n h = absurd (h refl)
-first-some (suc m) n h = refl
 
 -- two causes, each with what it means that it does not stand
 both-none : {P Q : Type 0} (m n : ℕ) → (m ≡ 0) ↔ P → (n ≡ 0) ↔ Q → (first m n ≡ 0) ↔ (P × Q)

@@ -15,12 +15,12 @@ use Rattle.format.specs.Cause as cause
 use Rattle.format.specs.Cause.{unless, first}
 use Rattle.format.specs.Format.{wordBits, precision, Supported, wordCause}
 use Rattle.format.specs.declared.Format.{Format}
-use Rattle.format.proofs.Laws.{first-none, unless-none, word-none}
+use Rattle.format.proofs.Laws.{first-none, unless-none, word-none, first-some}
 use Rattle.mask.specs.declared.Mask.{Mask}
 use Rattle.mask.specs.Mask.{WellFormed}
 use Rattle.mask.proofs.ByBits.{value-below}
 use Rattle.job.specs.Job.{jobCause, Valid}
-use Rattle.job.proofs.Laws.{job-none, first-some}
+use Rattle.job.proofs.Laws.{job-none}
 use Rattle.records.specs.Fields.{mapOf, saysDefault}
 use Rattle.records.specs.Record.{words, shapes, maskNumbers, fields, recordCause, recordBytes, recordLength, fieldsOf, entryIn, readCause, answer, firstIn}
 use Rattle.records.specs.declared.Entry.{Entry}

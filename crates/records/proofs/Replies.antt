@@ -10,8 +10,7 @@ use lib.Seq.{drop-drop}
 use lib.Dec.{leb}
 use Rattle.format.specs.Cause as cause
 use Rattle.format.specs.Cause.{unless}
-use Rattle.format.proofs.Laws.{first-none}
-use Rattle.job.proofs.Laws.{first-some}
+use Rattle.format.proofs.Laws.{first-none, first-some}
 use Rattle.records.specs.Number.{put}
 use Rattle.records.specs.Record.{recordCause, recordBytes, firstIn, rest, writeCause, told, writing, kept, written}
 use Rattle.records.specs.declared.Entry.{Entry}

@@ -4,7 +4,7 @@ use Prim.Native.Nat.{ℕ, zero, suc, _+_, _-_, _*_, _/_, _%_, _^_, _≤_, _<_}
 use native.Mathlib.Omega.{arith}
 use Rattle.format.specs.Cause.{first}
 use Rattle.format.specs.Format.{wordBits, wordCause}
-use Rattle.adder.proofs.Causes.{first-kept}
+use Rattle.format.proofs.Laws.{first-some}
 use Rattle.job.proofs.Laws.{job-none}
 use Rattle.fit.specs.Fit.{caseCause}
 use borrow.Author.Needs.{needs}
@@ -19,7 +19,7 @@ unfolding caseCause
 returns c =
     let s = c .before .before in
     let F = s .args .job .format in
-    first-kept (c .before .job-cause .result) (first (wordCause (wordBits F) (s .args .a)) (first (wordCause (wordBits F) (s .args .b)) (wordCause (wordBits F) (s .args .c)))) (c .if1 .taken)
+    sym (first-some (c .before .job-cause .result) (first (wordCause (wordBits F) (s .args .a)) (first (wordCause (wordBits F) (s .args .b)) (wordCause (wordBits F) (s .args .c)))) (c .if1 .taken))
     ∙ ap (λ (n : ℕ). first n (first (wordCause (wordBits F) (s .args .a)) (first (wordCause (wordBits F) (s .args .b)) (wordCause (wordBits F) (s .args .c))))) (c .before .job-cause .ensures)
 
 add-width : tie.Need-add-width

@@ -4,7 +4,7 @@ use Prim.Native.Nat.{ℕ}
 use native.Mathlib.Omega.{arith}
 use Rattle.format.specs.Cause.{first}
 use Rattle.format.specs.Format.{wordBits, wordCause}
-use Rattle.adder.proofs.Causes.{first-kept}
+use Rattle.format.proofs.Laws.{first-some}
 use Rattle.job.proofs.Laws.{job-none}
 use Rattle.generator.specs.Promise.{requestCause}
 use borrow.Author.Needs.{needs}
@@ -20,7 +20,7 @@ returns c =
     let a = c .before .before .args in
     let width = wordBits (a .job .format) in
     let rest = first (wordCause width (a .r1)) (wordCause width (a .r2)) in
-    first-kept (c .before .job-cause .result) rest (c .if1 .taken) ∙ ap (λ (n : ℕ). first n rest) (c .before .job-cause .ensures)
+    sym (first-some (c .before .job-cause .result) rest (c .if1 .taken)) ∙ ap (λ (n : ℕ). first n rest) (c .before .job-cause .ensures)
 
 add-width : tie.Need-add-width
 add-width c =

@@ -5,7 +5,7 @@ use Rattle.format.specs.Cause.{first}
 use Rattle.format.specs.Format.{formatCause}
 use Rattle.format.proofs.Laws.{format-none}
 use Rattle.job.specs.Job.{jobCause}
-use Rattle.job.proofs.Laws.{first-some}
+use Rattle.format.proofs.Laws.{first-some}
 use Rattle.job.proofs.job_cause.Statement.{statement}
 use Rattle.job.proofs.job_cause.Tie as tie
 

@@ -4,7 +4,8 @@ use native.Mathlib.Omega.{arith}
 use Rattle.format.specs.Cause.{first}
 use Rattle.format.specs.Format.{Supported}
 use Rattle.job.specs.Job.{jobCause}
-use Rattle.job.proofs.Laws.{job-none, first-some}
+use Rattle.format.proofs.Laws.{first-some}
+use Rattle.job.proofs.Laws.{job-none}
 use Rattle.records.specs.Record.{recordCause}
 use borrow.Author.Needs.{needs}
 use Rattle.records.proofs.entry_cause.Statement.{statement}

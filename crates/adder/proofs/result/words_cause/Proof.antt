@@ -4,13 +4,13 @@ use Prim.Native.Nat.{ℕ, zero, suc, _+_, _-_, _*_, _/_, _%_, _^_, _≤_, _<_}
 use native.Mathlib.Omega.{arith}
 use Rattle.format.specs.Cause.{first}
 use Rattle.format.specs.Format.{Supported, wordBits, formatCause, operationCause, modeCause, wordCause}
-use Rattle.adder.proofs.Causes.{first-kept}
+use Rattle.format.proofs.Laws.{first-some}
 use borrow.Author.Needs.{needs}
 use Rattle.adder.proofs.result.words_cause.Statement.{statement}
 use Rattle.adder.proofs.result.words_cause.Tie as tie
 
 returns : tie.Need-returns
-returns c = first-kept (c .before .args .before) (first (wordCause (wordBits (c .before .args .format)) (c .before .args .a)) (wordCause (wordBits (c .before .args .format)) (c .before .args .b))) (c .if1 .taken)
+returns c = sym (first-some (c .before .args .before) (first (wordCause (wordBits (c .before .args .format)) (c .before .args .a)) (wordCause (wordBits (c .before .args .format)) (c .before .args .b))) (c .if1 .taken))
 
 add-width : tie.Need-add-width
 add-width c = let ok = c .before .before .pre (c .before .if1 .left) in omega (arith, ok .w-most, ok .f-most)
