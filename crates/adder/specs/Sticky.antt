@@ -1,5 +1,5 @@
 -- How the code holds a magnitude that is too long for a word: its upper part, and below that one sticky bit. The rounded result and
--- the search both work on it; no contract of a public function of this crate speaks of it. Assumes nothing.
+-- the search both work on it. Assumes nothing.
 use mathlib.Core.Bool.{Bool, true, false, cond}
 use mathlib.Core.Logic.{_⊎_}
 use mathlib.Core.Path.{_≡_}

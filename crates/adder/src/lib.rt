@@ -1,4 +1,5 @@
 // The rounded sum and difference of two words of a format, and their carry row.
+pub mod alignment;
 pub mod carry_row;
 pub mod exponent;
 pub mod result;

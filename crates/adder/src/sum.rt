@@ -2,21 +2,19 @@
 use crate::Finite;
 use crate::Operand;
 use crate::Operands;
+use crate::alignment::aligned;
 use crate::exponent::unit_of;
 use crate::round::infinity_word;
 use crate::round::rounded;
 use crate::round::signed;
-use bits::high;
-use bits::low;
 use bits::power;
 use format::Format;
 ghost use mathlib.Core.Path.{_≡_};
-ghost use Prim.Native.Nat.{_*_, _^_, _≤_, _<_};
+ghost use Prim.Native.Nat.{_≤_, _<_};
 ghost use lib.Dec.{ltb};
 ghost use Rattle.format.specs.Format.{Supported};
 ghost use Rattle.adder.specs.Operand.{magnitude, Canonical, Sound};
 ghost use Rattle.adder.specs.Result.{nan, infinity, cancelledSign, finiteSum, infiniteSum, kindSum};
-ghost use Rattle.adder.specs.Sticky.{sticky, withSticky};
 
 // Whether x has the smaller magnitude: by the exponents, and where these are equal by the significands.
 pub(crate) fn smaller(x: Finite, y: Finite, format: Format) -> bool
@@ -30,22 +28,6 @@ pub(crate) fn smaller(x: Finite, y: Finite, format: Format) -> bool
     } else {
         e.0 < g.0
     }
-}
-
-// The sticky bit of what is dropped.
-pub(crate) fn sticky(rest: u64) -> u64
-    ensures { λ r. ⌜ r ≡ sticky rest ⌝ }
-{
-    if rest == 0 { 0 } else { 1 }
-}
-
-// A significand with two more bits, the guard and the round bit, moved down by `gap` places, and then the sticky bit.
-fn aligned(significand: u64, gap: u64) -> u64
-    requires { ⌜ significand < 2 ^ 60 ⌝ }
-    ensures { λ r. ⌜ r ≡ withSticky (4 * significand) gap ⌝ }
-{
-    let guarded = 4 * significand;
-    high(guarded, gap) * 2 + sticky(low(guarded, gap))
 }
 
 // The sign of an exact zero from operands of unlike sign.

@@ -1,14 +1,12 @@
 // Masks on significands, and on their aligned forms.
-use bits::high;
-use bits::low;
+use adder::alignment::aligned;
 use bits::power;
 use mask::Mask;
 use mask::fix;
 use mask::mask_cause;
 ghost use mathlib.Core.Path.{_≡_};
-ghost use Prim.Native.Nat.{_*_, _≤_, _<_, _^_};
+ghost use Prim.Native.Nat.{_≤_, _<_, _^_};
 ghost use Rattle.mask.specs.Mask.{WellFormed};
-ghost use Rattle.adder.specs.Sticky.{sticky, withSticky};
 ghost use Rattle.significand.specs.Significand.{significandMask};
 ghost use Rattle.significand.specs.Tail.{complement, greatest, spanned, alignedMask, tailMask};
 
@@ -48,22 +46,6 @@ fn spanned(l: u64, g: u64) -> Mask
         care: complement(63, g - l),
         value: l,
     }
-}
-
-// The sticky bit of what is dropped.
-fn sticky(rest: u64) -> u64
-    ensures { λ r. ⌜ r ≡ sticky rest ⌝ }
-{
-    if rest == 0 { 0 } else { 1 }
-}
-
-// A significand with two more bits moved down by `gap` places, and then the sticky bit.
-fn aligned(significand: u64, gap: u64) -> u64
-    requires { ⌜ significand < 2 ^ 60 ⌝ }
-    ensures { λ r. ⌜ r ≡ withSticky (4 * significand) gap ⌝ }
-{
-    let guarded = 4 * significand;
-    high(guarded, gap) * 2 + sticky(low(guarded, gap))
 }
 
 // The mask on the aligned forms of the significands of p bits that meet m.

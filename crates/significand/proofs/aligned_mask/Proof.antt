@@ -2,10 +2,12 @@
 -- first is a part of the second. Assumes nothing.
 use borrow.Author.Needs.{needs}
 use mathlib.Core.Path.{_≡_, ap, ap₂, _∙_}
-use Prim.Native.Nat.{ℕ, _*_}
+use Prim.Native.Nat.{ℕ, _*_, _^_, _≤_, _<_}
 use native.Mathlib.Nat.{lt-of-lt-of-le}
 use native.Mathlib.Omega.{arith}
 use lib.Pow.{pow-mono}
+use Rattle.mask.specs.declared.Mask.{Mask}
+use Rattle.mask.specs.Mask.{WellFormed}
 use Rattle.mask.proofs.ByBits.{value-below}
 use Rattle.adder.specs.Sticky.{withSticky}
 use Rattle.significand.specs.Tail.{least, greatest, spanned}
@@ -15,35 +17,44 @@ use Rattle.significand.proofs.Tail.{ends-part, ends-lt}
 use Rattle.significand.proofs.aligned_mask.Statement.{statement}
 use Rattle.significand.proofs.aligned_mask.Tie as tie
 
+-- the least and the greatest have 60 bits at most
+least-lt : (p : ℕ) (m : Mask) → p ≤ 60 → WellFormed p m → least m < 2 ^ 60
+least-lt p m h w = lt-of-lt-of-le (value-below p m w) (pow-mono {i = p} {j = 60} h)
+
+greatest-fits : (p : ℕ) (m : Mask) → p ≤ 60 → WellFormed p m → greatest p m < 2 ^ 60
+greatest-fits p m h w = lt-of-lt-of-le (greatest-lt p m w) (pow-mono {i = p} {j = 60} h)
+
 aligned-requires : tie.Need-aligned-requires
-aligned-requires c κs =
-    let a = c .args in
-    lt-of-lt-of-le (value-below (a .p) (a .m) (c .pre .1)) (pow-mono {i = a .p} {j = 60} (c .pre .0))
+aligned-requires c κs = search needs
 
 greatest-requires : tie.Need-greatest-requires
 greatest-requires c κs = search needs
 
 aligned-requires-2 : tie.Need-aligned-requires-2
-aligned-requires-2 c κs =
-    let s = c .before .before in
+aligned-requires-2 c κs = search needs
+
+-- both aligned forms
+least-form : (c : tie.After-aligned) → c .aligned .result ≡ withSticky (4 * least (c .before .args .m)) (c .before .args .gap)
+least-form c = let s = c .before in c .aligned .ensures .0 (least-lt (s .args .p) (s .args .m) (s .pre .0) (s .pre .1))
+
+greatest-form : (c : tie.After-aligned2) → c .aligned2 .result ≡ withSticky (4 * greatest (c .before .before .before .args .p) (c .before .before .before .args .m)) (c .before .before .before .args .gap)
+greatest-form c =
+    let s = c .before .before .before in
     let a = s .args in
-    rw (c .greatest .ensures) (lt-of-lt-of-le (greatest-lt (a .p) (a .m) (s .pre .1)) (pow-mono {i = a .p} {j = 60} (s .pre .0)))
+    let lt : c .before .greatest .result < 2 ^ 60 = rw (c .before .greatest .ensures) (greatest-fits (a .p) (a .m) (s .pre .0) (s .pre .1)) in
+    c .aligned2 .ensures .0 lt ∙ ap (λ (n : ℕ). withSticky (4 * n) (a .gap)) (c .before .greatest .ensures)
 
 spanned-requires : tie.Need-spanned-requires
 spanned-requires c κs =
     let s = c .before .before .before in
     let a = s .args in
-    let l : c .before .before .aligned .result ≡ withSticky (4 * least (a .m)) (a .gap) = c .before .before .aligned .ensures in
-    let g : c .aligned2 .result ≡ withSticky (4 * greatest (a .p) (a .m)) (a .gap) = c .aligned2 .ensures ∙ ap (λ (n : ℕ). withSticky (4 * n) (a .gap)) (c .before .greatest .ensures) in
+    let l = least-form (c .before .before) in
+    let g = greatest-form c in
     let part = part-le (withSticky (4 * least (a .m)) (a .gap)) (withSticky (4 * greatest (a .p) (a .m)) (a .gap)) (ends-part (a .p) (a .m) (a .gap) (s .pre .0) (s .pre .1)) in
     omega (arith, ends-lt (a .p) (a .m) (a .gap) (s .pre .0) (s .pre .1))
 
 returns : tie.Need-returns
-returns c =
-    let a = c .before .before .before .before .args in
-    c .spanned .ensures
-    ∙ ap₂ (spanned 63) (c .before .before .before .aligned .ensures)
-    (c .before .aligned2 .ensures ∙ ap (λ (n : ℕ). withSticky (4 * n) (a .gap)) (c .before .before .greatest .ensures))
+returns c = c .spanned .ensures ∙ ap₂ (spanned 63) (least-form (c .before .before .before)) (greatest-form (c .before))
 
 pub aligned-mask-spec : {M : Type 1} → statement M
 aligned-mask-spec =

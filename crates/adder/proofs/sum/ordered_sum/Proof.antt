@@ -30,6 +30,10 @@ cancelled-lt mode = go (lib.Dec.eqb mode 3)
     go mathlib.Core.Bool.true = omega arith
     go mathlib.Core.Bool.false = omega arith
 
+-- a significand has 60 bits at most
+sixty : (F : Format) (r : record-of.Finite) → Supported F → Canonical F r → r .significand < 2 ^ 60
+sixty F r ok c = omega (arith, native.Mathlib.Nat.lt-of-lt-of-le (c .significand-lt) (pow-mono {i = precision F} {j = 24} (omega (arith, ok .f-most))))
+
 -- what the code holds: the units p and q, and the aligned significand t
 module _ (F : Format) (l r : record-of.Finite) (ok : Supported F) (cl : Canonical F l) (cr : Canonical F r) (le : magnitude r ≤ magnitude l)
     (p q : exponent.Unit) (ep : p ≡ unitOf (l .exponent)) (eq : q ≡ unitOf (r .exponent)) where
@@ -105,10 +109,7 @@ sub-aligned c =
     gap-le F l r (s .pre .1) (s .pre .2) (s .pre .3) (p .result) (q .result) (p .ensures) (q .ensures)
 
 aligned-requires : tie.Need-aligned-requires
-aligned-requires c κs =
-    let s = c .before .before .before .before .before in
-    let h = native.Mathlib.Nat.lt-of-lt-of-le (s .pre .2 .significand-lt) (pow-mono {i = precision (s .args .format)} {j = 24} (omega (arith, s .pre .0 .f-most))) in
-    omega arith
+aligned-requires c κs = search needs
 
 add-rounded : tie.Need-add-rounded
 add-rounded c =
@@ -119,7 +120,7 @@ add-rounded c =
     let p = c .before .before .before .before .before .before .before .before .unit-of in
     let q = c .before .before .before .before .before .before .before .unit-of2 in
     let t = c .before .before .before .aligned in
-    omega (arith, sum-lt F l r (s .pre .0) (s .pre .1) (s .pre .2) (s .pre .3) (p .result) (q .result) (p .ensures) (q .ensures) (t .result) (t .ensures), pow-mono {i = F .f + 5} {j = 28} (omega (arith, s .pre .0 .f-most)))
+    omega (arith, sum-lt F l r (s .pre .0) (s .pre .1) (s .pre .2) (s .pre .3) (p .result) (q .result) (p .ensures) (q .ensures) (t .result) (t .ensures .0 (sixty F r (s .pre .0) (s .pre .2))), pow-mono {i = F .f + 5} {j = 28} (omega (arith, s .pre .0 .f-most)))
 
 rounded-requires : tie.Need-rounded-requires
 rounded-requires c κs =
@@ -130,7 +131,7 @@ rounded-requires c κs =
     let p = c .before .before .before .before .before .before .before .before .unit-of in
     let q = c .before .before .before .before .before .before .before .unit-of2 in
     let t = c .before .before .before .aligned in
-    (s .pre .0, s .pre .1 .sign-lt, unit-lt F l r (s .pre .0) (s .pre .1) (s .pre .2) (s .pre .3) (p .result) (q .result) (p .ensures) (q .ensures), sum-lt F l r (s .pre .0) (s .pre .1) (s .pre .2) (s .pre .3) (p .result) (q .result) (p .ensures) (q .ensures) (t .result) (t .ensures))
+    (s .pre .0, s .pre .1 .sign-lt, unit-lt F l r (s .pre .0) (s .pre .1) (s .pre .2) (s .pre .3) (p .result) (q .result) (p .ensures) (q .ensures), sum-lt F l r (s .pre .0) (s .pre .1) (s .pre .2) (s .pre .3) (p .result) (q .result) (p .ensures) (q .ensures) (t .result) (t .ensures .0 (sixty F r (s .pre .0) (s .pre .2))))
 
 cancelled-sign-requires : tie.Need-cancelled-sign-requires
 cancelled-sign-requires c κs = search needs
@@ -149,7 +150,7 @@ sub-rounded c =
     let p = c .before .before .before .before .before .before .before .before .before .unit-of in
     let q = c .before .before .before .before .before .before .before .before .unit-of2 in
     let t = c .before .before .before .before .aligned in
-    tail-le F l r (s .pre .0) (s .pre .1) (s .pre .2) (s .pre .3) (p .result) (q .result) (p .ensures) (q .ensures) (t .result) (t .ensures)
+    tail-le F l r (s .pre .0) (s .pre .1) (s .pre .2) (s .pre .3) (p .result) (q .result) (p .ensures) (q .ensures) (t .result) (t .ensures .0 (sixty F r (s .pre .0) (s .pre .2)))
 
 rounded-requires-2 : tie.Need-rounded-requires-2
 rounded-requires-2 c κs =
@@ -160,7 +161,7 @@ rounded-requires-2 c κs =
     let p = c .before .before .before .before .before .before .before .before .before .unit-of in
     let q = c .before .before .before .before .before .before .before .before .unit-of2 in
     let t = c .before .before .before .before .aligned in
-    (s .pre .0, s .pre .1 .sign-lt, unit-lt F l r (s .pre .0) (s .pre .1) (s .pre .2) (s .pre .3) (p .result) (q .result) (p .ensures) (q .ensures), difference-lt F l r (s .pre .0) (s .pre .1) (s .pre .2) (s .pre .3) (p .result) (q .result) (p .ensures) (q .ensures) (t .result) (t .ensures))
+    (s .pre .0, s .pre .1 .sign-lt, unit-lt F l r (s .pre .0) (s .pre .1) (s .pre .2) (s .pre .3) (p .result) (q .result) (p .ensures) (q .ensures), difference-lt F l r (s .pre .0) (s .pre .1) (s .pre .2) (s .pre .3) (p .result) (q .result) (p .ensures) (q .ensures) (t .result) (t .ensures .0 (sixty F r (s .pre .0) (s .pre .2))))
 
 returns : tie.Need-returns
 returns c =
@@ -171,7 +172,7 @@ returns c =
     let p = c .before .before .before .before .before .before .before .before .before .unit-of in
     let q = c .before .before .before .before .before .before .before .before .unit-of2 in
     let t = c .before .before .before .before .aligned in
-    c .rounded .ensures (magnitude l + magnitude r) (sum-held F l r (s .pre .0) (s .pre .1) (s .pre .2) (s .pre .3) (p .result) (q .result) (p .ensures) (q .ensures) (t .result) (t .ensures)) ∙ sym (sum-like F (s .args .mode) l r (c .before .if1 .taken))
+    c .rounded .ensures (magnitude l + magnitude r) (sum-held F l r (s .pre .0) (s .pre .1) (s .pre .2) (s .pre .3) (p .result) (q .result) (p .ensures) (q .ensures) (t .result) (t .ensures .0 (sixty F r (s .pre .0) (s .pre .2)))) ∙ sym (sum-like F (s .args .mode) l r (c .before .if1 .taken))
 
 returns-2 : tie.Need-returns-2
 returns-2 c =
@@ -182,7 +183,7 @@ returns-2 c =
     let p = c .before .before .before .before .before .before .before .before .before .before .before .unit-of in
     let q = c .before .before .before .before .before .before .before .before .before .before .unit-of2 in
     let t = c .before .before .before .before .before .before .aligned in
-    c .signed .ensures ∙ ap (λ (n : ℕ). signed F n 0) (c .before .cancelled-sign .ensures) ∙ sym (sum-cancelled F (s .args .mode) l r (c .before .before .before .if1 .left) (equal F l r (s .pre .0) (s .pre .1) (s .pre .2) (s .pre .3) (p .result) (q .result) (p .ensures) (q .ensures) (t .result) (t .ensures) .1 (c .before .before .if2 .taken)))
+    c .signed .ensures ∙ ap (λ (n : ℕ). signed F n 0) (c .before .cancelled-sign .ensures) ∙ sym (sum-cancelled F (s .args .mode) l r (c .before .before .before .if1 .left) (equal F l r (s .pre .0) (s .pre .1) (s .pre .2) (s .pre .3) (p .result) (q .result) (p .ensures) (q .ensures) (t .result) (t .ensures .0 (sixty F r (s .pre .0) (s .pre .2))) .1 (c .before .before .if2 .taken)))
 
 returns-3 : tie.Need-returns-3
 returns-3 c =
@@ -193,8 +194,8 @@ returns-3 c =
     let p = c .before .before .before .before .before .before .before .before .before .before .unit-of in
     let q = c .before .before .before .before .before .before .before .before .before .unit-of2 in
     let t = c .before .before .before .before .before .aligned in
-    let ne : magnitude l ≡ magnitude r → ⊥ = λ e. c .before .if2 .left (equal F l r (s .pre .0) (s .pre .1) (s .pre .2) (s .pre .3) (p .result) (q .result) (p .ensures) (q .ensures) (t .result) (t .ensures) .0 e) in
-    c .rounded2 .ensures (magnitude l - magnitude r) (difference-held F l r (s .pre .0) (s .pre .1) (s .pre .2) (s .pre .3) (p .result) (q .result) (p .ensures) (q .ensures) (t .result) (t .ensures)) ∙ sym (sum-unlike F (s .args .mode) l r (c .before .before .if1 .left) (omega (arith, s .pre .3, ne)))
+    let ne : magnitude l ≡ magnitude r → ⊥ = λ e. c .before .if2 .left (equal F l r (s .pre .0) (s .pre .1) (s .pre .2) (s .pre .3) (p .result) (q .result) (p .ensures) (q .ensures) (t .result) (t .ensures .0 (sixty F r (s .pre .0) (s .pre .2))) .0 e) in
+    c .rounded2 .ensures (magnitude l - magnitude r) (difference-held F l r (s .pre .0) (s .pre .1) (s .pre .2) (s .pre .3) (p .result) (q .result) (p .ensures) (q .ensures) (t .result) (t .ensures .0 (sixty F r (s .pre .0) (s .pre .2)))) ∙ sym (sum-unlike F (s .args .mode) l r (c .before .before .if1 .left) (omega (arith, s .pre .3, ne)))
 
 pub ordered-sum-spec : {M : Type 1} → statement M
 ordered-sum-spec =

@@ -1,7 +1,7 @@
--- `adder::sum::sticky` meets its contract. Assumes nothing.
+-- `adder::alignment::sticky` meets its contract. Assumes nothing.
 use borrow.Author.Tests.{lt-ltb, le-ltb, eq-eqb, ne-eqb}
-use Rattle.adder.proofs.sum.sticky.Statement.{statement}
-use Rattle.adder.proofs.sum.sticky.Tie as tie
+use Rattle.adder.proofs.alignment.sticky.Statement.{statement}
+use Rattle.adder.proofs.alignment.sticky.Tie as tie
 
 returns : tie.Need-returns
 returns c = rw (eq-eqb _ _ (c .if1 .taken))
