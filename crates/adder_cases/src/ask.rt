@@ -1,8 +1,6 @@
 // A case of each kind: the function is asked, and its reply held against the one expected.
-use crate::line::Count;
 use crate::line::ask_result;
 use crate::line::ask_row;
-use crate::line::judge;
 use crate::line::put_reply;
 use crate::line::put_row;
 use crate::same::same_reply;
@@ -13,6 +11,8 @@ use adder::RowReply;
 use adder::carry_row::carry_row;
 use adder::result::rounded_result;
 use format::Format;
+use tally::Count;
+use tally::judge;
 
 const ADD: u64 = 0;
 

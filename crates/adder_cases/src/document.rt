@@ -6,8 +6,8 @@ use crate::ask::eight_difference_row;
 use crate::ask::eight_sum;
 use crate::ask::eight_sum_row;
 use crate::ask::refused;
-use crate::line::Count;
 use format::cause;
+use tally::Count;
 
 // 1. (45, 2B, 4C) row 04 and (4D, 3B, 55) row 1D, in mode 0.
 fn case_1(count: Count) -> Count {

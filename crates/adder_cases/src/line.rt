@@ -5,12 +5,6 @@ use adder::RowReply;
 use format::Format;
 use libc::STDOUT_FILENO;
 
-// How many lines were written, and how many of them say WRONG.
-pub struct Count {
-    pub lines: u64,
-    pub wrong: u64,
-}
-
 // The format, and the operands with the operation between them.
 fn put_operands(format: Format, operation: u64, a: u64, b: u64, digits: usize) {
     io::write_all(STDOUT_FILENO, b"w ");
@@ -69,29 +63,4 @@ pub fn put_row(reply: RowReply, digits: usize) {
         RowReply::Row(row) => put_carries(row, digits),
         RowReply::Refused(number) => put_refused(number),
     }
-}
-
-// Ends the line, and counts it.
-pub fn judge(count: Count, ok: bool) -> Count {
-    let lines = std::num::wrapping_add_u64(count.lines, 1);
-    if ok {
-        io::write_all(STDOUT_FILENO, b" ok\n");
-        Count {
-            lines,
-            wrong: count.wrong,
-        }
-    } else {
-        io::write_all(STDOUT_FILENO, b" WRONG\n");
-        Count {
-            lines,
-            wrong: std::num::wrapping_add_u64(count.wrong, 1),
-        }
-    }
-}
-
-pub fn put_count(count: Count) {
-    io::print_decimal(STDOUT_FILENO, count.lines);
-    io::write_all(STDOUT_FILENO, b" cases, ");
-    io::print_decimal(STDOUT_FILENO, count.wrong);
-    io::write_all(STDOUT_FILENO, b" wrong\n");
 }

@@ -6,12 +6,12 @@ mod line;
 mod same;
 mod vectors;
 
-use crate::line::Count;
+use tally::Count;
 
 fn main() {
     let none = Count { lines: 0, wrong: 0 };
     let document = document::eight_bit_cases(none);
     let limits = document::limits(document);
     let published = vectors::published(limits);
-    line::put_count(vectors::built(published));
+    tally::put_count(vectors::built(published));
 }

@@ -3,7 +3,7 @@ use crate::ask::eight_difference;
 use crate::ask::eight_sum;
 use crate::ask::single_difference;
 use crate::ask::single_sum;
-use crate::line::Count;
+use tally::Count;
 
 // (-0) - (+0) = -0, in every mode.
 fn negative_zero(count: Count) -> Count {

@@ -1,7 +1,5 @@
 // The cases of document 01, "Cases, in hexadecimal", and its causes 1 to 6.
-use crate::line::Count;
 use crate::line::ask;
-use crate::line::judge;
 use crate::line::put_reply;
 use crate::same::same_reply;
 use adder::Row;
@@ -11,6 +9,8 @@ use generator::Case;
 use generator::Reply;
 use job::Job;
 use mask::Mask;
+use tally::Count;
+use tally::judge;
 
 const ADD: u64 = 0;
 

@@ -6,13 +6,6 @@ use generator::Reply;
 use job::Job;
 use libc::STDOUT_FILENO;
 use mask::Mask;
-use std::num::wrapping_add_u64;
-
-// How many lines were written, and how many of them say WRONG.
-pub struct Count {
-    pub lines: u64,
-    pub wrong: u64,
-}
 
 // A space and a word.
 fn put_word(word: u64) {
@@ -79,31 +72,6 @@ pub fn put_reply(reply: Reply) {
             io::print_decimal(STDOUT_FILENO, number);
         }
     }
-}
-
-// Ends the line, and counts it.
-pub fn judge(count: Count, ok: bool) -> Count {
-    let lines = wrapping_add_u64(count.lines, 1);
-    if ok {
-        io::write_all(STDOUT_FILENO, b" ok\n");
-        Count {
-            lines,
-            wrong: count.wrong,
-        }
-    } else {
-        io::write_all(STDOUT_FILENO, b" WRONG\n");
-        Count {
-            lines,
-            wrong: wrapping_add_u64(count.wrong, 1),
-        }
-    }
-}
-
-pub fn put_count(count: Count) {
-    io::print_decimal(STDOUT_FILENO, count.lines);
-    io::write_all(STDOUT_FILENO, b" cases, ");
-    io::print_decimal(STDOUT_FILENO, count.wrong);
-    io::write_all(STDOUT_FILENO, b" wrong\n");
 }
 
 pub fn put_tally(tally: Tally) {

@@ -6,13 +6,13 @@ mod line;
 mod same;
 mod sample;
 
-use crate::line::Count;
+use tally::Count;
 
 fn main() {
     let none = Count { lines: 0, wrong: 0 };
     let masked = document::masked_cases(none);
     let limits = document::limits(masked);
     let signs = document::impossible_signs(limits);
-    line::put_count(document::bad_input(signs));
+    tally::put_count(document::bad_input(signs));
     line::put_tally(sample::sampled(4000));
 }
