@@ -9,6 +9,7 @@ mod jobs;
 mod report;
 mod solver;
 mod times;
+mod walks;
 
 use std::process::ExitCode;
 use std::time::Duration;
@@ -165,10 +166,18 @@ fn run(options: &Options) -> Result<String, String> {
     ] {
         rows.push(whole_row(&mut random, of_16, possible, name, options.jobs));
     }
-    Ok(report::report(options, version.as_deref(), &rows))
+    let walks = walks::walks(options.seed, options.jobs)?;
+    Ok(report::report(options, version.as_deref(), &rows, walks))
 }
 
 fn main() -> ExitCode {
+    let mut words = std::env::args().skip(1);
+    if let (Some(walks::REPLAY), Some(path)) = (words.next().as_deref(), words.next()) {
+        return match walks::replay(&path) {
+            Ok(()) => ExitCode::SUCCESS,
+            Err(_) => ExitCode::FAILURE,
+        };
+    }
     let Some(options) = options() else {
         eprintln!("usage: bench [--seed N] [--jobs N] [--limit SECONDS] [--stack KIB] [--write]");
         return ExitCode::from(2);

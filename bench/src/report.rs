@@ -1,10 +1,16 @@
 //! The report: what docs/SPEED.md holds.
 
 use crate::times::{ratio, text, RUNS};
+use crate::walks::{formats, Walks};
 use crate::{Options, Row};
 
 /// The whole report.
-pub fn report(options: &Options, version: Option<&str>, rows: &[Row]) -> String {
+pub fn report(
+    options: &Options,
+    version: Option<&str>,
+    rows: &[Row],
+    walks: Option<Vec<Walks>>,
+) -> String {
     let compared: Vec<&Row> = rows.iter().filter(|row| row.other.is_some()).collect();
     let mut parts = vec!["# Speed\n".to_string()];
     match version {
@@ -15,6 +21,9 @@ pub fn report(options: &Options, version: Option<&str>, rows: &[Row]) -> String 
         None => parts.push("z3 was not installed, so there is no comparison.\n".to_string()),
     }
     parts.push(own(rows));
+    if let Some(walks) = walks {
+        parts.push(columns(&walks));
+    }
     parts.push(conditions(options, rows));
     parts.join("\n")
 }
@@ -85,6 +94,24 @@ fn own(rows: &[Row]) -> String {
             row.jobs,
             row.times.columns()
         );
+    }
+    table
+}
+
+/// Walks over columns, one format beside the other.
+fn columns(walks: &[Walks]) -> String {
+    let names = formats();
+    let mut table = format!(
+        "## Walks over columns\n\n\
+         How often a reply asks the columns, in the mean, counted by callgrind. The formats differ \
+         in the exponent bits alone.\n\n\
+         | Jobs | {} |\n|---|{}\n",
+        names.join(" | "),
+        "---|".repeat(names.len())
+    );
+    for row in walks {
+        let means: Vec<String> = row.means.iter().map(|mean| format!("{mean:.0}")).collect();
+        table += &format!("| {} | {} |\n", row.name, means.join(" | "));
     }
     table
 }
