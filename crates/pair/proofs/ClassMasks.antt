@@ -5,7 +5,8 @@ use Prim.Native.Nat.{ℕ, _+_, _-_, _*_, _/_, _%_, _^_, _≤_, _<_}
 use native.Mathlib.Nat.{mod-lt, mod-eq-of-lt}
 use native.Mathlib.Omega.{arith}
 use lib.Arith.{digits-lt}
-use lib.Pow.{pow-pos, pow-add, high, low}
+use lib.Bits.{and-zero-r}
+use lib.Pow.{pow-pos, pow-add, shr-lt, split, high, low}
 use Rattle.format.specs.declared.Format.{Format}
 use Rattle.format.specs.Format.{wordBits}
 use Rattle.mask.specs.declared.Mask.{Mask}
@@ -98,3 +99,24 @@ module _ (F : Format) (c n : Mask) (h : WellFormed (wordBits F) c) (hn : WellFor
 
       is-fraction : signed F s (e * 2 ^ F .f + t) % 2 ^ F .f ≡ t
       is-fraction = ap (λ (k : ℕ). k % 2 ^ F .f) above ∙ low (s * 2 ^ F .w + e) (F .f) ht
+
+-- ---- a weaker mask on the exponent field asks less
+
+-- a mask that asks nothing
+abbrev pub anyField : Mask
+anyField = record { care = 0; value = 0 }
+
+pub any-formed : (F : Format) → WellFormed (F .w) anyField
+any-formed F = record { below = pow-pos (F .w); inside = and-zero-r 0 }
+
+pub asking-less : (F : Format) (c n : Mask) → WellFormed (wordBits F) c → WellFormed (F .w) n → (x : ℕ) → Meets x (withExponent F c n) → Meets x (withExponent F c anyField)
+asking-less F c n h hn x met =
+    let k = F .w + F .f in
+    let low-part = x % 2 ^ k in
+    let e : low-part / 2 ^ F .f < 2 ^ F .w = shr-lt (F .w) (F .f) (mod-lt x (pow-pos k)) in
+    let t = mod-lt low-part (pow-pos (F .f)) in
+    let fields = asking-meets F c n h hn (x / 2 ^ k) (low-part / 2 ^ F .f) (low-part % 2 ^ F .f) e t .0 (rw whole met) in
+    rw whole at (asking-meets F c anyField h (any-formed F) (x / 2 ^ k) (low-part / 2 ^ F .f) (low-part % 2 ^ F .f) e t .1 (fields .0, and-zero-r (low-part / 2 ^ F .f), fields .2))
+  where
+    whole : signed F (x / 2 ^ (F .w + F .f)) (x % 2 ^ (F .w + F .f) / 2 ^ F .f * 2 ^ F .f + x % 2 ^ (F .w + F .f) % 2 ^ F .f) ≡ x
+    whole = ap (λ (r : ℕ). x / 2 ^ (F .w + F .f) * 2 ^ (F .w + F .f) + r) (split (x % 2 ^ (F .w + F .f)) (F .f)) ∙ split x (F .w + F .f)

@@ -2,7 +2,7 @@
 -- as much as the unit. Assumes nothing.
 use mathlib.Core.Logic.{_⊎_, inl, inr, ⊎-elim}
 use mathlib.Core.Path.{_≡_, refl, sym, ap, ap₂, _∙_, subst, subst₂}
-use mathlib.Core.Bool.{Bool, true, false, cond}
+use mathlib.Core.Bool.{Bool, true, false, not, cond}
 use Prim.Native.Nat.{ℕ, zero, suc, _+_, _-_, _*_, _/_, _%_, _^_, _≤_, _<_}
 use native.Mathlib.Nat.{mod-lt}
 use native.Mathlib.Decide.{decLe, ℕ-discrete}
@@ -27,6 +27,7 @@ use Rattle.significand.specs.Significand.{significandMask}
 use Rattle.significand.specs.Tail.{tailMask}
 use Rattle.significand.proofs.Significand.{significand-formed}
 use Rattle.significand.proofs.Tail.{tail-far}
+use Rattle.chain.specs.Chain.{combined}
 use Rattle.outcome.specs.declared.Aligned as pair
 use Rattle.outcome.specs.Outcome.{outcome, Admits}
 use Rattle.outcome.specs.Class.{fieldAt}
@@ -37,7 +38,7 @@ use Rattle.outcome.proofs.Moved.{Moved, moved}
 use Rattle.pair.specs.Asked.{signMask, exponentMask, fractionMask, PairFits}
 use Rattle.pair.specs.Pair.{unitAt, alignedOf, Larger, turned, Posed, SomeSigns, Finites}
 use Rattle.pair.specs.Class.{lowField, classOf, aField, bField, withExponent, asking, onlyField, ClassAdmits, NeverPast, Classed}
-use Rattle.pair.proofs.ClassMasks.{asking-meets, own-meets}
+use Rattle.pair.proofs.ClassMasks.{asking-meets, own-meets, anyField, asking-less}
 use Rattle.pair.proofs.Finites.{pair-signs}
 
 -- a gap that is not far is kept
@@ -129,7 +130,7 @@ module _ (F : Format) (c : Mask) (never : NeverPast F c) where
   past-never Away s some met = infinity-never s met
 
 -- ---- one order of the operands: e is the larger exponent field, g the other
-only-formed : (F : Format) (i : ℕ) → i ≤ allOnes F → WellFormed (F .w) (onlyField F i)
+pub only-formed : (F : Format) (i : ℕ) → i ≤ allOnes F → WellFormed (F .w) (onlyField F i)
 only-formed F i h = record { below = omega (arith, pow-pos (F .w)); inside = lib.Bits.and-mask i (F .w) ∙ native.Mathlib.Nat.mod-eq-of-lt (omega (arith, pow-pos (F .w))) }
 
 -- what a class has where E is the larger exponent field: c's exponent field is one that its mask lets through
@@ -321,3 +322,34 @@ module _ (j : Job) (ea eb : ℕ) (fin : Finites j ea eb) (P : PairFits j ea eb) 
   class-reached E (inr (is, l)) classed =
       subst (λ (e : ℕ). Reached j e (ClassAdmits j (classOf (j .format .f) ea eb))) (sym is)
       (classing eb (b-larger j (fin .valid) ea eb (own .sa) (own .sb) (own .sa-lt) (own .posed) l (subst (Classed (j .format) (j .c)) is classed)))
+
+-- ---- a class that admits nothing at all has no exponent field of c
+module _ (j : Job) (k i : ℕ) (valid : Valid j) (l : i ≤ allOnes (j .format)) where
+  abbrev only : Job
+  only = asking j (onlyField (j .format) i)
+
+  larger-less : (like : Bool) (s e : ℕ) (m : Mask) (g : ℕ) (n : Mask) → Larger only like s e m g n → Larger (asking j anyField) like s e m g n
+  larger-less like s e m g n (order, a) = (order, record {
+    H = a .H;
+    T = a .T;
+    head-lt = a .head-lt;
+    tail-lt = a .tail-lt;
+    head-meets = a .head-meets;
+    tail-meets = a .tail-meets;
+    ordered = a .ordered;
+    carries-allow = a .carries-allow;
+    c-meets = asking-less (j .format) (j .c) (onlyField (j .format) i) (valid .c) (only-formed (j .format) i l) (outcome (j .format) (j .mode) like s (unitAt e) (combined (not like) (a .H) (a .T))) (a .c-meets);
+  })
+
+  pub class-less : ClassAdmits j k (onlyField (j .format) i) → ClassAdmits j k anyField
+  class-less S = record {
+    sa = S .sa;
+    sb = S .sb;
+    sa-lt = S .sa-lt;
+    sb-lt = S .sb-lt;
+    posed = record {
+      a-sign = S .posed .a-sign;
+      b-sign = S .posed .b-sign;
+      sums = ⊎-elim (λ p. inl (larger-less _ _ _ _ _ _ p)) (λ p. inr (larger-less _ _ _ _ _ _ p)) (S .posed .sums);
+    };
+  }

@@ -1,7 +1,10 @@
 // The masked search: whether a case is left, and the operands of the one that two random words choose.
+mod classes;
 mod walk;
 
 use bits::power;
+use classes::class_end;
+use classes::may_admit;
 use job::Job;
 use job::job_cause;
 use mask::meets;
@@ -12,7 +15,9 @@ ghost use mathlib.Core.Bool.{true};
 ghost use mathlib.Core.Logic.{_↔_};
 ghost use Prim.Native.Nat.{ℕ, _^_, _<_};
 ghost use Rattle.job.specs.Job.{Valid};
-ghost use Rattle.pair.specs.Asked.{PairFits};
+ghost use Rattle.mask.specs.Mask.{Meets};
+ghost use Rattle.pair.specs.Asked.{exponentMask, PairFits};
+ghost use Rattle.search.specs.Classes.{Kept, ClassEnd};
 ghost use Rattle.search.specs.Left.{Ready};
 ghost use Rattle.search.specs.Walk.{NoneBelow, FirstRow};
 ghost use Rattle.search.specs.Choice.{Chosen};
@@ -35,23 +40,25 @@ pub enum Choice {
     Nothing,
 }
 
-// Whether some case whose operands have these exponent fields fits; the question is put only where both meet their masks.
-fn admits(job: Job, ea: u64, eb: u64) -> bool
-    requires { ⌜ Valid job × (ea < 2 ^ job .format .w) × (eb < 2 ^ job .format .w) ⌝ }
-    ensures { λ r. ⌜ (r ≡ true) ↔ PairFits job ea eb ⌝ }
+// Whether some case whose operands have these exponent fields fits; the question is put only where b's meets its mask and the class of the
+// pair leaves it open.
+fn admits(job: Job, ea: u64, eb: u64, end: u64, table: &mut [u64; 128]) -> bool
+    requires { ⌜ Valid job × (ea < 2 ^ job .format .w) × (eb < 2 ^ job .format .w) × Meets ea (exponentMask (job .format) (job .a)) × ClassEnd job end × Kept job (now table) ⌝ }
+    ensures { λ r. ⌜ Kept job (now (table .exit)) × ((r ≡ true) ↔ PairFits job ea eb) ⌝ }
 {
-    let a_meets = meets(exponent_mask(job.format, job.a), ea);
-    let b_meets = meets(exponent_mask(job.format, job.b), eb);
-    if a_meets & b_meets {
-        return pair_admits(job, ea, eb);
+    if !meets(exponent_mask(job.format, job.b), eb) {
+        return false;
     }
-    false
+    if !may_admit(job, ea, eb, end, table) {
+        return false;
+    }
+    pair_admits(job, ea, eb)
 }
 
 // Where a row of pairs begins: at its first pair, or past its last one where the exponent field of a does not meet its mask.
 fn row_start(job: Job, ea: u64, count: u64) -> u64
     requires { ⌜ Valid job ⌝ }
-    ensures { λ r. ⌜ ((e : ℕ) → e < r → PairFits job ea e → ⊥) ⌝ }
+    ensures { λ r. ⌜ ((e : ℕ) → e < r → PairFits job ea e → ⊥) × (r < count → Meets ea (exponentMask (job .format) (job .a))) ⌝ }
 {
     if meets(exponent_mask(job.format, job.a), ea) {
         0
@@ -67,11 +74,13 @@ pub(crate) fn first_row(job: Job, start: u64) -> u64
     ensures { λ r. ⌜ FirstRow job r ⌝ }
 {
     let count = power(job.format.w);
+    let end = class_end(job);
+    let mut table = [0; 128];
     let mut ea = start;
     'pairs: while ea < count {
         let mut eb = row_start(job, ea, count);
         while eb < count {
-            if admits(job, ea, eb) {
+            if admits(job, ea, eb, end, &mut table) {
                 break 'pairs;
             }
             eb += 1;

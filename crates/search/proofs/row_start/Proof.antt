@@ -15,15 +15,21 @@ meets-requires : tie.Need-meets-requires
 meets-requires c κs = search needs
 
 returns : tie.Need-returns
-returns c = λ e h. absurd (omega arith)
+returns c =
+    let m = c .before in
+    let a = m .before .before .args in
+    (λ e h. absurd (omega arith), λ h. tested (a .job .format) (a .job .a) (a .ea) (m .before .exponent-mask .ensures) (m .meets .ensures) .0 (c .if1 .taken))
 
 returns-2 : tie.Need-returns-2
 returns-2 c =
     let m = c .before in
     let st = m .before .before in
     let a = st .args in
-    λ e h p. false≢true (sym (c .if1 .left)
-    ∙ tested (a .job .format) (a .job .a) (a .ea) (m .before .exponent-mask .ensures) (m .meets .ensures) .1 (pair-asked (a .job) (a .ea) e (st .pre) p .a-exponent))
+    (
+      λ e h p. false≢true (sym (c .if1 .left)
+          ∙ tested (a .job .format) (a .job .a) (a .ea) (m .before .exponent-mask .ensures) (m .meets .ensures) .1 (pair-asked (a .job) (a .ea) e (st .pre) p .a-exponent)),
+      λ h. absurd (omega arith),
+    )
 
 pub row-start-spec : {M : Type 1} → statement M
 row-start-spec = tie.close (tie.spec exponent-mask-requires meets-requires returns returns-2)

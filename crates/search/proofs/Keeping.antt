@@ -1,0 +1,137 @@
+-- The table of answers by class: what is put into it is an answer, and what it says of a pair's class it says of the pair.
+-- Assumes nothing.
+use mathlib.Core.List.{List}
+use mathlib.Core.Logic.{_⊎_, inl, inr, ⊎-elim}
+use mathlib.Core.Path.{_≡_, sym, ap, _∙_, subst}
+use Prim.Native.Nat.{ℕ, zero, suc, _+_, _-_, _*_, _%_, _^_, _≤_, _<_}
+use native.Mathlib.Decide.{decLe, ℕ-discrete}
+use native.Mathlib.Omega.{arith}
+use lib.Bits.{bitOr, or-zero-r}
+use lib.ListN.{length, getD, set, replicate, length-replicate, getD-replicate, length-set}
+use lib.Pow.{pow-pos, pow-mono}
+use lib.Seq.{getD-set-same, getD-set-other}
+use borrow.Author.Tests.{le-leb, lt-leb}
+use Rattle.bits.specs.Bit.{bit}
+use Rattle.bits.proofs.Laws.{power-exact, bit-above, bit-pow-same, bit-pow-other}
+use Rattle.bits.proofs.Logic.{bit-or}
+use Rattle.format.specs.declared.Format.{Format}
+use Rattle.mask.specs.declared.Mask.{Mask}
+use Rattle.mask.specs.Mask.{Meets, WellFormed}
+use Rattle.job.specs.declared.Job.{Job}
+use Rattle.job.specs.Job.{Valid}
+use Rattle.adder.specs.Word.{allOnes}
+use Rattle.outcome.specs.Class.{fieldAt}
+use Rattle.pair.specs.Asked.{exponentMask, fractionMask, PairFits}
+use Rattle.pair.specs.Pair.{Finites}
+use Rattle.pair.specs.Class.{lowField, classOf, onlyField, ClassAdmits, ClassAsked, NeverPast, Classed}
+use Rattle.pair.proofs.ClassMasks.{anyField, any-formed}
+use Rattle.pair.proofs.Classes.{only-formed, class-reached, class-less}
+use Rattle.search.specs.Classes.{Never, Refuses, Kept, ClassOf, NoField, ClassEnd}
+use Rattle.search.proofs.Pairs.{pair-asked}
+
+-- ---- the word of a class
+module _ (j : Job) (k : ℕ) where
+  -- nothing is known
+  pub fresh : Refuses j k 0
+  fresh i known = absurd (⊎-elim (none 63) (none i) known)
+    where
+      none : (n : ℕ) → bit 0 n ≡ 1 → ⊥
+      none n e = let z = bit-above {x = 0} n (pow-pos n) in omega arith
+
+  -- one answer more
+  pub refuse-more : (word i : ℕ) → i < 63 → Refuses j k word → Never j k i → Refuses j k (bitOr word (2 ^ i))
+  refuse-more word i l kept never n known = go (ℕ-discrete i n)
+    where
+      other : (m : ℕ) → (i ≡ m → ⊥) → bit (bitOr word (2 ^ i)) m ≡ bit word m
+      other m ne = bit-or word (2 ^ i) m ∙ ap (bitOr (bit word m)) (bit-pow-other i m ne) ∙ or-zero-r (bit word m)
+
+      go : Dec (i ≡ n) → Never j k n
+      go (yes e) = subst (Never j k) e never
+      go (no ne) =
+          kept n (⊎-elim (λ b. inl (sym (other 63 (λ e. omega arith)) ∙ b)) (λ b. inr (sym (other n ne) ∙ b)) known)
+
+  -- only the mark that the class was asked about
+  pub marked : j .format .f ≤ 23 → Refuses j k (2 ^ 62)
+  marked most i known l = absurd (⊎-elim (none 63 (λ e. omega arith)) (none i (λ e. omega arith)) known)
+    where
+      none : (n : ℕ) → (62 ≡ n → ⊥) → bit (2 ^ 62) n ≡ 1 → ⊥
+      none n ne e = let z = bit-pow-other 62 n ne in omega arith
+
+  -- the class admits nothing
+  pub closed : Valid j → j .format .f + 9 ≤ allOnes (j .format) → (ClassAdmits j k anyField → ⊥) → (word : ℕ) → Refuses j k word
+  closed valid wide never word i known l admits = never (class-less j k i valid (omega arith) admits)
+
+  pub closed-none : (word u : ℕ) → Refuses j k word → bit word 63 ≡ 1 → NoField j k u
+  closed-none word u kept e i met = kept i (inl e)
+
+-- ---- the questions
+module _ (j : Job) (k u : ℕ) (class : ClassOf j k u) where
+  pub only-asked : (i : ℕ) → i ≤ j .format .f + 6 → ClassAsked j k (onlyField (j .format) i)
+  only-asked i l = record { valid = class .valid; wide = class .wide; class-lt = class .class-lt; formed = only-formed (j .format) i (omega (arith, class .wide)) }
+
+  pub any-asked : ClassAsked j k anyField
+  any-asked = record { valid = class .valid; wide = class .wide; class-lt = class .class-lt; formed = any-formed (j .format) }
+
+-- the mask that the code forms
+pub only-is : (j : Job) (p i : ℕ) → Valid j → p ≡ 2 ^ j .format .w % 2 ^ 64 → _≡_ {A = Mask} (record { care = p - 1; value = i }) (onlyField (j .format) i)
+only-is j p i valid e =
+    ap (λ (n : ℕ). record { care = n - 1; value = i }) (e ∙ power-exact (j .format .w) (omega (arith, valid .format .w-most)))
+
+-- ---- the table
+pub kept-fresh : (j : Job) → j .format .f ≤ 23 → Kept j (replicate 128 0)
+kept-fresh j most =
+    record { size = length-replicate {A = ℕ} 128 0; answers = λ k h. subst (Refuses j k) (sym (getD-replicate 128 k 0 0 (omega arith))) (fresh j k) }
+
+pub kept-set : (j : Job) (t : List ℕ) (k word : ℕ) → j .format .f ≤ 23 → k < 2 * (j .format .f + 5) → Kept j t → Refuses j k word → Kept j (set t k word)
+kept-set j t k word most l kept new = record { size = length-set t k word ∙ kept .size; answers = λ n h. go n h (ℕ-discrete n k) }
+  where
+    go : (n : ℕ) → n < 2 * (j .format .f + 5) → Dec (n ≡ k) → Refuses j n (getD (set t k word) n 0)
+    go n h (yes e) =
+        subst (λ (m : ℕ). Refuses j m (getD (set t k word) m 0)) (sym e) (subst (Refuses j k) (sym (getD-set-same t k word 0 (omega (arith, kept .size)))) new)
+    go n h (no ne) = subst (Refuses j n) (sym (getD-set-other t k n word 0 ne)) (kept .answers n h)
+
+-- ---- the pairs that classes answer for
+pub end-short : (j : Job) (ones : ℕ) → ones ≡ allOnes (j .format) → j .format .f + 9 ≤ ones → ClassEnd j (ones - 2)
+end-short j ones is wide e l h = (record { wide = omega arith; normal = l; within = inl (omega arith) }, omega arith)
+
+pub end-long : (j : Job) (ones : ℕ) → ones ≡ allOnes (j .format) → j .format .f + 9 ≤ ones → NeverPast (j .format) (j .c) → ClassEnd j ones
+end-long j ones is wide never e l h = (record { wide = omega arith; normal = l; within = inr never }, omega arith)
+
+-- ---- a pair
+pub low-le : (f E e : ℕ) → e ≤ E → lowField f E e ≤ f + 4
+low-le f E zero l = omega arith
+low-le f E (suc e) l = omega arith
+
+module _ (j : Job) (ea eb E : ℕ) (valid : Valid j) (first : eb ≤ ea → E ≡ ea) (second : ea < eb → E ≡ eb) (wide : j .format .f + 9 ≤ allOnes (j .format)) (below : E < allOnes (j .format)) where
+  order : ((E ≡ ea) × (eb ≤ ea)) ⊎ ((E ≡ eb) × (ea < eb))
+  order = go (decLe eb ea)
+    where
+      go : Dec (eb ≤ ea) → ((E ≡ ea) × (eb ≤ ea)) ⊎ ((E ≡ eb) × (ea < eb))
+      go (yes l) = inl (first l, l)
+      go (no l) = let g : ea < eb = omega arith in inr (second g, g)
+
+  pub class-small : classOf (j .format .f) ea eb < 2 * (j .format .f + 5)
+  class-small = go (decLe eb ea)
+    where
+      go : Dec (eb ≤ ea) → classOf (j .format .f) ea eb < 2 * (j .format .f + 5)
+      go (yes l) = rw (le-leb eb ea l) (omega (arith, low-le (j .format .f) ea eb l))
+      go (no l) = rw (lt-leb eb ea (omega arith)) (omega (arith, low-le (j .format .f) eb ea (omega arith)))
+
+  pub pair-class : ClassOf j (classOf (j .format .f) ea eb) (E - 1)
+  pair-class =
+      let most = pow-mono {i = j .format .w} {j = 8} (valid .format .w-most) in
+      record { valid = valid; wide = wide; class-lt = class-small; unit-lt = omega arith }
+
+  -- a class that admits nothing there has no pair that does
+  pub pair-never : Classed (j .format) (j .c) E → NoField j (classOf (j .format .f) ea eb) (E - 1) → PairFits j ea eb → ⊥
+  pair-never classed none p =
+      let asked = pair-asked j ea eb valid p in
+      let fin : Finites j ea eb = record {
+        valid = valid;
+        a-finite = ⊎-elim (λ o. omega arith) (λ o. omega arith) order;
+        b-finite = ⊎-elim (λ o. omega arith) (λ o. omega arith) order;
+        a-exponent = asked .a-exponent;
+        b-exponent = asked .b-exponent;
+      } in
+      let r = class-reached j ea eb fin p E order classed in
+      none (r .field) (r .meets) (r .most) (r .holds)

@@ -1,0 +1,74 @@
+-- `search::classes::may_admit` meets its contract. Assumes nothing.
+use mathlib.Core.Path.{_≡_, sym, ap, _∙_, subst}
+use mathlib.Core.Bool.{true≢false}
+use Prim.Native.Nat.{ℕ, _-_, _^_, _≤_, _<_}
+use native.Mathlib.Nat.{lt-of-lt-of-le}
+use native.Mathlib.Omega.{arith}
+use lib.Pow.{pow-mono}
+use denote.Ref.{now}
+use Rattle.search.specs.Classes.{ClassOf, NoField}
+use Rattle.search.proofs.Keeping.{pair-class, pair-never}
+use borrow.Author.Needs.{needs}
+use Rattle.search.proofs.classes.may_admit.Statement.{statement}
+use Rattle.search.proofs.classes.may_admit.Tie as tie
+
+larger-requires : tie.Need-larger-requires
+larger-requires c κs = search needs
+
+add-if1 : tie.Need-add-if1
+add-if1 c = search needs
+
+returns : tie.Need-returns
+returns c = let s = c .before .before .before in (s .pre .4, λ e. absurd (true≢false e))
+
+returns-2 : tie.Need-returns-2
+returns-2 c = let s = c .before .before .before .before in (s .pre .4, λ e. absurd (true≢false e))
+
+class-of-requires : tie.Need-class-of-requires
+class-of-requires c κs =
+    let s = c .before .before .before .before in
+    let most = pow-mono {i = s .args .job .format .w} {j = 8} (s .pre .0 .format .w-most) in
+    (s .pre .0 .format .f-most, omega (arith, s .pre .1), omega (arith, s .pre .2))
+
+sub-class-may : tie.Need-sub-class-may
+sub-class-may c = search needs
+
+class-may-requires : tie.Need-class-may-requires
+class-may-requires c κs =
+    let co = c .before in
+    let t = co .before in
+    let o = t .before in
+    let g = o .before .before in
+    let s = g .before in
+    let a = s .args in
+    let E = g .larger .result in
+    let end = s .pre .3 E (o .if1 .left) (t .if2 .left) in
+    (subst (λ (k : ℕ). ClassOf (a .job) k (E - 1)) (sym (co .class-of .ensures)) (pair-class (a .job) (a .ea) (a .eb) E (s .pre .0) (g .larger .ensures .0) (g .larger .ensures .1) (end .0 .wide) (end .1)), s .pre .4)
+
+returns-3 : tie.Need-returns-3
+returns-3 c =
+    let co = c .before .before in
+    let t = co .before in
+    let o = t .before in
+    let g = o .before .before in
+    let s = g .before in
+    let a = s .args in
+    let E = g .larger .result in
+    let end = s .pre .3 E (o .if1 .left) (t .if2 .left) in (
+      c .class-may .ensures .0,
+      λ e. pair-never (a .job) (a .ea) (a .eb) E (s .pre .0) (g .larger .ensures .0) (g .larger .ensures .1) (end .0 .wide) (end .1) (end .0)
+          (subst (λ (k : ℕ). NoField (a .job) k (E - 1)) (co .class-of .ensures) (c .class-may .ensures .1 e)),
+    )
+
+pub may-admit-spec : {M : Type 1} → statement M
+may-admit-spec =
+    tie.close
+    (tie.spec
+    larger-requires
+    add-if1
+    returns
+    returns-2
+    class-of-requires
+    sub-class-may
+    class-may-requires
+    returns-3)

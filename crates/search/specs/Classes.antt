@@ -1,0 +1,44 @@
+-- What is kept of the classes of pairs during a pass over the exponent fields (`Rattle.pair.specs.Class`): a word for each class, with bit i
+-- for c's exponent field i where the pair that stands for the class is asked. A bit is an answer: no case has that field there. Nothing here
+-- is needed to read the choice. Assumes nothing.
+use mathlib.Core.List.{List}
+use mathlib.Core.Logic.{_⊎_}
+use mathlib.Core.Path.{_≡_}
+use Prim.Native.Nat.{ℕ, _+_, _*_, _^_, _≤_, _<_}
+use lib.ListN.{length, getD}
+use Rattle.bits.specs.Bit.{bit}
+use Rattle.mask.specs.Mask.{Meets}
+use Rattle.job.specs.declared.Job.{Job}
+use Rattle.job.specs.Job.{Valid}
+use Rattle.adder.specs.Word.{allOnes}
+use Rattle.outcome.specs.Class.{fieldAt}
+use Rattle.pair.specs.Asked.{exponentMask}
+use Rattle.pair.specs.Class.{onlyField, ClassAdmits, Classed}
+
+-- no case of the class k has c's exponent field i
+abbrev pub Never : Job → ℕ → ℕ → Type 0
+Never j k i = i ≤ j .format .f + 6 → ClassAdmits j k (onlyField (j .format) i) → ⊥
+
+-- each bit of the class's word is such an answer, and bit 63 is one for all fields
+abbrev pub Refuses : Job → ℕ → ℕ → Type 0
+Refuses j k word = (i : ℕ) → (bit word 63 ≡ 1) ⊎ (bit word i ≡ 1) → Never j k i
+
+-- and so for each class of the table
+pub record Kept (j : Job) (table : List ℕ) : Type 0 where
+  pub size : length table ≡ 128
+  pub answers : (k : ℕ) → k < 2 * (j .format .f + 5) → Refuses j k (getD table k 0)
+
+-- a class of the job, and the exponent of a unit
+pub record ClassOf (j : Job) (k u : ℕ) : Type 0 where
+  pub valid : Valid j
+  pub wide : j .format .f + 9 ≤ allOnes (j .format)
+  pub class-lt : k < 2 * (j .format .f + 5)
+  pub unit-lt : u < 2 ^ 8
+
+-- the class k admits nothing where the larger operand's unit has the exponent u: no field that c's mask lets through
+abbrev pub NoField : Job → ℕ → ℕ → Type 0
+NoField j k u = (i : ℕ) → Meets (fieldAt (j .format .f) u i) (exponentMask (j .format) (j .c)) → Never j k i
+
+-- classes answer for the pairs whose larger exponent field is from f + 4 on and below `end`
+abbrev pub ClassEnd : Job → ℕ → Type 0
+ClassEnd j end = (e : ℕ) → j .format .f + 4 ≤ e → e < end → Classed (j .format) (j .c) e × (e < allOnes (j .format))

@@ -1,0 +1,165 @@
+// Answers by class of pairs, kept during one pass over the exponent fields.
+use bits::bit_at;
+use bits::power;
+use job::Job;
+use mask::Mask;
+use mask::low;
+use mask::meets;
+use pair::class::class_admits;
+use pair::fields::exponent_mask;
+ghost use mathlib.Core.Bool.{false};
+ghost use mathlib.Core.Path.{_≡_};
+ghost use Prim.Native.Nat.{ℕ, _+_, _-_, _*_, _^_, _≤_, _<_};
+ghost use Rattle.mask.specs.Mask.{Meets};
+ghost use Rattle.job.specs.Job.{Valid};
+ghost use Rattle.outcome.specs.Class.{fieldAt};
+ghost use Rattle.pair.specs.Asked.{exponentMask, PairFits};
+ghost use Rattle.pair.specs.Class.{lowField, classOf};
+ghost use Rattle.search.specs.Classes.{Never, Refuses, Kept, ClassOf, NoField, ClassEnd};
+
+// What is known of a class: whether it may admit a case, and c's exponent fields that it refuses.
+pub struct Known {
+    pub possible: bool,
+    pub refused: u64,
+}
+
+// a - b, or 0 where b is larger.
+fn minus(a: u64, b: u64) -> u64
+    ensures { λ r. ⌜ r ≡ a - b ⌝ }
+{
+    if b < a { a - b } else { 0 }
+}
+
+// c's exponent field with the unit u, where it is i with the unit that stands for all.
+fn field_at(f: u64, u: u64, i: u64) -> u64
+    requires { ⌜ (f ≤ 23) × (u < 2 ^ 8) × (i ≤ f + 6) ⌝ }
+    ensures { λ r. ⌜ r ≡ fieldAt f u i ⌝ }
+{
+    if i == 0 { 0 } else { minus(i + u, f + 3) }
+}
+
+// The smaller field of the pair that stands for the class of two fields.
+fn low_field(f: u64, larger: u64, smaller: u64) -> u64
+    requires { ⌜ (f ≤ 23) × (smaller ≤ larger) × (larger < 2 ^ 8) ⌝ }
+    ensures { λ r. ⌜ r ≡ lowField f larger smaller ⌝ }
+{
+    if smaller == 0 { 0 } else { minus(smaller - 1 + (f + 4), larger) + 1 }
+}
+
+// The class of a pair.
+fn class_of(f: u64, ea: u64, eb: u64) -> u64
+    requires { ⌜ (f ≤ 23) × (ea < 2 ^ 8) × (eb < 2 ^ 8) ⌝ }
+    ensures { λ r. ⌜ r ≡ classOf f ea eb ⌝ }
+{
+    if eb <= ea { low_field(f, ea, eb) } else { f + 5 + low_field(f, eb, ea) }
+}
+
+// One field of c is asked about, unless its answer is known or c's mask does not let it through.
+fn try_field(job: Job, k: u64, u: u64, i: u64, refused: u64) -> Known
+    requires { ⌜ ClassOf job k u × Refuses job k refused × (i ≤ job .format .f + 6) ⌝ }
+    ensures { λ r. ⌜ Refuses job k (r .refused) × (r .possible ≡ false → Meets (fieldAt (job .format .f) u i) (exponentMask (job .format) (job .c)) → Never job k i) ⌝ }
+{
+    let same = Known { possible: false, refused };
+    if bit_at(refused, i) == 1 {
+        return same;
+    }
+    if !meets(exponent_mask(job.format, job.c), field_at(job.format.f, u, i)) {
+        return same;
+    }
+    let only = Mask { care: power(job.format.w) - 1, value: i };
+    if class_admits(job, k, only) {
+        return Known { possible: true, refused };
+    }
+    Known { possible: false, refused: refused | (1 << i) }
+}
+
+// All fields of c, the largest first, up to one that the class may have.
+fn try_fields(job: Job, k: u64, u: u64, known: u64) -> Known
+    requires { ⌜ ClassOf job k u × Refuses job k known ⌝ }
+    ensures { λ r. ⌜ Refuses job k (r .refused) × (r .possible ≡ false → NoField job k u) ⌝ }
+{
+    let mut refused = known;
+    let mut n = job.format.f + 7;
+    while 0 < n {
+        n -= 1;
+        let tried = try_field(job, k, u, n, refused);
+        if tried.possible {
+            return tried;
+        }
+        refused = tried.refused;
+    }
+    Known { possible: false, refused }
+}
+
+// What is known of a class, with the question whether it admits anything at all put first: bit 63 where it does not, else bit 62.
+fn opened(job: Job, k: u64, u: u64, known: u64) -> u64
+    requires { ⌜ ClassOf job k u × Refuses job k known ⌝ }
+    ensures { λ r. ⌜ Refuses job k r ⌝ }
+{
+    if known != 0 {
+        return known;
+    }
+    let any = Mask { care: 0, value: 0 };
+    if class_admits(job, k, any) {
+        return 1 << 62;
+    }
+    1 << 63
+}
+
+// Whether the class k may admit a case where the larger operand's unit has the exponent u; what is found is kept.
+fn class_may(job: Job, k: u64, u: u64, table: &mut [u64; 128]) -> bool
+    requires { ⌜ ClassOf job k u × Kept job (now table) ⌝ }
+    ensures { λ r. ⌜ Kept job (now (table .exit)) × (r ≡ false → NoField job k u) ⌝ }
+{
+    let at = k as usize;
+    let known = opened(job, k, u, table[at]);
+    if bit_at(known, 63) == 1 {
+        table[at] = known;
+        return false;
+    }
+    let found = try_fields(job, k, u, known);
+    table[at] = found.refused;
+    found.possible
+}
+
+// One past the largest exponent field of the pairs that their classes answer for: a word past the largest finite number has the fraction
+// 0 or all ones, whatever the significands.
+pub(crate) fn class_end(job: Job) -> u64
+    requires { ⌜ Valid job ⌝ }
+    ensures { λ r. ⌜ ClassEnd job r ⌝ }
+{
+    let ones = power(job.format.w) - 1;
+    if ones < job.format.f + 9 {
+        return 0;
+    }
+    let fraction = low(job.c, job.format.f);
+    if meets(fraction, 0) {
+        return ones - 2;
+    }
+    if meets(fraction, power(job.format.f) - 1) {
+        return ones - 2;
+    }
+    ones
+}
+
+// The larger of two fields.
+fn larger(ea: u64, eb: u64) -> u64
+    ensures { λ r. ⌜ (eb ≤ ea → r ≡ ea) × (ea < eb → r ≡ eb) ⌝ }
+{
+    if eb <= ea { ea } else { eb }
+}
+
+// Whether a pair may admit a case, as far as its class tells.
+pub(crate) fn may_admit(job: Job, ea: u64, eb: u64, end: u64, table: &mut [u64; 128]) -> bool
+    requires { ⌜ Valid job × (ea < 2 ^ job .format .w) × (eb < 2 ^ job .format .w) × ClassEnd job end × Kept job (now table) ⌝ }
+    ensures { λ r. ⌜ Kept job (now (table .exit)) × (r ≡ false → PairFits job ea eb → ⊥) ⌝ }
+{
+    let most = larger(ea, eb);
+    if most < job.format.f + 4 {
+        return true;
+    }
+    if end <= most {
+        return true;
+    }
+    class_may(job, class_of(job.format.f, ea, eb), most - 1, table)
+}
