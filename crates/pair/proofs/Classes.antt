@@ -329,17 +329,20 @@ module _ (j : Job) (k i : ℕ) (valid : Valid j) (l : i ≤ allOnes (j .format))
   only = asking j (onlyField (j .format) i)
 
   larger-less : (like : Bool) (s e : ℕ) (m : Mask) (g : ℕ) (n : Mask) → Larger only like s e m g n → Larger (asking j anyField) like s e m g n
-  larger-less like s e m g n (order, a) = (order, record {
-    H = a .H;
-    T = a .T;
-    head-lt = a .head-lt;
-    tail-lt = a .tail-lt;
-    head-meets = a .head-meets;
-    tail-meets = a .tail-meets;
-    ordered = a .ordered;
-    carries-allow = a .carries-allow;
-    c-meets = asking-less (j .format) (j .c) (onlyField (j .format) i) (valid .c) (only-formed (j .format) i l) (outcome (j .format) (j .mode) like s (unitAt e) (combined (not like) (a .H) (a .T))) (a .c-meets);
-  })
+  larger-less like s e m g n (order, a) = (
+    order,
+    record {
+      H = a .H;
+      T = a .T;
+      head-lt = a .head-lt;
+      tail-lt = a .tail-lt;
+      head-meets = a .head-meets;
+      tail-meets = a .tail-meets;
+      ordered = a .ordered;
+      carries-allow = a .carries-allow;
+      c-meets = asking-less (j .format) (j .c) (onlyField (j .format) i) (valid .c) (only-formed (j .format) i l) (outcome (j .format) (j .mode) like s (unitAt e) (combined (not like) (a .H) (a .T))) (a .c-meets);
+    },
+  )
 
   pub class-less : ClassAdmits j k (onlyField (j .format) i) → ClassAdmits j k anyField
   class-less S = record {

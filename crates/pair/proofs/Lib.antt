@@ -9,3 +9,4 @@ pub mod SpecialLaws
 pub mod SpecialKinds
 pub mod ClassMasks
 pub mod Classes
+pub mod LikeSigns

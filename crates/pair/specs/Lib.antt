@@ -1,4 +1,5 @@
 pub mod Asked
 pub mod Pair
+pub mod Signs
 pub mod Special
 pub mod Class

@@ -10,6 +10,7 @@ use special::special_pair;
 pub mod class;
 pub mod fields;
 mod finite;
+pub mod signs;
 mod special;
 
 ghost use mathlib.Core.Bool.{true};

@@ -43,7 +43,11 @@ fn low_field(f: u64, larger: u64, smaller: u64) -> u64
     requires { ⌜ (f ≤ 23) × (smaller ≤ larger) × (larger < 2 ^ 8) ⌝ }
     ensures { λ r. ⌜ r ≡ lowField f larger smaller ⌝ }
 {
-    if smaller == 0 { 0 } else { minus(smaller - 1 + (f + 4), larger) + 1 }
+    if smaller == 0 {
+        0
+    } else {
+        minus(smaller - 1 + (f + 4), larger) + 1
+    }
 }
 
 // The class of a pair.
@@ -51,7 +55,11 @@ fn class_of(f: u64, ea: u64, eb: u64) -> u64
     requires { ⌜ (f ≤ 23) × (ea < 2 ^ 8) × (eb < 2 ^ 8) ⌝ }
     ensures { λ r. ⌜ r ≡ classOf f ea eb ⌝ }
 {
-    if eb <= ea { low_field(f, ea, eb) } else { f + 5 + low_field(f, eb, ea) }
+    if eb <= ea {
+        low_field(f, ea, eb)
+    } else {
+        f + 5 + low_field(f, eb, ea)
+    }
 }
 
 // One field of c is asked about, unless its answer is known or c's mask does not let it through.
@@ -59,18 +67,33 @@ fn try_field(job: Job, k: u64, u: u64, i: u64, refused: u64) -> Known
     requires { ⌜ ClassOf job k u × Refuses job k refused × (i ≤ job .format .f + 6) ⌝ }
     ensures { λ r. ⌜ Refuses job k (r .refused) × (r .possible ≡ false → Meets (fieldAt (job .format .f) u i) (exponentMask (job .format) (job .c)) → Never job k i) ⌝ }
 {
-    let same = Known { possible: false, refused };
+    let same = Known {
+        possible: false,
+        refused,
+    };
     if bit_at(refused, i) == 1 {
         return same;
     }
-    if !meets(exponent_mask(job.format, job.c), field_at(job.format.f, u, i)) {
+    if !meets(
+        exponent_mask(job.format, job.c),
+        field_at(job.format.f, u, i),
+    ) {
         return same;
     }
-    let only = Mask { care: power(job.format.w) - 1, value: i };
+    let only = Mask {
+        care: power(job.format.w) - 1,
+        value: i,
+    };
     if class_admits(job, k, only) {
-        return Known { possible: true, refused };
+        return Known {
+            possible: true,
+            refused,
+        };
     }
-    Known { possible: false, refused: refused | (1 << i) }
+    Known {
+        possible: false,
+        refused: refused | (1 << i),
+    }
 }
 
 // All fields of c, the largest first, up to one that the class may have.
@@ -88,7 +111,10 @@ fn try_fields(job: Job, k: u64, u: u64, known: u64) -> Known
         }
         refused = tried.refused;
     }
-    Known { possible: false, refused }
+    Known {
+        possible: false,
+        refused,
+    }
 }
 
 // What is known of a class, with the question whether it admits anything at all put first: bit 63 where it does not, else bit 62.

@@ -24,8 +24,7 @@ returns-2 : tie.Need-returns-2
 returns-2 c =
     let m = c .before in
     let st = m .before .before in
-    let a = st .args in
-    (
+    let a = st .args in (
       λ e h p. false≢true (sym (c .if1 .left)
           ∙ tested (a .job .format) (a .job .a) (a .ea) (m .before .exponent-mask .ensures) (m .meets .ensures) .1 (pair-asked (a .job) (a .ea) e (st .pre) p .a-exponent)),
       λ h. absurd (omega arith),

@@ -1,0 +1,95 @@
+-- Finite operands of like effective sign have a sum of that sign, so a job that leaves them no two signs has no case with finite operands.
+-- Assumes nothing.
+use mathlib.Core.Path.{_≡_, refl, sym, ap, ap₂, _∙_, subst}
+use mathlib.Core.Bool.{Bool, true, false, not, cond, _&&_, _||_, false≢true}
+use mathlib.Core.Logic.{inl, inr, ⊎-elim}
+use Prim.Native.Nat.{ℕ, zero, suc, _+_, _/_, _%_, _^_, _≤_, _<_}
+use native.Mathlib.Nat.{mod-lt, lt-of-le-of-lt, lt-trans}
+use native.Mathlib.Omega.{arith}
+use borrow.Author.Tests.{eqb-true, eq-eqb, ltb-true}
+use lib.Dec.{eqb, ltb}
+use Rattle.format.specs.declared.Format.{Format}
+use Rattle.format.specs.Format.{Supported, wordBits}
+use Rattle.mask.specs.declared.Mask.{Mask}
+use Rattle.mask.specs.Mask.{Meets, meets, WellFormed}
+use Rattle.mask.proofs.Checks.{meets-true}
+use Rattle.mask.proofs.ByParts.{meets-fields}
+use Rattle.job.specs.declared.Job.{Job}
+use Rattle.job.specs.Job.{Valid}
+use Rattle.adder.specs.declared.Direction.{Direction}
+use Rattle.adder.specs.Word.{signed}
+use Rattle.adder.specs.Rounding.{direction, infinityWord, overflowWord}
+use Rattle.adder.proofs.Bounds.{infinity-lt}
+use Rattle.adder.proofs.Rounded.{overflow-le}
+use Rattle.adder.proofs.Fields.{signed-sign}
+use Rattle.outcome.specs.declared.Aligned as pair
+use Rattle.outcome.specs.Outcome.{heldWord, boundedHeld, zeroSign, outcome, Admits}
+use Rattle.pair.specs.Asked.{signMask, PairFits}
+use Rattle.pair.specs.Pair.{turned, Posed, SomeSigns, Finites}
+use Rattle.pair.specs.Signs.{signLeft, signsLeft}
+use Rattle.pair.proofs.Finites.{pair-signs}
+
+module _ (F : Format) (ok : Supported F) where
+  bounded-lt : (d : Direction) (x u : ℕ) → boundedHeld F d x u < 2 ^ (F .w + F .f)
+  unfolding boundedHeld
+  bounded-lt d x u = go (ltb (heldWord F d x u) (infinityWord F)) refl
+    where
+      go : (t : Bool) → ltb (heldWord F d x u) (infinityWord F) ≡ t → cond t (heldWord F d x u) (overflowWord F d) < 2 ^ (F .w + F .f)
+      go true q = lt-trans (ltb-true (heldWord F d x u) (infinityWord F) q) (infinity-lt F ok)
+      go false q = lt-of-le-of-lt (overflow-le F d) (infinity-lt F ok)
+
+  -- the word of a sign and a magnitude has that sign
+  word-sign : (s m : ℕ) (c : Mask) → WellFormed (wordBits F) c → s < 2 → m < 2 ^ (F .w + F .f) → Meets (signed F s m) c → Meets s (signMask F c)
+  word-sign s m c h hs hm met = subst (λ (n : ℕ). Meets n (signMask F c)) (signed-sign F s m hs hm) (meets-fields (F .w) (F .f) c h (signed F s m) .0 met .0)
+
+  like-outcome : (mode s u x : ℕ) (c : Mask) → WellFormed (wordBits F) c → s < 2 → Meets (outcome F mode true s u x) c → Meets s (signMask F c)
+  unfolding outcome
+  like-outcome mode s u zero c h hs met = word-sign s 0 c h hs (lib.Pow.pow-pos (F .w + F .f)) met
+  like-outcome mode s u (suc x) c h hs met = word-sign s (boundedHeld F (direction mode s) (suc x) u) c h hs (bounded-lt (direction mode s) (suc x) u) met
+
+  -- a sum of operands of like sign
+  like-sign : (mode s u : ℕ) (A : pair.Aligned) (c : Mask) → WellFormed (wordBits F) c → s < 2 → A .like ≡ true → Admits F mode s u A c → Meets s (signMask F c)
+  like-sign mode s u A c h hs like a =
+      like-outcome mode s u _ c h hs (subst (λ (t : Bool). Meets (outcome F mode t s u (Rattle.chain.specs.Chain.combined (not (A .like)) (a .H) (a .T))) c) like (a .c-meets))
+
+module _ (j : Job) (v : Valid j) (ea eb : ℕ) where
+  posed-left : (sa sb : ℕ) → sa < 2 → sb < 2 → Posed j ea eb sa sb → signLeft j sa sb ≡ true
+  unfolding signLeft
+  posed-left sa sb ha hb P =
+      ap₂ _&&_
+      (ap₂ _&&_ (meets-true sa (signMask (j .format) (j .a)) .1 (P .a-sign)) (meets-true sb (signMask (j .format) (j .b)) .1 (P .b-sign)))
+      (go (eqb sa (turned (j .operation) sb)) refl)
+    where
+      of-c : sa ≡ turned (j .operation) sb → Meets sa (signMask (j .format) (j .c))
+      of-c e =
+          ⊎-elim
+          (λ s. like-sign (j .format) (v .format) (j .mode) sa _ _ (j .c) (v .c) ha (eq-eqb sa (turned (j .operation) sb) e) (s .1))
+          (λ s.
+          subst (λ (n : ℕ). Meets n (signMask (j .format) (j .c))) (sym e)
+          (like-sign (j .format) (v .format) (j .mode) (turned (j .operation) sb) _ _ (j .c) (v .c) (mod-lt (sb + j .operation) (omega arith)) (eq-eqb (turned (j .operation) sb) sa (sym e)) (s .1)))
+          (P .sums)
+
+      go : (t : Bool) → eqb sa (turned (j .operation) sb) ≡ t → (not t || meets sa (signMask (j .format) (j .c))) ≡ true
+      go true q = meets-true sa (signMask (j .format) (j .c)) .1 (of-c (eqb-true sa (turned (j .operation) sb) q))
+      go false q = refl
+
+or-true : (t : Bool) → (t || true) ≡ true
+or-true true = refl
+or-true false = refl
+
+-- the signs of finite operands of a case are left
+left-some : (j : Job) (sa sb : ℕ) → sa < 2 → sb < 2 → signLeft j sa sb ≡ true → signsLeft j ≡ true
+unfolding signsLeft
+left-some j zero zero ha hb q = rw q
+left-some j zero (suc zero) ha hb q = rw (q, or-true)
+left-some j (suc zero) zero ha hb q = rw (q, or-true)
+left-some j (suc zero) (suc zero) ha hb q = rw (q, or-true)
+left-some j zero (suc (suc n)) ha hb q = absurd (omega (arith, hb))
+left-some j (suc zero) (suc (suc n)) ha hb q = absurd (omega (arith, hb))
+left-some j (suc (suc n)) sb ha hb q = absurd (omega (arith, ha))
+
+pub signs-none : (j : Job) (ea eb : ℕ) → Finites j ea eb → signsLeft j ≡ false → PairFits j ea eb → ⊥
+signs-none j ea eb fin none P =
+    let S = pair-signs j ea eb fin P in
+    let some = left-some j (S .sa) (S .sb) (S .sa-lt) (S .sb-lt) (posed-left j (fin .valid) ea eb (S .sa) (S .sb) (S .sa-lt) (S .sb-lt) (S .posed)) in
+    false≢true (sym none ∙ some)
