@@ -60,8 +60,9 @@ fn row_start(job: Job, ea: u64, count: u64) -> u64
     requires { ⌜ Valid job ⌝ }
     ensures { λ r. ⌜ ((e : ℕ) → e < r → PairFits job ea e → ⊥) × (r < count → Meets ea (exponentMask (job .format) (job .a))) ⌝ }
 {
+    let first = 0;
     if meets(exponent_mask(job.format, job.a), ea) {
-        0
+        first
     } else {
         count
     }
