@@ -16,6 +16,7 @@ use Rattle.adder.specs.declared.Direction.{Direction}
 use Rattle.adder.specs.Word.{allOnes, signed}
 use Rattle.adder.specs.Rounding.{direction, overflowWord, roundOff}
 use Rattle.adder.proofs.ResultLaws.{cancelled-lt}
+use Rattle.adder.proofs.Size.{size-zero}
 use Rattle.outcome.specs.Outcome.{droppedOf, boundedHeld, zeroSign, outcome}
 use Rattle.outcome.specs.Question.{keptOf, wordOf}
 use Rattle.outcome.specs.Class.{fieldAt}
@@ -30,6 +31,7 @@ pub record Moved (F : Format) (mode : ℕ) (like : Bool) (s u x : ℕ) : Type 0 
   pub fraction : ℕ
   pub sign-lt : sign < 2
   pub most : field ≤ F .f + 6
+  pub least : F .f + 3 ≤ size x → F .f + 3 ≤ field
   pub within : fieldAt (F .f) u field < 2 ^ F .w
   pub fraction-lt : fraction < 2 ^ F .f
   pub here : outcome F mode like s u x ≡ signed F sign (fieldAt (F .f) u field * 2 ^ F .f + fraction)
@@ -61,6 +63,7 @@ module _ (F : Format) (mode : ℕ) (like : Bool) (s u : ℕ) (sign-lt : s < 2) (
     field = 0;
     fraction = 0;
     most = omega arith;
+    least = λ l. absurd (omega (arith, size-zero));
     within = pow-pos (F .w);
     fraction-lt = pow-pos (F .f);
     sign-lt = zero-lt like;
@@ -111,6 +114,7 @@ module _ (F : Format) (mode : ℕ) (like : Bool) (s u : ℕ) (sign-lt : s < 2) (
             field = n + q;
             fraction = t;
             most = omega arith;
+            least = λ l. omega (arith, digits);
             within = rw (shifted (n + q) refl) (omega arith);
             sign-lt = sign-lt;
             fraction-lt = mod-lt (keptOf f d (suc x) u) (pow-pos f);

@@ -4,13 +4,13 @@ use mathlib.Core.Logic.{_⊎_, inl, inr, ⊎-elim}
 use mathlib.Core.Path.{_≡_, refl, sym, ap, ap₂, _∙_, subst, subst₂}
 use mathlib.Core.Bool.{Bool, true, false, not, cond}
 use Prim.Native.Nat.{ℕ, zero, suc, _+_, _-_, _*_, _/_, _%_, _^_, _≤_, _<_}
-use native.Mathlib.Nat.{mod-lt}
+use native.Mathlib.Nat.{mod-lt, lt-of-lt-of-le, div-lt-iff-lt-mul}
 use native.Mathlib.Decide.{decLe, ℕ-discrete}
 use native.Mathlib.Omega.{arith}
 use borrow.Author.Tests.{le-leb, lt-leb}
 use lib.Dec.{eqb, leb}
 use lib.Ieee.{size}
-use lib.Pow.{pow-pos, pow-add, low}
+use lib.Pow.{pow-pos, pow-add, pow-mono, low}
 use Rattle.format.specs.declared.Format.{Format}
 use Rattle.format.specs.Format.{Supported, precision, wordBits}
 use Rattle.mask.specs.declared.Mask.{Mask}
@@ -21,25 +21,31 @@ use Rattle.job.specs.declared.Job.{Job}
 use Rattle.job.specs.Job.{Valid}
 use Rattle.adder.specs.declared.Direction.{Direction}
 use Rattle.adder.specs.declared.Direction.the-variants.{Nearest, TowardZero, Away}
-use Rattle.adder.specs.Word.{allOnes, signed, sign}
+use Rattle.adder.specs.Word.{allOnes, signed, significand}
 use Rattle.adder.specs.Rounding.{direction, infinityWord, overflowWord}
 use Rattle.significand.specs.Significand.{significandMask}
 use Rattle.significand.specs.Tail.{tailMask}
-use Rattle.significand.proofs.Significand.{significand-formed}
-use Rattle.significand.proofs.Tail.{tail-far}
+use Rattle.adder.proofs.Sticky.{with-sticky-bounds}
+use Rattle.significand.proofs.Significand.{significand-formed, significand-meets}
+use Rattle.significand.proofs.Tail.{aligned-zero, tail-complete, tail-far}
 use Rattle.chain.specs.Chain.{combined}
 use Rattle.outcome.specs.declared.Aligned as pair
 use Rattle.outcome.specs.Outcome.{outcome, Admits}
+use Rattle.outcome.specs.Question.{Made}
 use Rattle.outcome.specs.Class.{fieldAt}
 use Rattle.outcome.proofs.Topped.{size-none}
-use Rattle.outcome.proofs.Range.{made-most}
+use Rattle.outcome.proofs.Range.{made-most, made-like, made-unlike}
 use Rattle.outcome.proofs.Admitted.{admits-making}
 use Rattle.outcome.proofs.Moved.{Moved, moved}
 use Rattle.pair.specs.Asked.{signMask, exponentMask, fractionMask, PairFits}
 use Rattle.pair.specs.Pair.{unitAt, alignedOf, Larger, turned, Posed, SomeSigns, Finites}
-use Rattle.pair.specs.Class.{lowField, classOf, aField, bField, withExponent, asking, onlyField, ClassAdmits, NeverPast, Classed}
+use Rattle.pair.specs.Class.{lowField, classOf, aField, bField, smallField, leastField, withExponent, asking, onlyField, ClassAdmits, NeverPast, Classed}
 use Rattle.pair.proofs.ClassMasks.{asking-meets, own-meets, anyField, asking-less}
 use Rattle.pair.proofs.Finites.{pair-signs}
+
+pub low-le : (f E e : ℕ) → e ≤ E → lowField f E e ≤ f + 4
+low-le f E zero l = omega arith
+low-le f E (suc e) l = omega arith
 
 -- a gap that is not far is kept
 near-gap : (f e g r : ℕ) → r + e ≡ g + (f + 4) → suc g ≤ e → unitAt e - unitAt (suc g) ≡ unitAt (f + 4) - unitAt (suc r)
@@ -92,6 +98,37 @@ aligned-same F ok like carries m n e g fm fn h l =
     ap₂ (λ (x t : Mask). record { like = like; head = x; tail = t; carries = carries })
     (ap (λ (k : Mask). tailMask (precision F) k 0) (head-same F ok m fm e (F .f + 4) (omega arith) (omega arith))) (tail-same F ok n fn e g h l)
 
+-- ---- with a gap of 2 places or more the sum has f + 3 digits at least
+module _ (F : Format) (ok : Supported F) (m : Mask) (formed : WellFormed (F .f) m) where
+  short : (n : ℕ) → n < 2 ^ (F .f + 4) → n < 2 ^ 63
+  short n h = lt-of-lt-of-le h (pow-mono {i = F .f + 4} {j = 63} (omega (arith, ok .f-most)))
+
+  head-least : (e H : ℕ) → H < 2 ^ (F .f + 4) → Meets H (tailMask (precision F) (significandMask (F .f) m (suc e)) 0) → 2 ^ (F .f + 3) ≤ H
+  unfolding significand
+  head-least e H l met =
+      let r = tail-complete (precision F) (significandMask (F .f) m (suc e)) 0 (omega (arith, ok .f-most)) (significand-formed (F .f) m (omega (arith, ok .f-most)) formed (suc e)) H (short H l) met in
+      let t = significand-meets (F .f) m (omega (arith, ok .f-most)) formed (suc e) (r .0) .0 (r .2, r .1) in
+      let p = pow-add 2 (F .f) 3 in
+      omega (arith, aligned-zero (r .0), r .3, t .3)
+
+  tail-most : (g d T : ℕ) → 2 ≤ d → T < 2 ^ (F .f + 4) → Meets T (tailMask (precision F) (significandMask (F .f) m g) d) → T < 2 ^ (F .f + 2)
+  tail-most g d T far l met =
+      let r = tail-complete (precision F) (significandMask (F .f) m g) d (omega (arith, ok .f-most)) (significand-formed (F .f) m (omega (arith, ok .f-most)) formed g) T (short T l) met in
+      let q = pow-mono {i = 2} {j = d} far in
+      let w = native.Mathlib.Nat.mul-le-mul-left (2 ^ precision F) q in
+      let h = div-lt-iff-lt-mul {k = 2 ^ d} {x = 4 * r .0} {y = 2 ^ precision F} (pow-pos d) .1 (omega (arith, r .1)) in
+      let p = pow-add 2 (precision F) 1 in
+      let e : precision F + 1 ≡ F .f + 2 = omega arith in
+      subst (λ (k : ℕ). T < 2 ^ k) e (omega (arith, with-sticky-bounds (4 * r .0) d, r .3))
+
+made-long : (F : Format) → Supported F → (like : Bool) (carries m n : Mask) (e g x : ℕ) → WellFormed (F .f) m → WellFormed (F .f) n → 2 ≤ unitAt (suc e) - unitAt g
+    → Made (F .f) (alignedOf F like carries m (suc e) n g) x → F .f + 3 ≤ size x
+made-long F ok true carries m n e g x fm fn far made =
+    let h = made-like (F .f) (alignedOf F true carries m (suc e) n g) x made refl (head-least F ok m fm e (made .H) (made .head-lt) (made .head-meets)) in omega arith
+made-long F ok false carries m n e g x fm fn far made =
+    made-unlike (F .f) (alignedOf F false carries m (suc e) n g) x made refl (head-least F ok m fm e (made .H) (made .head-lt) (made .head-meets))
+    (tail-most F ok n fn g (unitAt (suc e) - unitAt g) (made .T) far (made .tail-lt) (made .tail-meets))
+
 -- ---- the word past the largest finite number
 module _ (F : Format) (c : Mask) (never : NeverPast F c) where
   fraction-of : (q r : ℕ) → r < 2 ^ F .f → Meets (q * 2 ^ F .f + r) c → Meets r (fractionMask F c)
@@ -133,10 +170,12 @@ module _ (F : Format) (c : Mask) (never : NeverPast F c) where
 pub only-formed : (F : Format) (i : ℕ) → i ≤ allOnes F → WellFormed (F .w) (onlyField F i)
 only-formed F i h = record { below = omega (arith, pow-pos (F .w)); inside = lib.Bits.and-mask i (F .w) ∙ native.Mathlib.Nat.mod-eq-of-lt (omega (arith, pow-pos (F .w))) }
 
--- what a class has where E is the larger exponent field: c's exponent field is one that its mask lets through
-pub record Reached (j : Job) (E : ℕ) (P : Mask → Type 0) : Type 0 where
+-- what a class has where E is the larger exponent field, and r the smaller one of the pair that stands for it: c's exponent field is one that
+-- its mask lets through
+pub record Reached (j : Job) (E r : ℕ) (P : Mask → Type 0) : Type 0 where
   pub field : ℕ
   pub most : field ≤ j .format .f + 6
+  pub least : r ≤ j .format .f + 2 → j .format .f + 3 ≤ field
   pub meets : Meets (fieldAt (j .format .f) (unitAt E) field) (exponentMask (j .format) (j .c))
   pub holds : P (onlyField (j .format) field)
 
@@ -145,10 +184,11 @@ module _ (j : Job) (valid : Valid j) where
   f = j .format .f
 
   larger-moved : (like : Bool) (s e : ℕ) (m : Mask) (g : ℕ) (n : Mask) → s < 2 → WellFormed f m → WellFormed f n → Classed (j .format) (j .c) e
-      → Larger j like s e m g n → Reached j e (λ (i : Mask). Larger (asking j i) like s (f + 4) m (lowField f e g) n)
+      → Larger j like s e m g n → Reached j e (lowField f e g) (λ (i : Mask). Larger (asking j i) like s (f + 4) m (lowField f e g) n)
   larger-moved like s e m g n hs fm fn classed (order, a) = record {
     field = w .field;
     most = w .most;
+    least = λ l. w .least (long l);
     meets = own .1;
     holds = (
       lower g (omega (arith, classed .normal)),
@@ -202,6 +242,12 @@ module _ (j : Job) (valid : Valid j) where
       up : f + 3 ≡ unitAt (f + 4)
       up = omega arith
 
+      long : lowField f e g ≤ f + 2 → f + 3 ≤ size (k .x)
+      long l =
+          let four : f + 4 ≡ suc (f + 3) = omega arith in
+          made-long F (valid .format) like (j .carries) m n (f + 3) (lowField f e g) (k .x) fm fn (omega arith)
+          (subst (λ (t : ℕ). Made f (alignedOf F like (j .carries) m t n (lowField f e g)) (k .x)) four (k .made))
+
       lower : (g : ℕ) → g ≤ e → unitAt (lowField f e g) ≤ unitAt (f + 4)
       lower zero l = omega arith
       lower (suc g) l = omega arith
@@ -223,13 +269,9 @@ module _ (j : Job) (valid : Valid j) where
     mb = fraction-formed (j .format .w) f (j .b) (valid .b)
 
     -- the pair that stands for the class, with the signs
-    posing : (E : ℕ) → Reached j E (λ (i : Mask). Both (aField f (classOf f ea eb)) (bField f (classOf f ea eb)) sa sb (asking j i))
-        → Reached j E (λ (i : Mask). Posed (asking j i) (aField f (classOf f ea eb)) (bField f (classOf f ea eb)) sa sb)
-    posing E r = record { field = r .field; most = r .most; meets = r .meets; holds = record { a-sign = P .a-sign; b-sign = P .b-sign; sums = r .holds } }
-
-    low-le : (E e : ℕ) → e ≤ E → lowField f E e ≤ f + 4
-    low-le E zero l = omega arith
-    low-le E (suc e) l = omega arith
+    posing : (E r : ℕ) → Reached j E r (λ (i : Mask). Both (aField f (classOf f ea eb)) (bField f (classOf f ea eb)) sa sb (asking j i))
+        → Reached j E r (λ (i : Mask). Posed (asking j i) (aField f (classOf f ea eb)) (bField f (classOf f ea eb)) sa sb)
+    posing E r p = record { field = p .field; most = p .most; least = p .least; meets = p .meets; holds = record { a-sign = P .a-sign; b-sign = P .b-sign; sums = p .holds } }
 
     low-same : (E : ℕ) → f + 4 ≤ E → lowField f E E ≡ f + 4
     low-same zero l = omega arith
@@ -241,23 +283,23 @@ module _ (j : Job) (valid : Valid j) where
       class-is = rw (le-leb eb ea l)
 
       a-is : f + 4 ≡ aField f (classOf f ea eb)
-      a-is = rw (class-is, le-leb (lowField f ea eb) (f + 4) (low-le ea eb l))
+      a-is = rw (class-is, le-leb (lowField f ea eb) (f + 4) (low-le f ea eb l))
 
       b-is : lowField f ea eb ≡ bField f (classOf f ea eb)
-      b-is = rw (class-is, le-leb (lowField f ea eb) (f + 4) (low-le ea eb l))
+      b-is = rw (class-is, le-leb (lowField f ea eb) (f + 4) (low-le f ea eb l))
 
-      pub a-larger : Classed (j .format) (j .c) ea → Reached j ea (λ (i : Mask). Posed (asking j i) (aField f (classOf f ea eb)) (bField f (classOf f ea eb)) sa sb)
-      a-larger classed = posing ea (⊎-elim first second (P .sums))
+      pub a-larger : Classed (j .format) (j .c) ea → Reached j ea (lowField f ea eb) (λ (i : Mask). Posed (asking j i) (aField f (classOf f ea eb)) (bField f (classOf f ea eb)) sa sb)
+      a-larger classed = posing ea (lowField f ea eb) (⊎-elim first second (P .sums))
         where
-          moved-to : (x y : ℕ) → f + 4 ≡ x → lowField f ea eb ≡ y → Reached j ea (λ (i : Mask). Both (f + 4) (lowField f ea eb) sa sb (asking j i)) → Reached j ea (λ (i : Mask). Both x y sa sb (asking j i))
-          moved-to x y ex ey r = subst₂ (λ (u v : ℕ). Reached j ea (λ (i : Mask). Both u v sa sb (asking j i))) ex ey r
+          moved-to : (x y : ℕ) → f + 4 ≡ x → lowField f ea eb ≡ y → Reached j ea (lowField f ea eb) (λ (i : Mask). Both (f + 4) (lowField f ea eb) sa sb (asking j i)) → Reached j ea (lowField f ea eb) (λ (i : Mask). Both x y sa sb (asking j i))
+          moved-to x y ex ey r = subst₂ (λ (u v : ℕ). Reached j ea (lowField f ea eb) (λ (i : Mask). Both u v sa sb (asking j i))) ex ey r
 
-          first : Larger j (eqb sa t) sa ea (fractionMask (j .format) (j .a)) eb (fractionMask (j .format) (j .b)) → Reached j ea (λ (i : Mask). Both (aField f (classOf f ea eb)) (bField f (classOf f ea eb)) sa sb (asking j i))
+          first : Larger j (eqb sa t) sa ea (fractionMask (j .format) (j .a)) eb (fractionMask (j .format) (j .b)) → Reached j ea (lowField f ea eb) (λ (i : Mask). Both (aField f (classOf f ea eb)) (bField f (classOf f ea eb)) sa sb (asking j i))
           first p =
               let r = larger-moved (eqb sa t) sa ea (fractionMask (j .format) (j .a)) eb (fractionMask (j .format) (j .b)) ha ma mb classed p in
-              moved-to (aField f (classOf f ea eb)) (bField f (classOf f ea eb)) a-is b-is (record { field = r .field; most = r .most; meets = r .meets; holds = inl (r .holds) })
+              moved-to (aField f (classOf f ea eb)) (bField f (classOf f ea eb)) a-is b-is (record { field = r .field; most = r .most; least = r .least; meets = r .meets; holds = inl (r .holds) })
 
-          second : Larger j (eqb t sa) t eb (fractionMask (j .format) (j .b)) ea (fractionMask (j .format) (j .a)) → Reached j ea (λ (i : Mask). Both (aField f (classOf f ea eb)) (bField f (classOf f ea eb)) sa sb (asking j i))
+          second : Larger j (eqb t sa) t eb (fractionMask (j .format) (j .b)) ea (fractionMask (j .format) (j .a)) → Reached j ea (lowField f ea eb) (λ (i : Mask). Both (aField f (classOf f ea eb)) (bField f (classOf f ea eb)) sa sb (asking j i))
           second p =
               let same : eb ≡ ea = omega (arith, p .0, classed .normal) in
               let q = subst (λ (e : ℕ). Larger j (eqb t sa) t e (fractionMask (j .format) (j .b)) ea (fractionMask (j .format) (j .a))) same p in
@@ -268,6 +310,7 @@ module _ (j : Job) (valid : Valid j) where
               record {
                 field = r .field;
                 most = r .most;
+                least = λ l. r .least (subst (λ (e : ℕ). lowField f ea e ≤ f + 2) same l);
                 meets = r .meets;
                 holds = inr (subst₂ (λ (u v : ℕ). Larger (asking j (onlyField (j .format) (r .field))) (eqb t sa) t u (fractionMask (j .format) (j .b)) v (fractionMask (j .format) (j .a))) b-top a-top (r .holds));
               }
@@ -286,42 +329,69 @@ module _ (j : Job) (valid : Valid j) where
       a-then : lowField f eb ea ≡ aField f (classOf f ea eb)
       a-then = rw (class-then, above) (omega arith)
 
-      pub b-larger : Classed (j .format) (j .c) eb → Reached j eb (λ (i : Mask). Posed (asking j i) (aField f (classOf f ea eb)) (bField f (classOf f ea eb)) sa sb)
-      b-larger classed = posing eb (⊎-elim (λ p. absurd (omega (arith, p .0, classed .normal))) second (P .sums))
+      pub b-larger : Classed (j .format) (j .c) eb → Reached j eb (lowField f eb ea) (λ (i : Mask). Posed (asking j i) (aField f (classOf f ea eb)) (bField f (classOf f ea eb)) sa sb)
+      b-larger classed = posing eb (lowField f eb ea) (⊎-elim (λ p. absurd (omega (arith, p .0, classed .normal))) second (P .sums))
         where
-          second : Larger j (eqb t sa) t eb (fractionMask (j .format) (j .b)) ea (fractionMask (j .format) (j .a)) → Reached j eb (λ (i : Mask). Both (aField f (classOf f ea eb)) (bField f (classOf f ea eb)) sa sb (asking j i))
+          second : Larger j (eqb t sa) t eb (fractionMask (j .format) (j .b)) ea (fractionMask (j .format) (j .a)) → Reached j eb (lowField f eb ea) (λ (i : Mask). Both (aField f (classOf f ea eb)) (bField f (classOf f ea eb)) sa sb (asking j i))
           second p =
               let r = larger-moved (eqb t sa) t eb (fractionMask (j .format) (j .b)) ea (fractionMask (j .format) (j .a)) (mod-lt (sb + j .operation) (omega arith)) mb ma classed p in
               record {
                 field = r .field;
                 most = r .most;
+                least = r .least;
                 meets = r .meets;
                 holds = inr (subst₂ (λ (u v : ℕ). Larger (asking j (onlyField (j .format) (r .field))) (eqb t sa) t u (fractionMask (j .format) (j .b)) v (fractionMask (j .format) (j .a))) b-then a-then (r .holds));
               }
+
+-- what is reached of a class
+pub record ClassReached (j : Job) (E k : ℕ) : Type 0 where
+  pub field : ℕ
+  pub most : field ≤ j .format .f + 6
+  pub least : leastField (j .format .f) k ≤ field
+  pub meets : Meets (fieldAt (j .format .f) (unitAt E) field) (exponentMask (j .format) (j .c))
+  pub holds : ClassAdmits j k (onlyField (j .format) field)
 
 -- ---- a pair that fits, and its class
 module _ (j : Job) (ea eb : ℕ) (fin : Finites j ea eb) (P : PairFits j ea eb) where
   abbrev own : SomeSigns j ea eb
   own = pair-signs j ea eb fin P
 
-  classing : (E : ℕ)
-      → Reached j E (λ (i : Mask). Posed (asking j i) (aField (j .format .f) (classOf (j .format .f) ea eb)) (bField (j .format .f) (classOf (j .format .f) ea eb)) (own .sa) (own .sb))
-      → Reached j E (ClassAdmits j (classOf (j .format .f) ea eb))
-  classing E r = record {
-    field = r .field;
-    most = r .most;
-    meets = r .meets;
-    holds = record { sa = own .sa; sb = own .sb; sa-lt = own .sa-lt; sb-lt = own .sb-lt; posed = r .holds };
+  abbrev class : ℕ
+  class = classOf (j .format .f) ea eb
+
+  -- the smaller field of the pair that stands for the class
+  small-is : (r : ℕ) → ((class ≡ r) × (r ≤ j .format .f + 4)) ⊎ (class ≡ j .format .f + 5 + r) → smallField (j .format .f) class ≡ r
+  small-is r (inl (e, l)) = rw (e, le-leb r (j .format .f + 4) l)
+  small-is r (inr e) = rw (e, lt-leb (j .format .f + 5 + r) (j .format .f + 4) (omega arith)) (omega arith)
+
+  least-is : (r i : ℕ) → smallField (j .format .f) class ≡ r → (r ≤ j .format .f + 2 → j .format .f + 3 ≤ i) → leastField (j .format .f) class ≤ i
+  least-is r i e h = rw e (go (decLe r (j .format .f + 2)))
+    where
+      go : Dec (r ≤ j .format .f + 2) → cond (leb r (j .format .f + 2)) (j .format .f + 3) 0 ≤ i
+      go (yes l) = rw (le-leb r (j .format .f + 2) l) (h l)
+      go (no l) = rw (lt-leb r (j .format .f + 2) (omega arith)) (omega arith)
+
+  classing : (E r : ℕ) → smallField (j .format .f) class ≡ r
+      → Reached j E r (λ (i : Mask). Posed (asking j i) (aField (j .format .f) class) (bField (j .format .f) class) (own .sa) (own .sb))
+      → ClassReached j E class
+  classing E r e p = record {
+    field = p .field;
+    most = p .most;
+    least = least-is r (p .field) e (p .least);
+    meets = p .meets;
+    holds = record { sa = own .sa; sb = own .sb; sa-lt = own .sa-lt; sb-lt = own .sb-lt; posed = p .holds };
   }
 
   -- the larger of the exponent fields is E
-  pub class-reached : (E : ℕ) → ((E ≡ ea) × (eb ≤ ea)) ⊎ ((E ≡ eb) × (ea < eb)) → Classed (j .format) (j .c) E → Reached j E (ClassAdmits j (classOf (j .format .f) ea eb))
+  pub class-reached : (E : ℕ) → ((E ≡ ea) × (eb ≤ ea)) ⊎ ((E ≡ eb) × (ea < eb)) → Classed (j .format) (j .c) E → ClassReached j E class
   class-reached E (inl (is, l)) classed =
-      subst (λ (e : ℕ). Reached j e (ClassAdmits j (classOf (j .format .f) ea eb))) (sym is)
-      (classing ea (a-larger j (fin .valid) ea eb (own .sa) (own .sb) (own .sa-lt) (own .posed) l (subst (Classed (j .format) (j .c)) is classed)))
+      subst (λ (e : ℕ). ClassReached j e class) (sym is)
+      (classing ea (lowField (j .format .f) ea eb) (small-is (lowField (j .format .f) ea eb) (inl (rw (le-leb eb ea l), low-le (j .format .f) ea eb l)))
+      (a-larger j (fin .valid) ea eb (own .sa) (own .sb) (own .sa-lt) (own .posed) l (subst (Classed (j .format) (j .c)) is classed)))
   class-reached E (inr (is, l)) classed =
-      subst (λ (e : ℕ). Reached j e (ClassAdmits j (classOf (j .format .f) ea eb))) (sym is)
-      (classing eb (b-larger j (fin .valid) ea eb (own .sa) (own .sb) (own .sa-lt) (own .posed) l (subst (Classed (j .format) (j .c)) is classed)))
+      subst (λ (e : ℕ). ClassReached j e class) (sym is)
+      (classing eb (lowField (j .format .f) eb ea) (small-is (lowField (j .format .f) eb ea) (inr (rw (lt-leb eb ea l))))
+      (b-larger j (fin .valid) ea eb (own .sa) (own .sb) (own .sa-lt) (own .posed) l (subst (Classed (j .format) (j .c)) is classed)))
 
 -- ---- a class that admits nothing at all has no exponent field of c
 module _ (j : Job) (k i : ℕ) (valid : Valid j) (l : i ≤ allOnes (j .format)) where

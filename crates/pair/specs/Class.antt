@@ -32,6 +32,14 @@ aField f k = cond (leb k (f + 4)) (f + 4) (k - (f + 5))
 abbrev pub bField : ℕ → ℕ → ℕ
 bField f k = cond (leb k (f + 4)) k (f + 4)
 
+-- the smaller one of them
+abbrev pub smallField : ℕ → ℕ → ℕ
+smallField f k = cond (leb k (f + 4)) k (k - (f + 5))
+
+-- c's least exponent field there: with a gap of 2 places or more the sum has f + 3 digits at least
+abbrev pub leastField : ℕ → ℕ → ℕ
+leastField f k = cond (leb (smallField f k) (f + 2)) (f + 3) 0
+
 -- the mask c with another mask on its exponent field
 unfoldable pub withExponent : Format → Mask → Mask → Mask
 withExponent F c n = record {

@@ -25,7 +25,7 @@ use Rattle.pair.specs.Asked.{exponentMask, fractionMask, PairFits}
 use Rattle.pair.specs.Pair.{Finites}
 use Rattle.pair.specs.Class.{lowField, classOf, onlyField, ClassAdmits, ClassAsked, NeverPast, Classed}
 use Rattle.pair.proofs.ClassMasks.{anyField, any-formed}
-use Rattle.pair.proofs.Classes.{only-formed, class-reached, class-less}
+use Rattle.pair.proofs.Classes.{low-le, only-formed, class-reached, class-less}
 use Rattle.search.specs.Classes.{Never, Refuses, Kept, ClassOf, NoField, ClassEnd}
 use Rattle.search.proofs.Pairs.{pair-asked}
 
@@ -62,7 +62,7 @@ module _ (j : Job) (k : ℕ) where
   closed valid wide never word i known l admits = never (class-less j k i valid (omega arith) admits)
 
   pub closed-none : (word u : ℕ) → Refuses j k word → bit word 63 ≡ 1 → NoField j k u
-  closed-none word u kept e i met = kept i (inl e)
+  closed-none word u kept e i least met = kept i (inl e)
 
 -- ---- the questions
 module _ (j : Job) (k u : ℕ) (class : ClassOf j k u) where
@@ -98,10 +98,6 @@ pub end-long : (j : Job) (ones : ℕ) → ones ≡ allOnes (j .format) → j .fo
 end-long j ones is wide never e l h = (record { wide = omega arith; normal = l; within = inr never }, omega arith)
 
 -- ---- a pair
-pub low-le : (f E e : ℕ) → e ≤ E → lowField f E e ≤ f + 4
-low-le f E zero l = omega arith
-low-le f E (suc e) l = omega arith
-
 module _ (j : Job) (ea eb E : ℕ) (valid : Valid j) (first : eb ≤ ea → E ≡ ea) (second : ea < eb → E ≡ eb) (wide : j .format .f + 9 ≤ allOnes (j .format)) (below : E < allOnes (j .format)) where
   order : ((E ≡ ea) × (eb ≤ ea)) ⊎ ((E ≡ eb) × (ea < eb))
   order = go (decLe eb ea)
@@ -134,4 +130,4 @@ module _ (j : Job) (ea eb E : ℕ) (valid : Valid j) (first : eb ≤ ea → E �
         b-exponent = asked .b-exponent;
       } in
       let r = class-reached j ea eb fin p E order classed in
-      none (r .field) (r .meets) (r .most) (r .holds)
+      none (r .field) (r .least) (r .meets) (r .most) (r .holds)

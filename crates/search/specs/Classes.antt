@@ -13,7 +13,7 @@ use Rattle.job.specs.Job.{Valid}
 use Rattle.adder.specs.Word.{allOnes}
 use Rattle.outcome.specs.Class.{fieldAt}
 use Rattle.pair.specs.Asked.{exponentMask}
-use Rattle.pair.specs.Class.{onlyField, ClassAdmits, Classed}
+use Rattle.pair.specs.Class.{leastField, onlyField, ClassAdmits, Classed}
 
 -- no case of the class k has c's exponent field i
 abbrev pub Never : Job → ℕ → ℕ → Type 0
@@ -37,7 +37,7 @@ pub record ClassOf (j : Job) (k u : ℕ) : Type 0 where
 
 -- the class k admits nothing where the larger operand's unit has the exponent u: no field that c's mask lets through
 abbrev pub NoField : Job → ℕ → ℕ → Type 0
-NoField j k u = (i : ℕ) → Meets (fieldAt (j .format .f) u i) (exponentMask (j .format) (j .c)) → Never j k i
+NoField j k u = (i : ℕ) → leastField (j .format .f) k ≤ i → Meets (fieldAt (j .format .f) u i) (exponentMask (j .format) (j .c)) → Never j k i
 
 -- classes answer for the pairs whose larger exponent field is from f + 4 on and below `end`
 abbrev pub ClassEnd : Job → ℕ → Type 0

@@ -14,7 +14,7 @@ ghost use Rattle.mask.specs.Mask.{Meets};
 ghost use Rattle.job.specs.Job.{Valid};
 ghost use Rattle.outcome.specs.Class.{fieldAt};
 ghost use Rattle.pair.specs.Asked.{exponentMask, PairFits};
-ghost use Rattle.pair.specs.Class.{lowField, classOf};
+ghost use Rattle.pair.specs.Class.{lowField, classOf, smallField, leastField};
 ghost use Rattle.search.specs.Classes.{Never, Refuses, Kept, ClassOf, NoField, ClassEnd};
 
 // What is known of a class: whether it may admit a case, and c's exponent fields that it refuses.
@@ -96,14 +96,31 @@ fn try_field(job: Job, k: u64, u: u64, i: u64, refused: u64) -> Known
     }
 }
 
-// All fields of c, the largest first, up to one that the class may have.
+// The smaller field of the pair that stands for a class.
+fn small_field(f: u64, k: u64) -> u64
+    requires { ⌜ f ≤ 23 ⌝ }
+    ensures { λ r. ⌜ r ≡ smallField f k ⌝ }
+{
+    if k <= f + 4 { k } else { k - (f + 5) }
+}
+
+// The least field of c that a class can have.
+fn least_field(f: u64, k: u64) -> u64
+    requires { ⌜ f ≤ 23 ⌝ }
+    ensures { λ r. ⌜ r ≡ leastField f k ⌝ }
+{
+    if small_field(f, k) <= f + 2 { f + 3 } else { 0 }
+}
+
+// All fields of c that the class can have, the largest first, up to one that it may have.
 fn try_fields(job: Job, k: u64, u: u64, known: u64) -> Known
     requires { ⌜ ClassOf job k u × Refuses job k known ⌝ }
     ensures { λ r. ⌜ Refuses job k (r .refused) × (r .possible ≡ false → NoField job k u) ⌝ }
 {
+    let least = least_field(job.format.f, k);
     let mut refused = known;
     let mut n = job.format.f + 7;
-    while 0 < n {
+    while least < n {
         n -= 1;
         let tried = try_field(job, k, u, n, refused);
         if tried.possible {

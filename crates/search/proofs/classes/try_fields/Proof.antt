@@ -21,18 +21,21 @@ next P n some above here i h = go (ℕ-discrete (n - 1) i)
     go (no ne) = above i (omega arith)
 
 abbrev Inv-loop : tie.InvT-loop
-Inv-loop job k u known refused₀ n₀ refused n =
+Inv-loop job k u known least refused₀ n₀ refused n =
     (Refuses job k refused) × (n ≤ job .format .f + 7)
     × ((i : ℕ) → n ≤ i → Meets (fieldAt (job .format .f) u i) (exponentMask (job .format) (job .c)) → Never job k i)
 
 abbrev μ-loop : tie.MeasureT-loop
-μ-loop job k u known refused₀ n₀ refused n = n
+μ-loop job k u known least refused₀ n₀ refused n = n
+
+least-field-requires : tie.Need-least-field-requires Inv-loop μ-loop
+least-field-requires c κs = c .pre .0 .valid .format .f-most
 
 add-n : tie.Need-add-n Inv-loop μ-loop
-add-n c = record { fits = omega (arith, c .before .pre .0 .valid .format .f-most) }
+add-n c = record { fits = omega (arith, c .before .before .pre .0 .valid .format .f-most) }
 
 loop-holds : tie.Need-loop-holds Inv-loop μ-loop
-loop-holds c = (c .before .pre .1, omega arith, λ i l met h. absurd (omega arith))
+loop-holds c = (c .before .before .pre .1, omega arith, λ i l met h. absurd (omega arith))
 
 sub-n : tie.Need-sub-n Inv-loop μ-loop
 sub-n c = omega (arith, c .loop-test .taken)
@@ -40,7 +43,7 @@ sub-n c = omega (arith, c .loop-test .taken)
 try-field-requires : tie.Need-try-field-requires Inv-loop μ-loop
 try-field-requires c κs =
     let l = c .before in
-    let st = l .before .before in
+    let st = l .before .before .before in
     (st .pre .0, l .loop .inv .0, omega (arith, l .loop .inv .1, c .loop-test .taken))
 
 returns : tie.Need-returns Inv-loop μ-loop
@@ -53,15 +56,15 @@ loop-again : tie.Need-loop-again Inv-loop μ-loop
 loop-again c =
     let t = c .before in
     let l = t .before .before in
-    let a = l .before .before .args in (
+    let a = l .before .before .before .args in (
       t .try-field .ensures .0,
       omega (arith, l .loop .inv .1),
-      λ i h met. next (λ (m : ℕ). Meets (fieldAt (a .job .format .f) (a .u) m) (exponentMask (a .job .format) (a .job .c)) → Never (a .job) (a .k) m) (l .loop .n) (t .before .loop-test .taken)
+      λ i h met. next (λ (m : ℕ). Meets (fieldAt (a .job .format .f) (a .u) m) (exponentMask (a .job .format) (a .job .c)) → Never (a .job) (a .k) m) (l .loop .n) (omega (arith, t .before .loop-test .taken))
           (l .loop .inv .2) (t .try-field .ensures .1 (c .if1 .left)) i h met,
     )
 
 returns-2 : tie.Need-returns-2 Inv-loop μ-loop
-returns-2 c = (c .before .loop .inv .0, λ e i met. c .before .loop .inv .2 i (omega (arith, c .loop-test .left)) met)
+returns-2 c = (c .before .loop .inv .0, λ e i least met. c .before .loop .inv .2 i (omega (arith, c .loop-test .left, c .before .before .before .least-field .ensures)) met)
 
 pub try-fields-spec : {M : Type 1} → statement M
 try-fields-spec =
@@ -69,6 +72,7 @@ try-fields-spec =
     (tie.spec
     Inv-loop
     μ-loop
+    least-field-requires
     add-n
     loop-holds
     sub-n

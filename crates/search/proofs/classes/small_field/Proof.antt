@@ -1,0 +1,24 @@
+-- `search::classes::small_field` meets its contract. Assumes nothing.
+use Prim.Native.Nat.{ℕ, _+_}
+use borrow.Author.Tests.{le-leb, lt-leb}
+use borrow.Author.Needs.{needs}
+use Rattle.search.proofs.classes.small_field.Statement.{statement}
+use Rattle.search.proofs.classes.small_field.Tie as tie
+
+add-if1 : tie.Need-add-if1
+add-if1 c = search needs
+
+add-result : tie.Need-add-result
+add-result c = search needs
+
+sub-result : tie.Need-sub-result
+sub-result c = search needs
+
+returns : tie.Need-returns
+returns c = let a = c .before .args in rw (le-leb (a .k) (a .f + 4) (c .if1 .taken))
+
+returns-2 : tie.Need-returns-2
+returns-2 c = let a = c .before .args in rw (lt-leb (a .k) (a .f + 4) (c .if1 .left))
+
+pub small-field-spec : {M : Type 1} → statement M
+small-field-spec = tie.close (tie.spec add-if1 add-result sub-result returns returns-2)
