@@ -16,7 +16,7 @@ use Rattle.adder.specs.declared.RowReply.{RowReply}
 use Rattle.adder.specs.declared.RowReply.the-variants.{Row}
 use Rattle.adder.specs.Result.{resultReply}
 use Rattle.adder.specs.Row.{rowReply}
-use Rattle.fit.specs.Fit.{Fits}
+use Rattle.fit.specs.Fit.{Fits, Fitting}
 use Rattle.whole.specs.declared.Words.{Words}
 use Rattle.whole.specs.declared.Reply.the-variants.{Found}
 use Rattle.whole.specs.Sum.{addends}
@@ -43,15 +43,11 @@ CarriedIs (row n) r = r ≡ Row (Carries n)
 CarriedIs noRow r = r ≡ Row NoRow
 CarriedIs unsaid r = Unit {0}
 
--- a and b of some fitting case
-abbrev pub HasCase : Job → ℕ → ℕ → Type 0
-HasCase j a b = (c : ℕ) × Fits j a b c
-
 -- what a case claims
 abbrev pub Holds : Case → Type 0
 Holds (sum F operation mode a b c carried) = (resultReply F operation mode a b ≡ Word c) × CarriedIs carried (rowReply F operation a b)
 Holds (exactly j fitting) = (jobCause j ≡ 0) × ((a b c : ℕ) → Fits j a b c ↔ List·Memᴰ (a, b, c) fitting)
-Holds (chosen j r s a b) = ClosestPair (HasCase j) r s a b
+Holds (chosen j r s a b) = ClosestPair (Fitting j) r s a b
 Holds (wholeSum n x y carryIn z carries) =
     (w : Words) → w .x < 2 ^ n → w .y < 2 ^ n → w .z < 2 ^ n
     → Replied (record { length = n; masks = addends n x y carryIn; words = w }) (Found (record { x = x; y = y; z = z; carries = carries }))

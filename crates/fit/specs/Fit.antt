@@ -38,6 +38,10 @@ pub record Fits (j : Job) (a b c : ℕ) : Type 0 where
   pub sum : c ≡ result (j .format) (j .operation) (j .mode) a b
   pub row : RowMeets (rowOf (j .format) (j .operation) a b) (j .carries)
 
+-- a and b are the operands of a fitting case
+abbrev pub Fitting : Job → ℕ → ℕ → Type 0
+Fitting j a b = (c : ℕ) × Fits j a b c
+
 -- c is the rounded result and agrees with its mask
 abbrev pub sumMeets : Job → ℕ → ℕ → ℕ → Bool
 sumMeets j a b c = eqb (result (j .format) (j .operation) (j .mode) a b) c && meets c (j .c)

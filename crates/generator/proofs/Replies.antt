@@ -10,8 +10,7 @@ use Rattle.job.specs.declared.Job.{Job}
 use Rattle.job.specs.Job.{jobCause}
 use Rattle.job.proofs.Laws.{job-none}
 use Rattle.adder.specs.Row.{rowOf}
-use Rattle.fit.specs.Fit.{Fits}
-use Rattle.search.specs.Left.{Fitting}
+use Rattle.fit.specs.Fit.{Fits, Fitting}
 use Rattle.generator.specs.declared.Case.{Case}
 use Rattle.generator.specs.declared.Reply.{Reply}
 use Rattle.generator.specs.declared.Reply.the-variants.{Found, Refused}

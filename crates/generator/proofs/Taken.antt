@@ -11,8 +11,7 @@ use Rattle.job.specs.Job.{jobCause}
 use Rattle.job.proofs.Laws.{job-none}
 use Rattle.adder.specs.declared.Row as row
 use Rattle.adder.proofs.Causes.{Fit}
-use Rattle.fit.specs.Fit.{Fits}
-use Rattle.search.specs.Left.{Fitting}
+use Rattle.fit.specs.Fit.{Fits, Fitting}
 use Rattle.generator.specs.declared.Case.{Case}
 use Rattle.generator.specs.Promise.{Request, requestCause, caseOf, Chosen}
 

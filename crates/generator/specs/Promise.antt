@@ -11,8 +11,7 @@ use Rattle.job.specs.declared.Job.{Job}
 use Rattle.job.specs.Job.{jobCause, Valid}
 use Rattle.adder.specs.Result.{result}
 use Rattle.adder.specs.Row.{rowOf}
-use Rattle.fit.specs.Fit.{Fits}
-use Rattle.search.specs.Left.{Fitting}
+use Rattle.fit.specs.Fit.{Fits, Fitting}
 use Rattle.generator.specs.declared.Case.{Case}
 use Rattle.generator.specs.declared.Reply.{Reply}
 use Rattle.generator.specs.declared.Reply.the-variants.{Found, Refused}

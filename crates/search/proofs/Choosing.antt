@@ -10,10 +10,10 @@ use Rattle.columns.proofs.Closest.{closest-cong}
 use Rattle.columns.proofs.Pair.{First, pair-of}
 use Rattle.job.specs.declared.Job.{Job}
 use Rattle.adder.specs.Word.{biased}
-use Rattle.fit.specs.Fit.{Fits}
+use Rattle.fit.specs.Fit.{Fits, Fitting}
 use Rattle.search.specs.declared.Role.{Role}
 use Rattle.search.specs.declared.Role.the-variants.{A, B}
-use Rattle.search.specs.Left.{Fitting, Ready}
+use Rattle.search.specs.Left.{Ready}
 use Rattle.search.specs.Walk.{NoneBelow, Open, Has, Settled}
 
 -- before a walk every bit is open

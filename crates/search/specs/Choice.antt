@@ -3,9 +3,10 @@
 use Prim.Native.Nat.{ℕ}
 use Rattle.columns.specs.Choice.{ClosestPair}
 use Rattle.job.specs.declared.Job.{Job}
+use Rattle.fit.specs.Fit.{Fitting}
 use Rattle.search.specs.declared.Choice.{Choice}
 use Rattle.search.specs.declared.Choice.the-variants.{Operands, Nothing}
-use Rattle.search.specs.Left.{Fitting, Ready}
+use Rattle.search.specs.Left.{Ready}
 
 -- the closest operands of a fitting case, or nothing where the job is not valid or no case is left
 abbrev pub Chosen : Job → ℕ → ℕ → Choice → Type 0

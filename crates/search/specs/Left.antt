@@ -1,12 +1,8 @@
--- Whether a case is left, and the operands of the cases that are (document 01, "Masks and choice"). Assumes nothing.
+-- Whether a case is left (document 01, "Masks and choice"). Assumes nothing.
 use Prim.Native.Nat.{ℕ}
 use Rattle.job.specs.declared.Job.{Job}
 use Rattle.job.specs.Job.{Valid}
 use Rattle.fit.specs.Fit.{Fits}
-
--- a and b are the operands of a fitting case
-abbrev pub Fitting : Job → ℕ → ℕ → Type 0
-Fitting j a b = (c : ℕ) × Fits j a b c
 
 -- "a case is left": some three words fit
 pub record Left (j : Job) : Type 0 where
