@@ -41,7 +41,7 @@ use Rattle.pair.specs.Asked.{signMask, exponentMask, fractionMask, PairF
 use Rattle.pair.specs.Pair.{unitAt, alignedOf, Larger, turned, Posed, SomeSigns, Finites}
 use Rattle.pair.specs.Class.{lowField, classOf, aField, bField, smallField, leastField, withExponent, asking, onlyField, ClassAdmits, NeverPast, Classed}
 use Rattle.pair.proofs.ClassMasks.{asking-meets, own-meets, anyField, asking-less}
-use Rattle.pair.proofs.Finites.{pair-signs}
+use Rattle.pair.proofs.Finites.{pair-signs, signs-pair}
 
 pub low-le : (f E e : ℕ) → e ≤ E → lowField f E e ≤ f + 4
 low-le f E zero l = omega arith
@@ -426,3 +426,47 @@ module _ (j : Job) (k i : ℕ) (valid : Valid j) (l : i ≤ allOnes (j .format))
       sums = ⊎-elim (λ p. inl (larger-less _ _ _ _ _ _ p)) (λ p. inr (larger-less _ _ _ _ _ _ p)) (S .posed .sums);
     };
   }
+
+-- ---- two pairs with a far gap and the same larger exponent field have one answer
+module _ (j : Job) (E e g : ℕ) (some : 1 ≤ e) (other : 1 ≤ g) (far-e : e + (j .format .f + 3) ≤ E) (far-g : g + (j .format .f + 3) ≤ E) where
+  far-larger : (like : Bool) (s : ℕ) (m n : Mask) → Valid j → WellFormed (j .format .f) n → Larger j like s E m g n → Larger j like s E m e n
+  far-larger like s m n valid formed (order, a) =
+      (omega arith, subst (λ (t : Mask). Admits F (j .mode) s (unitAt E) (record { like = like; head = tailMask (precision F) (significandMask (F .f) m E) 0; tail = t; carries = j .carries }) (j .c)) same a)
+    where
+      F : Format
+      F = j .format
+
+      same : tailMask (precision F) (significandMask (F .f) n g) (unitAt E - unitAt g) ≡ tailMask (precision F) (significandMask (F .f) n e) (unitAt E - unitAt e)
+      same =
+          far F (valid .format) n formed g (unitAt E - unitAt g) (unitAt E - unitAt e) (omega arith) (omega arith)
+          ∙ ap (λ (k : Mask). tailMask (precision F) k (unitAt E - unitAt e)) (head-same F (valid .format) n formed g e other some)
+
+  pub far-a : Finites j E g → Finites j E e → PairFits j E g → PairFits j E e
+  far-a fin-g fin-e p =
+      let S = pair-signs j E g fin-g p in
+      signs-pair j E e fin-e (record {
+        sa = S .sa;
+        sb = S .sb;
+        sa-lt = S .sa-lt;
+        sb-lt = S .sb-lt;
+        posed = record {
+          a-sign = S .posed .a-sign;
+          b-sign = S .posed .b-sign;
+          sums = ⊎-elim (λ l. inl (far-larger _ _ _ _ (fin-g .valid) (fraction-formed (j .format .w) (j .format .f) (j .b) (fin-g .valid .b)) l)) (λ l. absurd (omega (arith, l .0))) (S .posed .sums);
+        };
+      })
+
+  pub far-b : Finites j g E → Finites j e E → PairFits j g E → PairFits j e E
+  far-b fin-g fin-e p =
+      let S = pair-signs j g E fin-g p in
+      signs-pair j e E fin-e (record {
+        sa = S .sa;
+        sb = S .sb;
+        sa-lt = S .sa-lt;
+        sb-lt = S .sb-lt;
+        posed = record {
+          a-sign = S .posed .a-sign;
+          b-sign = S .posed .b-sign;
+          sums = ⊎-elim (λ l. absurd (omega (arith, l .0))) (λ l. inr (far-larger _ _ _ _ (fin-g .valid) (fraction-formed (j .format .w) (j .format .f) (j .a) (fin-g .valid .a)) l)) (S .posed .sums);
+        };
+      })

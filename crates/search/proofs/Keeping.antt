@@ -4,10 +4,10 @@ use mathlib.Core.List.{List}
 use mathlib.Core.Logic.{_⊎_, inl, inr, ⊎-elim}
 use mathlib.Core.Path.{_≡_, sym, ap, _∙_, subst}
 use Prim.Native.Nat.{ℕ, zero, suc, _+_, _-_, _*_, _%_, _^_, _≤_, _<_}
-use native.Mathlib.Decide.{decLe, ℕ-discrete}
+use native.Mathlib.Decide.{decLe, decLt, ℕ-discrete}
 use native.Mathlib.Omega.{arith}
 use lib.Bits.{bitOr, or-zero-r}
-use lib.ListN.{length, getD, set, replicate, length-replicate, getD-replicate, length-set}
+use lib.ListN.{length, getD, set, replicate, length-replicate, getD-replicate, length-set, List·getD-eq-default}
 use lib.Pow.{pow-pos, pow-mono}
 use lib.Seq.{getD-set-same, getD-set-other}
 use borrow.Author.Tests.{le-leb, lt-leb}
@@ -21,12 +21,12 @@ use Rattle.job.specs.declared.Job.{Job}
 use Rattle.job.specs.Job.{Valid}
 use Rattle.adder.specs.Word.{allOnes}
 use Rattle.outcome.specs.Class.{fieldAt}
-use Rattle.pair.specs.Asked.{exponentMask, fractionMask, PairFits}
+use Rattle.pair.specs.Asked.{exponentMask, fractionMask, Asked, PairFits}
 use Rattle.pair.specs.Pair.{Finites}
 use Rattle.pair.specs.Class.{lowField, classOf, onlyField, ClassAdmits, ClassAsked, NeverPast, Classed}
 use Rattle.pair.proofs.ClassMasks.{anyField, any-formed}
-use Rattle.pair.proofs.Classes.{low-le, only-formed, class-reached, class-less}
-use Rattle.search.specs.Classes.{Never, Refuses, Kept, ClassOf, NoField, ClassEnd}
+use Rattle.pair.proofs.Classes.{low-le, only-formed, class-reached, class-less, far-a, far-b}
+use Rattle.search.specs.Classes.{Never, Refuses, Kept, ClassOf, NoField, ClassEnd, Ordered, NoneFar, farPlace, FarPair}
 use Rattle.search.proofs.Pairs.{pair-asked}
 
 -- ---- the word of a class
@@ -78,17 +78,87 @@ only-is j p i valid e =
     ap (λ (n : ℕ). record { care = n - 1; value = i }) (e ∙ power-exact (j .format .w) (omega (arith, valid .format .w-most)))
 
 -- ---- the table
-pub kept-fresh : (j : Job) → j .format .f ≤ 23 → Kept j (replicate 128 0)
-kept-fresh j most =
-    record { size = length-replicate {A = ℕ} 128 0; answers = λ k h. subst (Refuses j k) (sym (getD-replicate 128 k 0 0 (omega arith))) (fresh j k) }
+replicated : (k : ℕ) → _≡_ {A = ℕ} (getD (replicate 128 0) k 0) 0
+replicated k = go (decLt k 128)
+  where
+    go : Dec (k < 128) → _≡_ {A = ℕ} (getD (replicate 128 0) k 0) 0
+    go (yes l) = getD-replicate 128 k 0 0 l
+    go (no l) = List·getD-eq-default (replicate 128 0) 0 {n = k} (omega (arith, length-replicate {A = ℕ} 128 0))
+
+pub kept-fresh : (j : Job) → Kept j (replicate 128 0)
+kept-fresh j = record {
+  size = length-replicate {A = ℕ} 128 0;
+  answers = λ k h. subst (Refuses j k) (sym (replicated k)) (fresh j k);
+  far = λ o E ho hE is. absurd (omega (arith, replicated (farPlace j o E)));
+}
 
 pub kept-set : (j : Job) (t : List ℕ) (k word : ℕ) → j .format .f ≤ 23 → k < 2 * (j .format .f + 5) → Kept j t → Refuses j k word → Kept j (set t k word)
-kept-set j t k word most l kept new = record { size = length-set t k word ∙ kept .size; answers = λ n h. go n h (ℕ-discrete n k) }
+kept-set j t k word most l kept new = record {
+  size = length-set t k word ∙ kept .size;
+  answers = λ n h. go n h (ℕ-discrete n k);
+  far = λ o E ho hE is. kept .far o E ho hE (sym (getD-set-other t k (farPlace j o E) word 0 (λ e. omega arith)) ∙ is);
+}
   where
     go : (n : ℕ) → n < 2 * (j .format .f + 5) → Dec (n ≡ k) → Refuses j n (getD (set t k word) n 0)
     go n h (yes e) =
         subst (λ (m : ℕ). Refuses j m (getD (set t k word) m 0)) (sym e) (subst (Refuses j k) (sym (getD-set-same t k word 0 (omega (arith, kept .size)))) new)
     go n h (no ne) = subst (Refuses j n) (sym (getD-set-other t k n word 0 ne)) (kept .answers n h)
+
+-- ---- the pairs with a far gap
+module _ (j : Job) (t : List ℕ) (ea eb place : ℕ) (far : FarPair j ea eb place) (kept : Kept j t) where
+  order-lt : far .order < 2
+  order-lt = ⊎-elim (λ e. omega arith) (λ e. omega arith) (far .fields)
+
+  ordered : PairFits j ea eb → Ordered j (far .order) (far .larger) (far .smaller)
+  ordered p =
+      ⊎-elim
+      (λ e. rw (e .0, e .1, e .2) p)
+      (λ e. rw (e .0, e .1, e .2) p)
+      (far .fields)
+
+  pub far-known : getD t place 0 ≡ 1 → PairFits j ea eb → ⊥
+  far-known is p =
+      kept .far (far .order) (far .larger) order-lt (far .below) (subst (λ (k : ℕ). getD t k 0 ≡ 1) (far .at) is) (far .smaller) (far .some) (far .far) (ordered p)
+
+  pub far-kept : j .format .f ≤ 23 → NoneFar j (far .order) (far .larger) → Kept j (set t place 1)
+  far-kept most none = record {
+    size = length-set t place 1 ∙ kept .size;
+    answers = λ n h. subst (Refuses j n) (sym (getD-set-other t place n 1 0 (λ e. omega (arith, far .at)))) (kept .answers n h);
+    far = λ o E ho hE is. go o E ho hE is (ℕ-discrete (farPlace j o E) place);
+  }
+    where
+      go : (o E : ℕ) → o < 2 → E < allOnes (j .format) → getD (set t place 1) (farPlace j o E) 0 ≡ 1 → Dec (farPlace j o E ≡ place) → NoneFar j o E
+      go o E ho hE is (yes e) =
+          let one : far .order ≡ o = omega (arith, far .at, far .below, order-lt) in
+          let two : far .larger ≡ E = omega (arith, far .at, far .below, order-lt) in
+          rw (← one, ← two) none
+      go o E ho hE is (no ne) = kept .far o E ho hE (sym (getD-set-other t place (farPlace j o E) 1 0 ne) ∙ is)
+
+-- a pair that is refused refuses all of its kind
+module _ (j : Job) (ea eb place : ℕ) (far : FarPair j ea eb place) (asked : Asked j ea eb) (none : PairFits j ea eb → ⊥) where
+  finites : (d e : ℕ) → d < allOnes (j .format) → e < allOnes (j .format) → Asked j d e → Finites j d e
+  finites d e hd he a = record { valid = a .valid; a-finite = hd; b-finite = he; a-exponent = a .a-exponent; b-exponent = a .b-exponent }
+
+  pub none-far : NoneFar j (far .order) (far .larger)
+  none-far e some gap = ⊎-elim first second (far .fields)
+    where
+      low : e < allOnes (j .format)
+      low = omega (arith, far .below)
+
+      own : far .smaller < allOnes (j .format)
+      own = omega (arith, far .below, far .far)
+
+      first : (far .order ≡ 0) × (far .larger ≡ ea) × (far .smaller ≡ eb) → Ordered j (far .order) (far .larger) e → ⊥
+      first (o, l, s) p =
+          let q : PairFits j (far .larger) e = rw o at p in
+          let mine : Asked j (far .larger) (far .smaller) = rw (l, s) asked in
+          none (rw (l, s) at (far-a j (far .larger) (far .smaller) e (far .some) some (far .far) gap (finites (far .larger) e (far .below) low (pair-asked j (far .larger) e (asked .valid) q)) (finites (far .larger) (far .smaller) (far .below) own mine) q))
+
+      second : (far .order ≡ 1) × (far .larger ≡ eb) × (far .smaller ≡ ea) → Ordered j (far .order) (far .larger) e → ⊥
+      second (o, l, s) p =
+          let q : PairFits j e (far .larger) = rw o at p in
+          let mine : Asked j (far .smaller) (far .larger) = rw (l, s) asked in
+          none (rw (l, s) at (far-b j (far .larger) (far .smaller) e (far .some) some (far .far) gap (finites e (far .larger) low (far .below) (pair-asked j e (far .larger) (asked .valid) q)) (finites (far .smaller) (far .larger) own (far .below) mine) q))
 
 -- ---- the pairs that classes answer for
 pub end-short : (j : Job) (ones : ℕ) → ones ≡ allOnes (j .format) → j .format .f + 9 ≤ ones → ClassEnd j (ones - 2)

@@ -4,7 +4,7 @@
 use mathlib.Core.List.{List}
 use mathlib.Core.Logic.{_⊎_}
 use mathlib.Core.Path.{_≡_}
-use Prim.Native.Nat.{ℕ, _+_, _*_, _^_, _≤_, _<_}
+use Prim.Native.Nat.{ℕ, zero, suc, _+_, _-_, _*_, _^_, _≤_, _<_}
 use lib.ListN.{length, getD}
 use Rattle.bits.specs.Bit.{bit}
 use Rattle.mask.specs.Mask.{Meets}
@@ -12,7 +12,7 @@ use Rattle.job.specs.declared.Job.{Job}
 use Rattle.job.specs.Job.{Valid}
 use Rattle.adder.specs.Word.{allOnes}
 use Rattle.outcome.specs.Class.{fieldAt}
-use Rattle.pair.specs.Asked.{exponentMask}
+use Rattle.pair.specs.Asked.{exponentMask, PairFits}
 use Rattle.pair.specs.Class.{leastField, onlyField, ClassAdmits, Classed}
 
 -- no case of the class k has c's exponent field i
@@ -23,10 +23,36 @@ Never j k i = i ≤ j .format .f + 6 → ClassAdmits j k (onlyField (j .format) 
 abbrev pub Refuses : Job → ℕ → ℕ → Type 0
 Refuses j k word = (i : ℕ) → (bit word 63 ≡ 1) ⊎ (bit word i ≡ 1) → Never j k i
 
--- and so for each class of the table
+-- the pair of a larger field E and another field e: a has the larger one where the order is 0, else b
+abbrev pub Ordered : Job → ℕ → ℕ → ℕ → Type 0
+Ordered j zero E e = PairFits j E e
+Ordered j (suc o) E e = PairFits j e E
+
+-- no pair with the larger field E and a far gap admits a case
+abbrev pub NoneFar : Job → ℕ → ℕ → Type 0
+NoneFar j o E = (e : ℕ) → 1 ≤ e → e + (j .format .f + 3) ≤ E → Ordered j o E e → ⊥
+
+-- the place of these pairs in the table, behind those of the classes
+abbrev pub farPlace : Job → ℕ → ℕ → ℕ
+farPlace j o E = 64 + (2 * (allOnes (j .format) - E) + o)
+
+-- a pair with a far gap, and its place
+pub record FarPair (j : Job) (ea eb place : ℕ) : Type 0 where
+  pub order : ℕ
+  pub larger : ℕ
+  pub smaller : ℕ
+  pub fields : ((order ≡ 0) × (larger ≡ ea) × (smaller ≡ eb)) ⊎ ((order ≡ 1) × (larger ≡ eb) × (smaller ≡ ea))
+  pub below : larger < allOnes (j .format)
+  pub some : 1 ≤ smaller
+  pub far : smaller + (j .format .f + 3) ≤ larger
+  pub at : place ≡ farPlace j order larger
+  pub place-lt : place < 128
+
+-- and so for each class of the table, and for the pairs with a far gap
 pub record Kept (j : Job) (table : List ℕ) : Type 0 where
   pub size : length table ≡ 128
   pub answers : (k : ℕ) → k < 2 * (j .format .f + 5) → Refuses j k (getD table k 0)
+  pub far : (o E : ℕ) → o < 2 → E < allOnes (j .format) → getD table (farPlace j o E) 0 ≡ 1 → NoneFar j o E
 
 -- a class of the job, and the exponent of a unit
 pub record ClassOf (j : Job) (k u : ℕ) : Type 0 where

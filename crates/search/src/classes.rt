@@ -8,14 +8,15 @@ use mask::meets;
 use pair::class::class_admits;
 use pair::fields::exponent_mask;
 ghost use mathlib.Core.Bool.{false};
+ghost use mathlib.Core.Logic.{_⊎_};
 ghost use mathlib.Core.Path.{_≡_};
 ghost use Prim.Native.Nat.{ℕ, _+_, _-_, _*_, _^_, _≤_, _<_};
 ghost use Rattle.mask.specs.Mask.{Meets};
 ghost use Rattle.job.specs.Job.{Valid};
 ghost use Rattle.outcome.specs.Class.{fieldAt};
-ghost use Rattle.pair.specs.Asked.{exponentMask, PairFits};
+ghost use Rattle.pair.specs.Asked.{exponentMask, Asked, PairFits};
 ghost use Rattle.pair.specs.Class.{lowField, classOf, smallField, leastField};
-ghost use Rattle.search.specs.Classes.{Never, Refuses, Kept, ClassOf, NoField, ClassEnd};
+ghost use Rattle.search.specs.Classes.{Never, Refuses, Kept, ClassOf, NoField, ClassEnd, FarPair};
 
 // What is known of a class: whether it may admit a case, and c's exponent fields that it refuses.
 pub struct Known {
@@ -192,6 +193,64 @@ fn larger(ea: u64, eb: u64) -> u64
     if eb <= ea { ea } else { eb }
 }
 
+// The place of a pair in the table: of the order, the larger field and the smaller one; 0 where the gap is not far or there is no place.
+fn place_of(ones: u64, f: u64, order: u64, most: u64, least: u64) -> u64
+    requires { ⌜ (f ≤ 23) × (order < 2) × (least < 2 ^ 8) ⌝ }
+    ensures { λ r. ⌜ (r ≡ 0) ⊎ ((most < ones) × (1 ≤ least) × (least + (f + 3) ≤ most) × (r ≡ 64 + (2 * (ones - most) + order)) × (r < 128)) ⌝ }
+{
+    if least == 0 {
+        return 0;
+    }
+    if most < least + (f + 3) {
+        return 0;
+    }
+    if ones <= most {
+        return 0;
+    }
+    if 31 < ones - most {
+        return 0;
+    }
+    64 + (2 * (ones - most) + order)
+}
+
+// The place of a pair with a far gap, or 0.
+fn far_place(job: Job, ea: u64, eb: u64) -> u64
+    requires { ⌜ Valid job × (ea < 2 ^ job .format .w) × (eb < 2 ^ job .format .w) ⌝ }
+    ensures { λ r. ⌜ (r ≡ 0) ⊎ FarPair job ea eb r ⌝ }
+{
+    let ones = power(job.format.w) - 1;
+    if eb <= ea {
+        return place_of(ones, job.format.f, 0, ea, eb);
+    }
+    place_of(ones, job.format.f, 1, eb, ea)
+}
+
+// Whether a pair is open still: pairs with a far gap and the same larger field have one answer.
+fn far_open(job: Job, ea: u64, eb: u64, table: &[u64; 128]) -> bool
+    requires { ⌜ Valid job × (ea < 2 ^ job .format .w) × (eb < 2 ^ job .format .w) × Kept job (now table) ⌝ }
+    ensures { λ r. ⌜ (r ≡ false → PairFits job ea eb → ⊥) ⌝ }
+{
+    let place = far_place(job, ea, eb);
+    if place == 0 {
+        return true;
+    }
+    let at = place as usize;
+    table[at] != 1
+}
+
+// Keeps that a pair admits no case.
+pub(crate) fn keep_refused(job: Job, ea: u64, eb: u64, table: &mut [u64; 128])
+    requires { ⌜ Asked job ea eb × (PairFits job ea eb → ⊥) × Kept job (now table) ⌝ }
+    ensures { λ _. ⌜ Kept job (now (table .exit)) ⌝ }
+{
+    let place = far_place(job, ea, eb);
+    if place == 0 {
+        return;
+    }
+    let at = place as usize;
+    table[at] = 1;
+}
+
 // Whether a pair may admit a case, as far as its class tells.
 pub(crate) fn may_admit(job: Job, ea: u64, eb: u64, end: u64, table: &mut [u64; 128]) -> bool
     requires { ⌜ Valid job × (ea < 2 ^ job .format .w) × (eb < 2 ^ job .format .w) × ClassEnd job end × Kept job (now table) ⌝ }
@@ -202,7 +261,7 @@ pub(crate) fn may_admit(job: Job, ea: u64, eb: u64, end: u64, table: &mut [u64; 
         return true;
     }
     if end <= most {
-        return true;
+        return far_open(job, ea, eb, table);
     }
     class_may(job, class_of(job.format.f, ea, eb), most - 1, table)
 }

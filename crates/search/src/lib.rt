@@ -4,6 +4,7 @@ mod walk;
 
 use bits::power;
 use classes::class_end;
+use classes::keep_refused;
 use classes::may_admit;
 use job::Job;
 use job::job_cause;
@@ -52,7 +53,11 @@ fn admits(job: Job, ea: u64, eb: u64, end: u64, table: &mut [u64; 128]) -> bool
     if !may_admit(job, ea, eb, end, table) {
         return false;
     }
-    pair_admits(job, ea, eb)
+    if pair_admits(job, ea, eb) {
+        return true;
+    }
+    keep_refused(job, ea, eb, table);
+    false
 }
 
 // Where a row of pairs begins: at its first pair, or past its last one where the exponent field of a does not meet its mask.

@@ -1,5 +1,5 @@
 -- `search::admits` meets its contract: a pair whose exponent field of b does not meet its mask admits no case, by `pair-asked`, and none whose class admits nothing. Assumes nothing.
-use mathlib.Core.Path.{_≡_, sym, ap, _∙_}
+use mathlib.Core.Path.{_≡_, refl, sym, ap, _∙_}
 use mathlib.Core.Bool.{Bool, true, false≢true}
 use borrow.Author.Tests.{not-true, not-false}
 use Rattle.pair.specs.Asked.{Asked}
@@ -7,6 +7,22 @@ use Rattle.search.proofs.Pairs.{pair-asked, tested}
 use borrow.Author.Needs.{needs}
 use Rattle.search.proofs.admits.Statement.{statement}
 use Rattle.search.proofs.admits.Tie as tie
+
+-- what is asked of the pair
+asked-at : (c : tie.After-pair-admits)
+    → Asked (c .before .before .before .before .before .before .before .args .job) (c .before .before .before .before .before .before .before .args .ea) (c .before .before .before .before .before .before .before .args .eb)
+asked-at c =
+    let i = c .before .before .before .before in
+    let b = i .before in
+    let s = b .before .before in
+    let a = s .args in
+    record {
+      valid = s .pre .0;
+      a-lt = s .pre .1;
+      b-lt = s .pre .2;
+      a-exponent = s .pre .3;
+      b-exponent = tested (a .job .format) (a .job .b) (a .eb) (b .before .exponent-mask .ensures) (b .meets .ensures) .0 (not-false (b .meets .result) (i .if1 .left));
+    }
 
 exponent-mask-requires : tie.Need-exponent-mask-requires
 exponent-mask-requires c κs = search needs
@@ -41,19 +57,21 @@ pair-admits-requires c κs = search needs
 
 returns-3 : tie.Need-returns-3
 returns-3 c =
-    let m = c .before .before in
-    let i = m .before .before in
-    let b = i .before in
-    let s = b .before .before in
-    let a = s .args in
-    let asked : Asked (a .job) (a .ea) (a .eb) = record {
-      valid = s .pre .0;
-      a-lt = s .pre .1;
-      b-lt = s .pre .2;
-      a-exponent = s .pre .3;
-      b-exponent = tested (a .job .format) (a .job .b) (a .eb) (b .before .exponent-mask .ensures) (b .meets .ensures) .0 (not-false (b .meets .result) (i .if1 .left));
-    } in
-    (m .may-admit .ensures .0, (c .pair-admits .ensures .0 asked, c .pair-admits .ensures .1 asked))
+    let q = c .before in
+    let asked = asked-at q in
+    (q .before .before .may-admit .ensures .0, (λ e. q .pair-admits .ensures .0 asked (c .if3 .taken), λ p. refl))
+
+keep-refused-requires : tie.Need-keep-refused-requires
+keep-refused-requires c κs =
+    let q = c .before .before in
+    let asked = asked-at q in
+    (asked, λ p. false≢true (sym (c .before .if3 .left) ∙ q .pair-admits .ensures .1 asked p), q .before .before .may-admit .ensures .0)
+
+returns-4 : tie.Need-returns-4
+returns-4 c =
+    let q = c .before .before .before in
+    let asked = asked-at q in
+    (c .keep-refused .ensures, (λ e. absurd (false≢true e), λ p. absurd (false≢true (sym (c .before .before .if3 .left) ∙ q .pair-admits .ensures .1 asked p))))
 
 pub admits-spec : {M : Type 1} → statement M
 admits-spec =
@@ -65,4 +83,6 @@ admits-spec =
     may-admit-requires
     returns-2
     pair-admits-requires
-    returns-3)
+    returns-3
+    keep-refused-requires
+    returns-4)

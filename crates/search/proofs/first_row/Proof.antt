@@ -34,7 +34,7 @@ class-end-requires : tie.Need-class-end-requires Inv-loop μ-loop Inv-pairs μ-p
 class-end-requires c κs = c .before .pre .0
 
 pairs-holds : tie.Need-pairs-holds Inv-loop μ-loop Inv-pairs μ-pairs
-pairs-holds c = let s = c .before .before in (kept-fresh (s .args .job) (s .pre .0 .format .f-most), s .pre .1)
+pairs-holds c = let s = c .before .before in (kept-fresh (s .args .job), s .pre .1)
 
 row-start-requires : tie.Need-row-start-requires Inv-loop μ-loop Inv-pairs μ-pairs
 row-start-requires c κs = c .before .before .before .before .pre .0

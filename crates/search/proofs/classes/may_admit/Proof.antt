@@ -21,8 +21,11 @@ add-if1 c = search needs
 returns : tie.Need-returns
 returns c = let s = c .before .before .before in (s .pre .4, λ e. absurd (true≢false e))
 
+far-open-requires : tie.Need-far-open-requires
+far-open-requires c κs = search needs
+
 returns-2 : tie.Need-returns-2
-returns-2 c = let s = c .before .before .before .before in (s .pre .4, λ e. absurd (true≢false e))
+returns-2 c = search needs
 
 class-of-requires : tie.Need-class-of-requires
 class-of-requires c κs =
@@ -67,6 +70,7 @@ may-admit-spec =
     larger-requires
     add-if1
     returns
+    far-open-requires
     returns-2
     class-of-requires
     sub-class-may
