@@ -47,6 +47,10 @@ pub low-le : (f E e : ℕ) → e ≤ E → lowField f E e ≤ f + 4
 low-le f E zero l = omega arith
 low-le f E (suc e) l = omega arith
 
+low-two : (f E e : ℕ) → 1 ≤ e → e + 2 ≤ E → lowField f E e ≤ f + 2
+low-two f E zero some gap = absurd (omega arith)
+low-two f E (suc e) some gap = omega arith
+
 -- a gap that is not far is kept
 near-gap : (f e g r : ℕ) → r + e ≡ g + (f + 4) → suc g ≤ e → unitAt e - unitAt (suc g) ≡ unitAt (f + 4) - unitAt (suc r)
 near-gap f e g r is l = ap (λ (k : ℕ). e - 1 - k) (down g) ∙ middle ∙ ap₂ _-_ up (sym (down r))
@@ -72,10 +76,11 @@ module _ (F : Format) (ok : Supported F) (m : Mask) (formed : WellFormed (F .f) 
   far g d e hd he =
       tail-far (precision F) (significandMask (F .f) m g) d e (omega (arith, ok .f-most)) (significand-formed (F .f) m (omega (arith, ok .f-most)) formed g) (omega arith) (omega arith)
 
-  tail-same : (e g : ℕ) → F .f + 4 ≤ e → g ≤ e
+  tail-same : (e g : ℕ) → (F .f + 4 ≤ e) ⊎ (1 ≤ g) → g ≤ e
       → tailMask (precision F) (significandMask (F .f) m g) (unitAt e - unitAt g)
       ≡ tailMask (precision F) (significandMask (F .f) m (lowField (F .f) e g)) (unitAt (F .f + 4) - unitAt (lowField (F .f) e g))
-  tail-same e zero h l = far 0 (unitAt e - unitAt 0) (unitAt (F .f + 4) - unitAt 0) (omega arith) (omega arith)
+  tail-same e zero (inl h) l = far 0 (unitAt e - unitAt 0) (unitAt (F .f + 4) - unitAt 0) (omega arith) (omega arith)
+  tail-same e zero (inr h) l = absurd (omega arith)
   tail-same e (suc g) h l = go (decLe e (g + (F .f + 4)))
     where
       r : ℕ
@@ -92,9 +97,9 @@ module _ (F : Format) (ok : Supported F) (m : Mask) (formed : WellFormed (F .f) 
           far (suc g) (unitAt e - unitAt (suc g)) (unitAt (F .f + 4) - unitAt (suc r)) (omega arith) (omega arith)
           ∙ ap (λ (n : Mask). tailMask (precision F) n (unitAt (F .f + 4) - unitAt (suc r))) same
 
-aligned-same : (F : Format) → Supported F → (like : Bool) (carries m n : Mask) (e g : ℕ) → WellFormed (F .f) m → WellFormed (F .f) n → F .f + 4 ≤ e → g ≤ e
+aligned-same : (F : Format) → Supported F → (like : Bool) (carries m n : Mask) (e g : ℕ) → WellFormed (F .f) m → WellFormed (F .f) n → 1 ≤ e → (F .f + 4 ≤ e) ⊎ (1 ≤ g) → g ≤ e
     → alignedOf F like carries m e n g ≡ alignedOf F like carries m (F .f + 4) n (lowField (F .f) e g)
-aligned-same F ok like carries m n e g fm fn h l =
+aligned-same F ok like carries m n e g fm fn some h l =
     ap₂ (λ (x t : Mask). record { like = like; head = x; tail = t; carries = carries })
     (ap (λ (k : Mask). tailMask (precision F) k 0) (head-same F ok m fm e (F .f + 4) (omega arith) (omega arith))) (tail-same F ok n fn e g h l)
 
@@ -183,7 +188,7 @@ module _ (j : Job) (valid : Valid j) where
   abbrev f : ℕ
   f = j .format .f
 
-  larger-moved : (like : Bool) (s e : ℕ) (m : Mask) (g : ℕ) (n : Mask) → s < 2 → WellFormed f m → WellFormed f n → Classed (j .format) (j .c) e
+  larger-moved : (like : Bool) (s e : ℕ) (m : Mask) (g : ℕ) (n : Mask) → s < 2 → WellFormed f m → WellFormed f n → Classed (j .format) (j .c) e g
       → Larger j like s e m g n → Reached j e (lowField f e g) (λ (i : Mask). Larger (asking j i) like s (f + 4) m (lowField f e g) n)
   larger-moved like s e m g n hs fm fn classed (order, a) = record {
     field = w .field;
@@ -191,7 +196,7 @@ module _ (j : Job) (valid : Valid j) where
     least = λ l. w .least (long l);
     meets = own .1;
     holds = (
-      lower g (omega (arith, classed .normal)),
+      lower g under,
       subst (λ (u : ℕ). Admits F (j .mode) s u A′ (withExponent F (j .c) (onlyField F (w .field)))) up (admits-making F (j .mode) s (f + 3) A′ (withExponent F (j .c) (onlyField F (w .field))) .1 (record {
         x = k .x;
         made = k .made;
@@ -204,8 +209,11 @@ module _ (j : Job) (valid : Valid j) where
       F : Format
       F = j .format
 
+      some : 1 ≤ e
+      some = ⊎-elim (λ h. omega arith) (λ h. omega arith) (classed .normal)
+
       under : g ≤ e
-      under = omega (arith, classed .normal)
+      under = omega (arith, order, some)
 
       A′ : pair.Aligned
       A′ = alignedOf F like (j .carries) m (f + 4) n (lowField f e g)
@@ -213,20 +221,26 @@ module _ (j : Job) (valid : Valid j) where
       k : Rattle.outcome.specs.Question.Making f A′ (λ (x : ℕ). Meets (outcome F (j .mode) like s (unitAt e) x) (j .c))
       k =
           admits-making F (j .mode) s (unitAt e) A′ (j .c) .0
-          (subst (λ (A : pair.Aligned). Admits F (j .mode) s (unitAt e) A (j .c)) (aligned-same F (valid .format) like (j .carries) m n e g fm fn (classed .normal) under) a)
+          (subst (λ (A : pair.Aligned). Admits F (j .mode) s (unitAt e) A (j .c)) (aligned-same F (valid .format) like (j .carries) m n e g fm fn some (⊎-elim inl (λ h. inr (h .0)) (classed .normal)) under) a)
+
+      long : lowField f e g ≤ f + 2 → f + 3 ≤ size (k .x)
+      long l =
+          let four : f + 4 ≡ suc (f + 3) = omega arith in
+          made-long F (valid .format) like (j .carries) m n (f + 3) (lowField f e g) (k .x) fm fn (omega arith)
+          (subst (λ (t : ℕ). Made f (alignedOf F like (j .carries) m t n (lowField f e g)) (k .x)) four (k .made))
 
       reach : Dec (k .x ≡ 0) → (k .x ≡ 0) ⊎ (f + 4 ≤ size (k .x) + unitAt e)
       reach (yes z) = inl z
-      reach (no z) = inr (some (size (k .x)) refl)
+      reach (no z) = inr (digits (size (k .x)) refl)
         where
-          some : (d : ℕ) → size (k .x) ≡ d → f + 4 ≤ size (k .x) + unitAt e
-          some zero z′ = absurd (z (size-none (k .x) .0 z′))
-          some (suc d) z′ = omega (arith, classed .normal)
+          digits : (d : ℕ) → size (k .x) ≡ d → f + 4 ≤ size (k .x) + unitAt e
+          digits zero z′ = absurd (z (size-none (k .x) .0 z′))
+          digits (suc d) z′ = ⊎-elim (λ h. omega arith) (λ h. let l = long (low-two f e g (h .0) (h .1)) in omega arith) (classed .normal)
 
       w : Moved F (j .mode) like s (unitAt e) (k .x)
       w =
           moved F (j .mode) like s (unitAt e) hs (classed .wide) (k .x) (made-most f A′ (k .x) (k .made)) (reach (ℕ-discrete (k .x) 0))
-          (⊎-elim (λ l. inl (omega (arith, classed .normal))) (λ never. inr (λ is. past-never F (j .c) never (direction (j .mode) s) s (omega (arith, classed .wide)) (subst (λ (v : ℕ). Meets v (j .c)) is (k .holds)))) (classed .within))
+          (⊎-elim (λ l. inl (omega (arith, some))) (λ never. inr (λ is. past-never F (j .c) never (direction (j .mode) s) s (omega (arith, classed .wide)) (subst (λ (v : ℕ). Meets v (j .c)) is (k .holds)))) (classed .within))
 
       formed : WellFormed (F .w) (onlyField F (w .field))
       formed = only-formed F (w .field) (omega (arith, w .most, classed .wide))
@@ -241,12 +255,6 @@ module _ (j : Job) (valid : Valid j) where
 
       up : f + 3 ≡ unitAt (f + 4)
       up = omega arith
-
-      long : lowField f e g ≤ f + 2 → f + 3 ≤ size (k .x)
-      long l =
-          let four : f + 4 ≡ suc (f + 3) = omega arith in
-          made-long F (valid .format) like (j .carries) m n (f + 3) (lowField f e g) (k .x) fm fn (omega arith)
-          (subst (λ (t : ℕ). Made f (alignedOf F like (j .carries) m t n (lowField f e g)) (k .x)) four (k .made))
 
       lower : (g : ℕ) → g ≤ e → unitAt (lowField f e g) ≤ unitAt (f + 4)
       lower zero l = omega arith
@@ -288,7 +296,7 @@ module _ (j : Job) (valid : Valid j) where
       b-is : lowField f ea eb ≡ bField f (classOf f ea eb)
       b-is = rw (class-is, le-leb (lowField f ea eb) (f + 4) (low-le f ea eb l))
 
-      pub a-larger : Classed (j .format) (j .c) ea → Reached j ea (lowField f ea eb) (λ (i : Mask). Posed (asking j i) (aField f (classOf f ea eb)) (bField f (classOf f ea eb)) sa sb)
+      pub a-larger : Classed (j .format) (j .c) ea eb → Reached j ea (lowField f ea eb) (λ (i : Mask). Posed (asking j i) (aField f (classOf f ea eb)) (bField f (classOf f ea eb)) sa sb)
       a-larger classed = posing ea (lowField f ea eb) (⊎-elim first second (P .sums))
         where
           moved-to : (x y : ℕ) → f + 4 ≡ x → lowField f ea eb ≡ y → Reached j ea (lowField f ea eb) (λ (i : Mask). Both (f + 4) (lowField f ea eb) sa sb (asking j i)) → Reached j ea (lowField f ea eb) (λ (i : Mask). Both x y sa sb (asking j i))
@@ -300,20 +308,23 @@ module _ (j : Job) (valid : Valid j) where
               moved-to (aField f (classOf f ea eb)) (bField f (classOf f ea eb)) a-is b-is (record { field = r .field; most = r .most; least = r .least; meets = r .meets; holds = inl (r .holds) })
 
           second : Larger j (eqb t sa) t eb (fractionMask (j .format) (j .b)) ea (fractionMask (j .format) (j .a)) → Reached j ea (lowField f ea eb) (λ (i : Mask). Both (aField f (classOf f ea eb)) (bField f (classOf f ea eb)) sa sb (asking j i))
-          second p =
-              let same : eb ≡ ea = omega (arith, p .0, classed .normal) in
-              let q = subst (λ (e : ℕ). Larger j (eqb t sa) t e (fractionMask (j .format) (j .b)) ea (fractionMask (j .format) (j .a))) same p in
-              let r = larger-moved (eqb t sa) t ea (fractionMask (j .format) (j .b)) ea (fractionMask (j .format) (j .a)) (mod-lt (sb + j .operation) (omega arith)) mb ma classed q in
-              let top = low-same ea (classed .normal) in
-              let b-top : f + 4 ≡ bField f (classOf f ea eb) = sym top ∙ ap (lowField f ea) (sym same) ∙ b-is in
-              let a-top : lowField f ea ea ≡ aField f (classOf f ea eb) = top ∙ a-is in
-              record {
-                field = r .field;
-                most = r .most;
-                least = λ l. r .least (subst (λ (e : ℕ). lowField f ea e ≤ f + 2) same l);
-                meets = r .meets;
-                holds = inr (subst₂ (λ (u v : ℕ). Larger (asking j (onlyField (j .format) (r .field))) (eqb t sa) t u (fractionMask (j .format) (j .b)) v (fractionMask (j .format) (j .a))) b-top a-top (r .holds));
-              }
+          second p = ⊎-elim both (λ h. absurd (omega (arith, p .0))) (classed .normal)
+            where
+              both : f + 4 ≤ ea → Reached j ea (lowField f ea eb) (λ (i : Mask). Both (aField f (classOf f ea eb)) (bField f (classOf f ea eb)) sa sb (asking j i))
+              both h =
+                  let same : eb ≡ ea = omega (arith, p .0) in
+                  let q = subst (λ (e : ℕ). Larger j (eqb t sa) t e (fractionMask (j .format) (j .b)) ea (fractionMask (j .format) (j .a))) same p in
+                  let r = larger-moved (eqb t sa) t ea (fractionMask (j .format) (j .b)) ea (fractionMask (j .format) (j .a)) (mod-lt (sb + j .operation) (omega arith)) mb ma (record { wide = classed .wide; normal = inl h; within = classed .within }) q in
+                  let top = low-same ea h in
+                  let b-top : f + 4 ≡ bField f (classOf f ea eb) = sym top ∙ ap (lowField f ea) (sym same) ∙ b-is in
+                  let a-top : lowField f ea ea ≡ aField f (classOf f ea eb) = top ∙ a-is in
+                  record {
+                    field = r .field;
+                    most = r .most;
+                    least = λ l. r .least (subst (λ (e : ℕ). lowField f ea e ≤ f + 2) same l);
+                    meets = r .meets;
+                    holds = inr (subst₂ (λ (u v : ℕ). Larger (asking j (onlyField (j .format) (r .field))) (eqb t sa) t u (fractionMask (j .format) (j .b)) v (fractionMask (j .format) (j .a))) b-top a-top (r .holds));
+                  }
 
     -- b's is the larger one
     module _ (l : ea < eb) where
@@ -329,8 +340,8 @@ module _ (j : Job) (valid : Valid j) where
       a-then : lowField f eb ea ≡ aField f (classOf f ea eb)
       a-then = rw (class-then, above) (omega arith)
 
-      pub b-larger : Classed (j .format) (j .c) eb → Reached j eb (lowField f eb ea) (λ (i : Mask). Posed (asking j i) (aField f (classOf f ea eb)) (bField f (classOf f ea eb)) sa sb)
-      b-larger classed = posing eb (lowField f eb ea) (⊎-elim (λ p. absurd (omega (arith, p .0, classed .normal))) second (P .sums))
+      pub b-larger : Classed (j .format) (j .c) eb ea → Reached j eb (lowField f eb ea) (λ (i : Mask). Posed (asking j i) (aField f (classOf f ea eb)) (bField f (classOf f ea eb)) sa sb)
+      b-larger classed = posing eb (lowField f eb ea) (⊎-elim (λ p. absurd (⊎-elim (λ h. omega (arith, p .0)) (λ h. omega (arith, p .0)) (classed .normal))) second (P .sums))
         where
           second : Larger j (eqb t sa) t eb (fractionMask (j .format) (j .b)) ea (fractionMask (j .format) (j .a)) → Reached j eb (lowField f eb ea) (λ (i : Mask). Both (aField f (classOf f ea eb)) (bField f (classOf f ea eb)) sa sb (asking j i))
           second p =
@@ -382,16 +393,16 @@ module _ (j : Job) (ea eb : ℕ) (fin : Finites j ea eb) (P : PairFits j ea eb) 
     holds = record { sa = own .sa; sb = own .sb; sa-lt = own .sa-lt; sb-lt = own .sb-lt; posed = p .holds };
   }
 
-  -- the larger of the exponent fields is E
-  pub class-reached : (E : ℕ) → ((E ≡ ea) × (eb ≤ ea)) ⊎ ((E ≡ eb) × (ea < eb)) → Classed (j .format) (j .c) E → ClassReached j E class
-  class-reached E (inl (is, l)) classed =
+  -- the larger of the exponent fields is E, the other e
+  pub class-reached : (E e : ℕ) → ((E ≡ ea) × (e ≡ eb) × (eb ≤ ea)) ⊎ ((E ≡ eb) × (e ≡ ea) × (ea < eb)) → Classed (j .format) (j .c) E e → ClassReached j E class
+  class-reached E e (inl (is, js, l)) classed =
       subst (λ (e : ℕ). ClassReached j e class) (sym is)
       (classing ea (lowField (j .format .f) ea eb) (small-is (lowField (j .format .f) ea eb) (inl (rw (le-leb eb ea l), low-le (j .format .f) ea eb l)))
-      (a-larger j (fin .valid) ea eb (own .sa) (own .sb) (own .sa-lt) (own .posed) l (subst (Classed (j .format) (j .c)) is classed)))
-  class-reached E (inr (is, l)) classed =
+      (a-larger j (fin .valid) ea eb (own .sa) (own .sb) (own .sa-lt) (own .posed) l (subst₂ (Classed (j .format) (j .c)) is js classed)))
+  class-reached E e (inr (is, js, l)) classed =
       subst (λ (e : ℕ). ClassReached j e class) (sym is)
       (classing eb (lowField (j .format .f) eb ea) (small-is (lowField (j .format .f) eb ea) (inr (rw (lt-leb eb ea l))))
-      (b-larger j (fin .valid) ea eb (own .sa) (own .sb) (own .sa-lt) (own .posed) l (subst (Classed (j .format) (j .c)) is classed)))
+      (b-larger j (fin .valid) ea eb (own .sa) (own .sb) (own .sa-lt) (own .posed) l (subst₂ (Classed (j .format) (j .c)) is js classed)))
 
 -- ---- a class that admits nothing at all has no exponent field of c
 module _ (j : Job) (k i : ℕ) (valid : Valid j) (l : i ≤ allOnes (j .format)) where

@@ -71,8 +71,9 @@ pub record NeverPast (F : Format) (c : Mask) : Type 0 where
   pub zeros : Meets 0 (fractionMask F c) → ⊥
   pub ones : Meets (2 ^ F .f - 1) (fractionMask F c) → ⊥
 
--- a pair that its class answers for: E is the larger exponent field
-pub record Classed (F : Format) (c : Mask) (E : ℕ) : Type 0 where
+-- a pair that its class answers for: E is the larger exponent field and e the other. Each sum is 0 or has digits enough for a normal number,
+-- because of the unit or because of the gap, and no word that meets c is past the largest finite number
+pub record Classed (F : Format) (c : Mask) (E e : ℕ) : Type 0 where
   pub wide : F .f + 9 ≤ allOnes F
-  pub normal : F .f + 4 ≤ E
+  pub normal : (F .f + 4 ≤ E) ⊎ ((1 ≤ e) × (e + 2 ≤ E))
   pub within : (E + 3 ≤ allOnes F) ⊎ NeverPast F c

@@ -162,19 +162,19 @@ module _ (j : Job) (ea eb place : ℕ) (far : FarPair j ea eb place) (asked : As
 
 -- ---- the pairs that classes answer for
 pub end-short : (j : Job) (ones : ℕ) → ones ≡ allOnes (j .format) → j .format .f + 9 ≤ ones → ClassEnd j (ones - 2)
-end-short j ones is wide e l h = (record { wide = omega arith; normal = l; within = inl (omega arith) }, omega arith)
+end-short j ones is wide E e l h = (record { wide = omega arith; normal = l; within = inl (omega arith) }, omega arith)
 
 pub end-long : (j : Job) (ones : ℕ) → ones ≡ allOnes (j .format) → j .format .f + 9 ≤ ones → NeverPast (j .format) (j .c) → ClassEnd j ones
-end-long j ones is wide never e l h = (record { wide = omega arith; normal = l; within = inr never }, omega arith)
+end-long j ones is wide never E e l h = (record { wide = omega arith; normal = l; within = inr never }, omega arith)
 
 -- ---- a pair
-module _ (j : Job) (ea eb E : ℕ) (valid : Valid j) (first : eb ≤ ea → E ≡ ea) (second : ea < eb → E ≡ eb) (wide : j .format .f + 9 ≤ allOnes (j .format)) (below : E < allOnes (j .format)) where
-  order : ((E ≡ ea) × (eb ≤ ea)) ⊎ ((E ≡ eb) × (ea < eb))
+module _ (j : Job) (ea eb E e : ℕ) (valid : Valid j) (first : eb ≤ ea → (E ≡ ea) × (e ≡ eb)) (second : ea < eb → (E ≡ eb) × (e ≡ ea)) (wide : j .format .f + 9 ≤ allOnes (j .format)) (below : E < allOnes (j .format)) where
+  order : ((E ≡ ea) × (e ≡ eb) × (eb ≤ ea)) ⊎ ((E ≡ eb) × (e ≡ ea) × (ea < eb))
   order = go (decLe eb ea)
     where
-      go : Dec (eb ≤ ea) → ((E ≡ ea) × (eb ≤ ea)) ⊎ ((E ≡ eb) × (ea < eb))
-      go (yes l) = inl (first l, l)
-      go (no l) = let g : ea < eb = omega arith in inr (second g, g)
+      go : Dec (eb ≤ ea) → ((E ≡ ea) × (e ≡ eb) × (eb ≤ ea)) ⊎ ((E ≡ eb) × (e ≡ ea) × (ea < eb))
+      go (yes l) = let f = first l in inl (f .0, f .1, l)
+      go (no l) = let g : ea < eb = omega arith in let s = second g in inr (s .0, s .1, g)
 
   pub class-small : classOf (j .format .f) ea eb < 2 * (j .format .f + 5)
   class-small = go (decLe eb ea)
@@ -189,7 +189,7 @@ module _ (j : Job) (ea eb E : ℕ) (valid : Valid j) (first : eb ≤ ea → E �
       record { valid = valid; wide = wide; class-lt = class-small; unit-lt = omega arith }
 
   -- a class that admits nothing there has no pair that does
-  pub pair-never : Classed (j .format) (j .c) E → NoField j (classOf (j .format .f) ea eb) (E - 1) → PairFits j ea eb → ⊥
+  pub pair-never : Classed (j .format) (j .c) E e → NoField j (classOf (j .format .f) ea eb) (E - 1) → PairFits j ea eb → ⊥
   pair-never classed none p =
       let asked = pair-asked j ea eb valid p in
       let fin : Finites j ea eb = record {
@@ -199,5 +199,5 @@ module _ (j : Job) (ea eb E : ℕ) (valid : Valid j) (first : eb ≤ ea → E �
         a-exponent = asked .a-exponent;
         b-exponent = asked .b-exponent;
       } in
-      let r = class-reached j ea eb fin p E order classed in
+      let r = class-reached j ea eb fin p E e order classed in
       none (r .field) (r .least) (r .meets) (r .most) (r .holds)

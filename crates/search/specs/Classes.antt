@@ -65,6 +65,10 @@ pub record ClassOf (j : Job) (k u : ℕ) : Type 0 where
 abbrev pub NoField : Job → ℕ → ℕ → Type 0
 NoField j k u = (i : ℕ) → leastField (j .format .f) k ≤ i → Meets (fieldAt (j .format .f) u i) (exponentMask (j .format) (j .c)) → Never j k i
 
--- classes answer for the pairs whose larger exponent field is from f + 4 on and below `end`
+-- each sum of a pair is 0 or has digits enough for a normal number: E is the larger exponent field and e the other
+abbrev pub Normal : ℕ → ℕ → ℕ → Type 0
+Normal f E e = (f + 4 ≤ E) ⊎ ((1 ≤ e) × (e + 2 ≤ E))
+
+-- classes answer for such pairs whose larger exponent field is below `end`
 abbrev pub ClassEnd : Job → ℕ → Type 0
-ClassEnd j end = (e : ℕ) → j .format .f + 4 ≤ e → e < end → Classed (j .format) (j .c) e × (e < allOnes (j .format))
+ClassEnd j end = (E e : ℕ) → Normal (j .format .f) E e → E < end → Classed (j .format) (j .c) E e × (E < allOnes (j .format))

@@ -7,7 +7,7 @@ use mask::low;
 use mask::meets;
 use pair::class::class_admits;
 use pair::fields::exponent_mask;
-ghost use mathlib.Core.Bool.{false};
+ghost use mathlib.Core.Bool.{true, false};
 ghost use mathlib.Core.Logic.{_⊎_};
 ghost use mathlib.Core.Path.{_≡_};
 ghost use Prim.Native.Nat.{ℕ, _+_, _-_, _*_, _^_, _≤_, _<_};
@@ -16,7 +16,7 @@ ghost use Rattle.job.specs.Job.{Valid};
 ghost use Rattle.outcome.specs.Class.{fieldAt};
 ghost use Rattle.pair.specs.Asked.{exponentMask, Asked, PairFits};
 ghost use Rattle.pair.specs.Class.{lowField, classOf, smallField, leastField};
-ghost use Rattle.search.specs.Classes.{Never, Refuses, Kept, ClassOf, NoField, ClassEnd, FarPair};
+ghost use Rattle.search.specs.Classes.{Never, Refuses, Kept, ClassOf, NoField, Normal, ClassEnd, FarPair};
 
 // What is known of a class: whether it may admit a case, and c's exponent fields that it refuses.
 pub struct Known {
@@ -193,6 +193,27 @@ fn larger(ea: u64, eb: u64) -> u64
     if eb <= ea { ea } else { eb }
 }
 
+// The other one.
+fn smaller(ea: u64, eb: u64) -> u64
+    ensures { λ r. ⌜ (eb ≤ ea → r ≡ eb) × (ea < eb → r ≡ ea) × (r ≤ ea) ⌝ }
+{
+    if eb <= ea { eb } else { ea }
+}
+
+// Whether each sum of a pair is 0 or has digits enough for a normal number, by its unit or by its gap.
+fn normal(f: u64, most: u64, least: u64) -> bool
+    requires { ⌜ (f ≤ 23) × (least < 2 ^ 8) ⌝ }
+    ensures { λ r. ⌜ (r ≡ true → Normal f most least) ⌝ }
+{
+    if f + 4 <= most {
+        return true;
+    }
+    if least == 0 {
+        return false;
+    }
+    least + 2 <= most
+}
+
 // The place of a pair in the table: of the order, the larger field and the smaller one; 0 where the gap is not far or there is no place.
 fn place_of(ones: u64, f: u64, order: u64, most: u64, least: u64) -> u64
     requires { ⌜ (f ≤ 23) × (order < 2) × (least < 2 ^ 8) ⌝ }
@@ -257,7 +278,7 @@ pub(crate) fn may_admit(job: Job, ea: u64, eb: u64, end: u64, table: &mut [u64; 
     ensures { λ r. ⌜ Kept job (now (table .exit)) × (r ≡ false → PairFits job ea eb → ⊥) ⌝ }
 {
     let most = larger(ea, eb);
-    if most < job.format.f + 4 {
+    if !normal(job.format.f, most, smaller(ea, eb)) {
         return true;
     }
     if end <= most {

@@ -24,7 +24,7 @@ add-if1 : tie.Need-add-if1
 add-if1 c = search needs
 
 returns : tie.Need-returns
-returns c = λ e l h. absurd (omega arith)
+returns c = λ E e l h. absurd (omega arith)
 
 low-requires : tie.Need-low-requires
 low-requires c κs = search needs
