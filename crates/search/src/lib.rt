@@ -11,6 +11,7 @@ use job::job_cause;
 use mask::meets;
 use pair::fields::exponent_mask;
 use pair::pair_admits;
+use pair::signs::signs_left;
 ghost use mathlib.Core.Path.{_≡_};
 ghost use mathlib.Core.Bool.{true};
 ghost use mathlib.Core.Logic.{_↔_};
@@ -60,14 +61,27 @@ fn admits(job: Job, ea: u64, eb: u64, end: u64, table: &mut [u64; 128]) -> bool
     false
 }
 
+// The first exponent field of b that is asked about: all ones, which no finite operand has, where a's is finite and no signs are left for
+// finite operands.
+fn first_field(job: Job, ea: u64) -> u64
+    requires { ⌜ Valid job ⌝ }
+    ensures { λ r. ⌜ ((e : ℕ) → e < r → PairFits job ea e → ⊥) ⌝ }
+{
+    let first = 0;
+    if signs_left(job) {
+        return first;
+    }
+    let ones = power(job.format.w) - 1;
+    if ea < ones { ones } else { first }
+}
+
 // Where a row of pairs begins: at its first pair, or past its last one where the exponent field of a does not meet its mask.
 fn row_start(job: Job, ea: u64, count: u64) -> u64
     requires { ⌜ Valid job ⌝ }
     ensures { λ r. ⌜ ((e : ℕ) → e < r → PairFits job ea e → ⊥) × (r < count → Meets ea (exponentMask (job .format) (job .a))) ⌝ }
 {
-    let first = 0;
     if meets(exponent_mask(job.format, job.a), ea) {
-        first
+        first_field(job, ea)
     } else {
         count
     }

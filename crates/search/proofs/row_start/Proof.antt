@@ -14,11 +14,15 @@ exponent-mask-requires c κs = search needs
 meets-requires : tie.Need-meets-requires
 meets-requires c κs = search needs
 
+first-field-requires : tie.Need-first-field-requires
+first-field-requires c κs = c .before .before .before .pre
+
 returns : tie.Need-returns
 returns c =
-    let m = c .before in
+    let t = c .before in
+    let m = t .before in
     let a = m .before .before .args in
-    (λ e h. absurd (omega arith), λ h. tested (a .job .format) (a .job .a) (a .ea) (m .before .exponent-mask .ensures) (m .meets .ensures) .0 (c .if1 .taken))
+    (c .first-field .ensures, λ h. tested (a .job .format) (a .job .a) (a .ea) (m .before .exponent-mask .ensures) (m .meets .ensures) .0 (t .if1 .taken))
 
 returns-2 : tie.Need-returns-2
 returns-2 c =
@@ -31,4 +35,4 @@ returns-2 c =
     )
 
 pub row-start-spec : {M : Type 1} → statement M
-row-start-spec = tie.close (tie.spec exponent-mask-requires meets-requires returns returns-2)
+row-start-spec = tie.close (tie.spec exponent-mask-requires meets-requires first-field-requires returns returns-2)
