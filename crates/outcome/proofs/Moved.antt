@@ -1,8 +1,8 @@
 -- The word that x makes does not depend on the unit but in its exponent field, which moves with the unit: so pairs of operands whose
 -- significands are aligned alike have one answer. It holds where x is 0 or has digits enough for a normal number, and the word is within
 -- the format. The unit with the exponent f + 3 stands for all others. Assumes nothing.
-use mathlib.Core.Logic.{_⊎_, inl, inr, ⊎-elim}
-use mathlib.Core.Path.{_≡_, refl, sym, ap, ap₂, _∙_, subst}
+use mathlib.Core.Logic.{_⊎_, ⊎-elim}
+use mathlib.Core.Path.{_≡_, refl, sym, ap, ap₂, _∙_}
 use mathlib.Core.Bool.{Bool, true, false}
 use Prim.Native.Nat.{ℕ, zero, suc, _+_, _-_, _*_, _/_, _%_, _^_, _≤_, _<_}
 use native.Mathlib.Nat.{mod-lt}
@@ -17,7 +17,7 @@ use Rattle.adder.specs.Word.{allOnes, signed}
 use Rattle.adder.specs.Rounding.{direction, overflowWord, roundOff}
 use Rattle.adder.proofs.ResultLaws.{cancelled-lt}
 use Rattle.adder.proofs.Size.{size-zero}
-use Rattle.outcome.specs.Outcome.{droppedOf, boundedHeld, zeroSign, outcome}
+use Rattle.outcome.specs.Outcome.{boundedHeld, zeroSign, outcome}
 use Rattle.outcome.specs.Question.{keptOf, wordOf}
 use Rattle.outcome.specs.Class.{fieldAt}
 use Rattle.outcome.proofs.Topped.{size-none}

@@ -1,6 +1,7 @@
--- The mask c with another mask on its exponent field: it is met by field, and it is well formed. Assumes nothing.
+-- The mask c with another mask on its exponent field: it is met by field, and it is well formed. Also the fractions of the words past the
+-- largest finite number. Assumes nothing.
 use mathlib.Core.Logic.{_↔_}
-use mathlib.Core.Path.{_≡_, refl, sym, ap, ap₂, _∙_, subst}
+use mathlib.Core.Path.{_≡_, sym, ap, _∙_, subst}
 use Prim.Native.Nat.{ℕ, _+_, _-_, _*_, _/_, _%_, _^_, _≤_, _<_}
 use native.Mathlib.Nat.{mod-lt, mod-eq-of-lt}
 use native.Mathlib.Omega.{arith}
@@ -14,9 +15,12 @@ use Rattle.mask.specs.Mask as mask
 use Rattle.mask.specs.Mask.{Meets, WellFormed}
 use Rattle.mask.proofs.ByParts.{meets-parts, sign-formed, fraction-formed}
 use Rattle.mask.proofs.ByBits.{value-below}
-use Rattle.adder.specs.Word.{signed}
+use Rattle.adder.specs.Word.{allOnes, signed}
+use Rattle.adder.specs.declared.Direction.{Direction}
+use Rattle.adder.specs.declared.Direction.the-variants.{Nearest, TowardZero, Away}
+use Rattle.adder.specs.Rounding.{infinityWord, overflowWord}
 use Rattle.pair.specs.Asked.{signMask, exponentMask, fractionMask}
-use Rattle.pair.specs.Class.{withExponent}
+use Rattle.pair.specs.Class.{withExponent, NeverPast}
 
 -- a mask on a number in two parts
 meets-split : (k q r : ℕ) (m : Mask) → r < 2 ^ k → Meets (q * 2 ^ k + r) m ↔ (Meets r (mask.low k m) × Meets q (mask.high k m))
@@ -120,3 +124,40 @@ asking-less F c n h hn x met =
   where
     whole : signed F (x / 2 ^ (F .w + F .f)) (x % 2 ^ (F .w + F .f) / 2 ^ F .f * 2 ^ F .f + x % 2 ^ (F .w + F .f) % 2 ^ F .f) ≡ x
     whole = ap (λ (r : ℕ). x / 2 ^ (F .w + F .f) * 2 ^ (F .w + F .f) + r) (split (x % 2 ^ (F .w + F .f)) (F .f)) ∙ split x (F .w + F .f)
+
+-- ---- the word past the largest finite number
+module _ (F : Format) (c : Mask) (never : NeverPast F c) where
+  fraction-part : (q r : ℕ) → r < 2 ^ F .f → Meets (q * 2 ^ F .f + r) c → Meets r (fractionMask F c)
+  fraction-part q r h met = subst (λ (k : ℕ). Meets k (fractionMask F c)) (low q (F .f) h) (meets-parts (F .f) (q * 2 ^ F .f + r) c .0 met .0)
+
+  infinity-never : (s : ℕ) → Meets (signed F s (infinityWord F)) c → ⊥
+  infinity-never s met = never .zeros (fraction-part (s * 2 ^ F .w + allOnes F) 0 (pow-pos (F .f)) (subst (λ (k : ℕ). Meets k c) whole met))
+    where
+      whole : signed F s (infinityWord F) ≡ (s * 2 ^ F .w + allOnes F) * 2 ^ F .f + 0
+      whole =
+          let p = pow-add 2 (F .w) (F .f) in
+          let a = native.Mathlib.Nat.mul-assoc s (2 ^ F .w) (2 ^ F .f) in
+          let m = native.Mathlib.Nat.add-mul (s * 2 ^ F .w) (allOnes F) (2 ^ F .f) in
+          let q = ap (_*_ s) p in
+          omega arith
+
+  largest-never : (s : ℕ) → 1 ≤ allOnes F → Meets (signed F s (infinityWord F - 1)) c → ⊥
+  largest-never s some met =
+      never .ones (fraction-part (s * 2 ^ F .w + (allOnes F - 1)) (2 ^ F .f - 1) (omega (arith, pow-pos (F .f))) (subst (λ (k : ℕ). Meets k c) whole met))
+    where
+      whole : signed F s (infinityWord F - 1) ≡ (s * 2 ^ F .w + (allOnes F - 1)) * 2 ^ F .f + (2 ^ F .f - 1)
+      whole =
+          let p = pow-add 2 (F .w) (F .f) in
+          let a = native.Mathlib.Nat.mul-assoc s (2 ^ F .w) (2 ^ F .f) in
+          let m = native.Mathlib.Nat.add-mul (s * 2 ^ F .w) (allOnes F - 1) (2 ^ F .f) in
+          let n = native.Mathlib.Nat.add-mul (allOnes F - 1) 1 (2 ^ F .f) in
+          let o : allOnes F - 1 + 1 ≡ allOnes F = omega arith in
+          let t = ap (λ (k : ℕ). k * 2 ^ F .f) o in
+          let q = ap (_*_ s) p in
+          omega (arith, pow-pos (F .f))
+
+  pub past-never : (d : Direction) (s : ℕ) → 1 ≤ allOnes F → Meets (signed F s (overflowWord F d)) c → ⊥
+  unfolding overflowWord
+  past-never Nearest s some met = infinity-never s met
+  past-never TowardZero s some met = largest-never s some met
+  past-never Away s some met = infinity-never s met

@@ -7,6 +7,7 @@ pub mod Finites
 pub mod SpecialWords
 pub mod SpecialLaws
 pub mod SpecialKinds
+pub mod Aligning
 pub mod ClassMasks
 pub mod Classes
 pub mod LikeSigns

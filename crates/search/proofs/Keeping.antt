@@ -3,29 +3,27 @@
 use mathlib.Core.List.{List}
 use mathlib.Core.Logic.{_⊎_, inl, inr, ⊎-elim}
 use mathlib.Core.Path.{_≡_, sym, ap, _∙_, subst}
-use Prim.Native.Nat.{ℕ, zero, suc, _+_, _-_, _*_, _%_, _^_, _≤_, _<_}
+use Prim.Native.Nat.{ℕ, _+_, _-_, _*_, _%_, _^_, _≤_, _<_}
 use native.Mathlib.Decide.{decLe, decLt, ℕ-discrete}
 use native.Mathlib.Omega.{arith}
 use lib.Bits.{bitOr, or-zero-r}
-use lib.ListN.{length, getD, set, replicate, length-replicate, getD-replicate, length-set, List·getD-eq-default}
+use lib.ListN.{getD, set, replicate, length-replicate, getD-replicate, length-set, List·getD-eq-default}
 use lib.Pow.{pow-pos, pow-mono}
 use lib.Seq.{getD-set-same, getD-set-other}
 use borrow.Author.Tests.{le-leb, lt-leb}
 use Rattle.bits.specs.Bit.{bit}
-use Rattle.bits.proofs.Laws.{power-exact, bit-above, bit-pow-same, bit-pow-other}
+use Rattle.bits.proofs.Laws.{power-exact, bit-above, bit-pow-other}
 use Rattle.bits.proofs.Logic.{bit-or}
-use Rattle.format.specs.declared.Format.{Format}
 use Rattle.mask.specs.declared.Mask.{Mask}
-use Rattle.mask.specs.Mask.{Meets, WellFormed}
 use Rattle.job.specs.declared.Job.{Job}
 use Rattle.job.specs.Job.{Valid}
 use Rattle.adder.specs.Word.{allOnes}
-use Rattle.outcome.specs.Class.{fieldAt}
-use Rattle.pair.specs.Asked.{exponentMask, fractionMask, Asked, PairFits}
+use Rattle.pair.specs.Asked.{Asked, PairFits}
 use Rattle.pair.specs.Pair.{Finites}
-use Rattle.pair.specs.Class.{lowField, classOf, onlyField, ClassAdmits, ClassAsked, NeverPast, Classed}
+use Rattle.pair.specs.Class.{classOf, onlyField, ClassAdmits, ClassAsked, NeverPast, Classed}
 use Rattle.pair.proofs.ClassMasks.{anyField, any-formed}
-use Rattle.pair.proofs.Classes.{low-le, only-formed, class-reached, class-less, far-a, far-b}
+use Rattle.pair.proofs.Aligning.{low-le}
+use Rattle.pair.proofs.Classes.{only-formed, class-reached, class-less, far-a, far-b}
 use Rattle.search.specs.Classes.{Never, Refuses, Kept, ClassOf, NoField, ClassEnd, Ordered, NoneFar, farPlace, FarPair}
 use Rattle.search.proofs.Pairs.{pair-asked}
 

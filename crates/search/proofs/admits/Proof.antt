@@ -1,6 +1,6 @@
 -- `search::admits` meets its contract: a pair whose exponent field of b does not meet its mask admits no case, by `pair-asked`, and none whose class admits nothing. Assumes nothing.
-use mathlib.Core.Path.{_≡_, refl, sym, ap, _∙_}
-use mathlib.Core.Bool.{Bool, true, false≢true}
+use mathlib.Core.Path.{refl, sym, _∙_}
+use mathlib.Core.Bool.{false≢true}
 use borrow.Author.Tests.{not-true, not-false}
 use Rattle.pair.specs.Asked.{Asked}
 use Rattle.search.proofs.Pairs.{pair-asked, tested}

@@ -1,7 +1,6 @@
 -- `search::choose` meets its contract: its two walks end at the chosen pair, by `walks-choose`. Assumes nothing.
 use mathlib.Core.Path.{refl, sym, ap, _∙_}
 use native.Mathlib.Omega.{arith}
-use Rattle.format.specs.declared.Format.{Format}
 use Rattle.format.specs.Format.{wordBits}
 use Rattle.search.specs.declared.Role.the-variants.{A, B}
 use Rattle.search.proofs.Choosing.{all-open, settled-none, walks-choose}

@@ -1,5 +1,5 @@
 -- `pair::class::b_field` meets its contract. Assumes nothing.
-use Prim.Native.Nat.{ℕ, _+_}
+use Prim.Native.Nat.{_+_}
 use borrow.Author.Tests.{le-leb, lt-leb}
 use borrow.Author.Needs.{needs}
 use Rattle.pair.proofs.class.b_field.Statement.{statement}

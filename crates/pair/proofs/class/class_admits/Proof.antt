@@ -1,16 +1,15 @@
 -- `pair::class::class_admits` meets its contract: it asks about the pair that stands for the class. Assumes nothing.
-use mathlib.Core.Path.{_≡_, sym, ap, ap₂, _∙_, subst, subst₂}
-use mathlib.Core.Bool.{Bool, true, cond, false≢true}
-use Prim.Native.Nat.{ℕ, _+_, _-_, _*_, _≤_, _<_}
+use mathlib.Core.Path.{sym, _∙_}
+use mathlib.Core.Bool.{false≢true}
+use Prim.Native.Nat.{ℕ, _+_, _*_, _≤_, _<_}
 use native.Mathlib.Decide.{decLe}
 use native.Mathlib.Omega.{arith}
 use borrow.Author.Tests.{not-true, not-false, le-leb, lt-leb}
 use Rattle.job.specs.declared.Job.{Job}
 use Rattle.job.specs.Job.{Valid}
 use Rattle.mask.specs.declared.Mask.{Mask}
-use Rattle.adder.specs.Word.{allOnes}
-use Rattle.pair.specs.Pair.{FinitePair, SomeSigns}
-use Rattle.pair.specs.Class.{aField, bField, asking, ClassAsked, ClassAdmits}
+use Rattle.pair.specs.Pair.{FinitePair}
+use Rattle.pair.specs.Class.{aField, bField, asking, ClassAsked}
 use Rattle.pair.proofs.ClassMasks.{asking-formed}
 use borrow.Author.Needs.{needs}
 use Rattle.pair.proofs.class.class_admits.Statement.{statement}

@@ -1,8 +1,8 @@
 -- `pair::finite::some_signs` meets its contract: it tries each two signs. Assumes nothing.
-use mathlib.Core.Path.{_≡_, refl, sym, ap, ap₂, _∙_, subst}
-use Prim.Native.Nat.{ℕ, zero, suc, _+_, _-_, _*_, _/_, _%_, _^_, _≤_, _<_}
+use mathlib.Core.Path.{refl, sym, _∙_}
+use Prim.Native.Nat.{ℕ, zero, suc, _<_}
 use native.Mathlib.Omega.{arith}
-use mathlib.Core.Bool.{Bool, true, false, not, false≢true}
+use mathlib.Core.Bool.{false≢true}
 use lib.Dec.{lit<}
 use Rattle.pair.specs.Pair.{Posed}
 use borrow.Author.Needs.{needs}

@@ -1,11 +1,10 @@
 -- `search::classes::class_end` meets its contract. Assumes nothing.
-use mathlib.Core.Path.{_≡_, sym, ap, ap₂, _∙_}
+use mathlib.Core.Path.{sym, ap, ap₂, _∙_}
 use mathlib.Core.Bool.{false≢true}
 use Prim.Native.Nat.{ℕ, _-_, _^_}
 use native.Mathlib.Omega.{arith}
 use lib.Pow.{pow-pos}
 use Rattle.bits.proofs.Laws.{power-exact}
-use Rattle.mask.specs.declared.Mask.{Mask}
 use Rattle.mask.specs.Mask.{meets}
 use Rattle.mask.proofs.Checks.{meets-true}
 use Rattle.pair.specs.Asked.{fractionMask}

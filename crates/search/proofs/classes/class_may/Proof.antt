@@ -1,7 +1,5 @@
 -- `search::classes::class_may` meets its contract: what is found of the class is kept in its own word. Assumes nothing.
 use mathlib.Core.Path.{sym, _∙_}
-use mathlib.Core.Logic.{inl}
-use native.Mathlib.Omega.{arith}
 use denote.Ref.{now}
 use Rattle.search.proofs.Keeping.{closed-none, kept-set}
 use borrow.Author.Needs.{needs}

@@ -1,8 +1,8 @@
 -- `search::classes::class_of` meets its contract. Assumes nothing.
-use mathlib.Core.Path.{_≡_, ap, _∙_}
+use mathlib.Core.Path.{ap}
 use Prim.Native.Nat.{ℕ, _+_}
 use native.Mathlib.Omega.{arith}
-use Rattle.pair.proofs.Classes.{low-le}
+use Rattle.pair.proofs.Aligning.{low-le}
 use borrow.Author.Tests.{le-leb, lt-leb}
 use borrow.Author.Needs.{needs}
 use Rattle.search.proofs.classes.class_of.Statement.{statement}

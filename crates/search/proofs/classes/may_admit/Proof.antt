@@ -1,11 +1,10 @@
 -- `search::classes::may_admit` meets its contract. Assumes nothing.
 use mathlib.Core.Logic.{⊎-elim}
-use mathlib.Core.Path.{_≡_, sym, ap, _∙_, subst}
+use mathlib.Core.Path.{sym, subst}
 use mathlib.Core.Bool.{true≢false}
-use Prim.Native.Nat.{ℕ, _-_, _^_, _≤_, _<_}
+use Prim.Native.Nat.{ℕ, _-_}
 use native.Mathlib.Omega.{arith}
 use lib.Pow.{pow-mono}
-use denote.Ref.{now}
 use borrow.Author.Tests.{not-false}
 use Rattle.search.specs.Classes.{ClassOf, NoField}
 use Rattle.search.proofs.Keeping.{pair-class, pair-never}

@@ -1,7 +1,6 @@
 -- `search::classes::opened` meets its contract. Assumes nothing.
-use mathlib.Core.Path.{_≡_, sym, _∙_, subst}
+use mathlib.Core.Path.{sym, _∙_}
 use mathlib.Core.Bool.{false≢true}
-use Rattle.search.specs.Classes.{Refuses}
 use Rattle.search.proofs.Keeping.{marked, closed, any-asked}
 use borrow.Author.Needs.{needs}
 use Rattle.search.proofs.classes.opened.Statement.{statement}

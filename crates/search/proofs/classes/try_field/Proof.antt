@@ -1,10 +1,8 @@
 -- `search::classes::try_field` meets its contract. Assumes nothing.
-use mathlib.Core.Path.{_≡_, sym, ap, ap₂, _∙_, subst}
-use mathlib.Core.Bool.{Bool, true, false, false≢true, true≢false}
-use mathlib.Core.Logic.{inl, inr, _↔_}
-use Prim.Native.Nat.{ℕ, _-_, _^_}
+use mathlib.Core.Path.{_≡_, sym, ap₂, _∙_, subst}
+use mathlib.Core.Bool.{true, false≢true, true≢false}
+use mathlib.Core.Logic.{inr, _↔_}
 use native.Mathlib.Omega.{arith}
-use lib.Bits.{bitOr}
 use lib.Pow.{pow-pos}
 use borrow.Author.Tests.{not-true}
 use Rattle.bits.proofs.Laws.{power-exact, one-shl}

@@ -4,7 +4,6 @@ use mathlib.Core.Bool.{true≢false}
 use Prim.Native.Nat.{ℕ, _+_, _-_, _≤_, _<_}
 use native.Mathlib.Decide.{ℕ-discrete}
 use native.Mathlib.Omega.{arith}
-use borrow.Author.Needs.{needs}
 use Rattle.mask.specs.Mask.{Meets}
 use Rattle.outcome.specs.Class.{fieldAt}
 use Rattle.pair.specs.Asked.{exponentMask}
