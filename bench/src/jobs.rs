@@ -20,6 +20,9 @@ pub enum Kind {
     Impossible,
     /// Document 01's case 13: only signs are fixed, and there is no case.
     Signs,
+    /// Each mask, the carries' too, with its own share of fixed bits, from none to all, and around
+    /// a true case or not.
+    Mixed,
 }
 
 pub const KINDS: [(&str, Kind); 6] = [
@@ -47,7 +50,7 @@ const fn fixed(of_16: u64) -> Kind {
 impl Kind {
     /// Whether z3 is asked too: it is given no carry masks.
     pub fn has_carries(self) -> bool {
-        matches!(self, Kind::Fixed { carries: true, .. })
+        matches!(self, Kind::Fixed { carries: true, .. } | Kind::Mixed)
     }
 }
 
@@ -64,6 +67,16 @@ fn mask(word: u64, care: u64) -> Mask {
         care,
         value: word & care,
     }
+}
+
+/// A mask with any share of the bits fixed, three times of four to those of a word.
+fn mixed(random: &mut Random, word: u64, width: u32) -> Mask {
+    let of_16 = random.below(17);
+    let word = match random.below(4) {
+        0 => random.bits(width),
+        _ => word,
+    };
+    mask(word, care(random, width, of_16))
 }
 
 /// A job of a format with any operation and mode, of a kind. One that is to be impossible may
@@ -92,6 +105,14 @@ fn job(random: &mut Random, (w, f): (u64, u64), kind: Kind) -> Job {
             for mask_of in [&mut conditions.a, &mut conditions.b, &mut conditions.c] {
                 *mask_of = mask(random.word(), fraction);
             }
+        }
+        Kind::Mixed => {
+            let (a, b) = pair(random, adder.format);
+            let case = Case::of(&adder, a, b);
+            conditions.a = mixed(random, case.a, width);
+            conditions.b = mixed(random, case.b, width);
+            conditions.c = mixed(random, case.c, width);
+            conditions.carries = mixed(random, case.row.unwrap_or(0), precision);
         }
         Kind::Signs => {
             let sign = adder.format.sign_bit();

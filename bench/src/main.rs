@@ -2,7 +2,7 @@
 //!
 //! `bench [--seed N] [--jobs N] [--limit SECONDS] [--stack KIB] [--write]`: at least one job of
 //! each kind, 40 by default; z3 may spend the limit on a job, 20 seconds by default; every job
-//! runs on a thread with a stack of so many KiB, 1024 by default; `--write` writes what is printed
+//! runs on a thread with a stack of so many KiB, 256 by default; `--write` writes what is printed
 //! to docs/SPEED.md.
 
 mod jobs;
@@ -20,6 +20,8 @@ use solver::{Said, Solver};
 use times::{least, Times, RUNS};
 
 const SEED: u64 = 0xB3AC4;
+/// How many jobs of mixed masks there are for each of another kind: their largest time counts.
+const MIXED: usize = 250;
 
 pub struct Options {
     pub seed: u64,
@@ -35,7 +37,7 @@ fn options() -> Option<Options> {
         seed: SEED,
         jobs: 40,
         limit: Duration::from_secs(20),
-        stack: 1024,
+        stack: 256,
         write: false,
     };
     let mut words = std::env::args().skip(1);
@@ -158,6 +160,13 @@ fn run(options: &Options) -> Result<String, String> {
             )?);
         }
     }
+    rows.push(row(
+        &mut random,
+        &mut None,
+        ((8, 23), "single precision (8/23)"),
+        (Kind::Mixed, "any share of each mask fixed"),
+        options.jobs * MIXED,
+    )?);
     for (of_16, possible, name) in [
         (1, true, "sparse"),
         (8, true, "half fixed"),
