@@ -8,6 +8,7 @@ use Prim.Native.Nat.{ℕ, zero, suc, _+_, _-_, _*_, _^_, _≤_, _<_}
 use native.Mathlib.Nat.{lt-of-lt-of-le, div-lt-iff-lt-mul}
 use native.Mathlib.Decide.{decLe}
 use native.Mathlib.Omega.{arith}
+use borrow.Author.Tests.{le-leb, lt-leb}
 use lib.Ieee.{size}
 use lib.Pow.{pow-pos, pow-add, pow-mono}
 use Rattle.format.specs.declared.Format.{Format}
@@ -23,15 +24,30 @@ use Rattle.significand.proofs.Tail.{aligned-zero, tail-complete, tail-far}
 use Rattle.outcome.specs.Question.{Made}
 use Rattle.outcome.proofs.Range.{made-like, made-unlike}
 use Rattle.pair.specs.Pair.{unitAt, alignedOf}
-use Rattle.pair.specs.Class.{lowField}
+use Rattle.pair.specs.Class.{lowField, classOf, aField, bField}
 
 pub low-le : (f E e : ℕ) → e ≤ E → lowField f E e ≤ f + 4
 low-le f E zero l = omega arith
 low-le f E (suc e) l = omega arith
 
+pub low-same : (f E : ℕ) → f + 4 ≤ E → lowField f E E ≡ f + 4
+low-same f zero l = omega arith
+low-same f (suc E) l = omega arith
+
 pub low-two : (f E e : ℕ) → 1 ≤ e → e + 2 ≤ E → lowField f E e ≤ f + 2
 low-two f E zero some gap = absurd (omega arith)
 low-two f E (suc e) some gap = omega arith
+
+-- the fields of the pair that stands for the class of a pair, whose larger field is a's or b's
+pub fields-a : (f ea eb : ℕ) → eb ≤ ea → (f + 4 ≡ aField f (classOf f ea eb)) × (lowField f ea eb ≡ bField f (classOf f ea eb))
+fields-a f ea eb l =
+    let s = le-leb (lowField f ea eb) (f + 4) (low-le f ea eb l) in
+    (rw (le-leb eb ea l, s), rw (le-leb eb ea l, s))
+
+pub fields-b : (f ea eb : ℕ) → ea < eb → (f + 4 ≡ bField f (classOf f ea eb)) × (lowField f eb ea ≡ aField f (classOf f ea eb))
+fields-b f ea eb l =
+    let above = lt-leb (f + 5 + lowField f eb ea) (f + 4) (omega arith) in
+    (rw (lt-leb eb ea l, above), rw (lt-leb eb ea l, above) (omega arith))
 
 -- a gap that is not far is kept
 near-gap : (f e g r : ℕ) → r + e ≡ g + (f + 4) → suc g ≤ e → unitAt e - unitAt (suc g) ≡ unitAt (f + 4) - unitAt (suc r)

@@ -81,10 +81,10 @@ module _ (F : Format) (c n : Mask) (h : WellFormed (wordBits F) c) (hn : WellFor
           subst (λ (k : ℕ). signMask F c .care * 2 ^ (F .w + F .f) + (n .care * 2 ^ F .f + fractionMask F c .care) < 2 ^ k) e (omega arith)
 
   -- c itself by its fields
-  pub own-meets : (s e t : ℕ) → s < 2 → e < 2 ^ F .w → t < 2 ^ F .f → Meets (signed F s (e * 2 ^ F .f + t)) c
-      → Meets s (signMask F c) × Meets e (exponentMask F c) × Meets t (fractionMask F c)
-  own-meets s e t hs he ht met =
-      let fields = Rattle.mask.proofs.ByParts.meets-fields (F .w) (F .f) c h (signed F s (e * 2 ^ F .f + t)) .0 met in
+  pub own-meets : (s e t : ℕ) → s < 2 → e < 2 ^ F .w → t < 2 ^ F .f
+      → Meets (signed F s (e * 2 ^ F .f + t)) c ↔ (Meets s (signMask F c) × Meets e (exponentMask F c) × Meets t (fractionMask F c))
+  own-meets s e t hs he ht =
+      let fields = Rattle.mask.proofs.ByParts.meets-fields (F .w) (F .f) c h (signed F s (e * 2 ^ F .f + t)) in
       rw (is-sign, is-exponent, is-fraction) at fields
     where
       above : signed F s (e * 2 ^ F .f + t) ≡ (s * 2 ^ F .w + e) * 2 ^ F .f + t

@@ -2,7 +2,7 @@
 -- as much as the unit. Assumes nothing.
 use mathlib.Core.Logic.{_⊎_, inl, inr, ⊎-elim}
 use mathlib.Core.Path.{_≡_, refl, sym, ap, _∙_, subst, subst₂}
-use mathlib.Core.Bool.{Bool, false, not, cond}
+use mathlib.Core.Bool.{Bool, not, cond}
 use Prim.Native.Nat.{ℕ, zero, suc, _+_, _-_, _^_, _≤_, _<_}
 use native.Mathlib.Nat.{mod-lt}
 use native.Mathlib.Decide.{decLe, ℕ-discrete}
@@ -18,8 +18,8 @@ use Rattle.mask.specs.Mask.{Meets, WellFormed}
 use Rattle.mask.proofs.ByParts.{fraction-formed}
 use Rattle.job.specs.declared.Job.{Job}
 use Rattle.job.specs.Job.{Valid}
-use Rattle.adder.specs.Word.{allOnes}
-use Rattle.adder.specs.Rounding.{direction}
+use Rattle.adder.specs.Word.{allOnes, signed}
+use Rattle.adder.specs.Rounding.{direction, overflowWord}
 use Rattle.significand.specs.Significand.{significandMask}
 use Rattle.significand.specs.Tail.{tailMask}
 use Rattle.chain.specs.Chain.{combined}
@@ -34,7 +34,7 @@ use Rattle.outcome.proofs.Moved.{Moved, moved}
 use Rattle.pair.specs.Asked.{signMask, exponentMask, fractionMask, PairFits}
 use Rattle.pair.specs.Pair.{unitAt, alignedOf, Larger, turned, Posed, SomeSigns, Finites}
 use Rattle.pair.specs.Class.{lowField, classOf, aField, bField, smallField, leastField, withExponent, asking, onlyField, ClassAdmits, Classed}
-use Rattle.pair.proofs.Aligning.{low-le, low-two, head-same, far, aligned-same, made-long}
+use Rattle.pair.proofs.Aligning.{low-le, low-two, low-same, fields-a, fields-b, head-same, far, aligned-same, made-long}
 use Rattle.pair.proofs.ClassMasks.{past-never, asking-meets, own-meets, anyField, asking-less}
 use Rattle.pair.proofs.Finites.{pair-signs, signs-pair}
 
@@ -55,12 +55,43 @@ module _ (j : Job) (valid : Valid j) where
   abbrev f : ℕ
   f = j .format .f
 
+  -- a pair of the class and the one that stands for it: e is the larger exponent field, g the other
+  module _ (like : Bool) (s e : ℕ) (m : Mask) (g : ℕ) (n : Mask) (hs : s < 2) (fm : WellFormed f m) (fn : WellFormed f n) (classed : Classed (j .format) (j .c) e g) (under : g ≤ e) where
+    abbrev standing : pair.Aligned
+    standing = alignedOf (j .format) like (j .carries) m (f + 4) n (lowField f e g)
+
+    pub large : 1 ≤ e
+    large = ⊎-elim (λ h. omega arith) (λ h. omega arith) (classed .normal)
+
+    pub class-aligned : alignedOf (j .format) like (j .carries) m e n g ≡ standing
+    class-aligned = aligned-same (j .format) (valid .format) like (j .carries) m n e g fm fn large (⊎-elim inl (λ h. inr (h .0)) (classed .normal)) under
+
+    module _ (x : ℕ) (made : Made f standing x) where
+      pub long : lowField f e g ≤ f + 2 → f + 3 ≤ size x
+      long l =
+          let four : f + 4 ≡ suc (f + 3) = omega arith in
+          made-long (j .format) (valid .format) like (j .carries) m n (f + 3) (lowField f e g) x fm fn (omega arith)
+          (subst (λ (t : ℕ). Made f (alignedOf (j .format) like (j .carries) m t n (lowField f e g)) x) four made)
+
+      reach : Dec (x ≡ 0) → (x ≡ 0) ⊎ (f + 4 ≤ size x + unitAt e)
+      reach (yes z) = inl z
+      reach (no z) = inr (digits (size x) refl)
+        where
+          digits : (d : ℕ) → size x ≡ d → f + 4 ≤ size x + unitAt e
+          digits zero z′ = absurd (z (size-none x .0 z′))
+          digits (suc d) z′ = ⊎-elim (λ h. omega arith) (λ h. let l = long (low-two f e g (h .0) (h .1)) in omega arith) (classed .normal)
+
+      -- the word of a sum moves with the unit
+      pub sum-moved : (unitAt e + 4 ≤ allOnes (j .format)) ⊎ (outcome (j .format) (j .mode) like s (unitAt e) x ≡ signed (j .format) s (overflowWord (j .format) (direction (j .mode) s)) → ⊥)
+          → Moved (j .format) (j .mode) like s (unitAt e) x
+      sum-moved within = moved (j .format) (j .mode) like s (unitAt e) hs (classed .wide) x (made-most f standing x made) (reach (ℕ-discrete x 0)) within
+
   larger-moved : (like : Bool) (s e : ℕ) (m : Mask) (g : ℕ) (n : Mask) → s < 2 → WellFormed f m → WellFormed f n → Classed (j .format) (j .c) e g
       → Larger j like s e m g n → Reached j e (lowField f e g) (λ (i : Mask). Larger (asking j i) like s (f + 4) m (lowField f e g) n)
   larger-moved like s e m g n hs fm fn classed (order, a) = record {
     field = w .field;
     most = w .most;
-    least = λ l. w .least (long l);
+    least = λ l. w .least (long like s e m g n hs fm fn classed under (k .x) (k .made) l);
     meets = own .1;
     holds = (
       lower g under,
@@ -88,25 +119,11 @@ module _ (j : Job) (valid : Valid j) where
       k : Rattle.outcome.specs.Question.Making f A′ (λ (x : ℕ). Meets (outcome F (j .mode) like s (unitAt e) x) (j .c))
       k =
           admits-making F (j .mode) s (unitAt e) A′ (j .c) .0
-          (subst (λ (A : pair.Aligned). Admits F (j .mode) s (unitAt e) A (j .c)) (aligned-same F (valid .format) like (j .carries) m n e g fm fn some (⊎-elim inl (λ h. inr (h .0)) (classed .normal)) under) a)
-
-      long : lowField f e g ≤ f + 2 → f + 3 ≤ size (k .x)
-      long l =
-          let four : f + 4 ≡ suc (f + 3) = omega arith in
-          made-long F (valid .format) like (j .carries) m n (f + 3) (lowField f e g) (k .x) fm fn (omega arith)
-          (subst (λ (t : ℕ). Made f (alignedOf F like (j .carries) m t n (lowField f e g)) (k .x)) four (k .made))
-
-      reach : Dec (k .x ≡ 0) → (k .x ≡ 0) ⊎ (f + 4 ≤ size (k .x) + unitAt e)
-      reach (yes z) = inl z
-      reach (no z) = inr (digits (size (k .x)) refl)
-        where
-          digits : (d : ℕ) → size (k .x) ≡ d → f + 4 ≤ size (k .x) + unitAt e
-          digits zero z′ = absurd (z (size-none (k .x) .0 z′))
-          digits (suc d) z′ = ⊎-elim (λ h. omega arith) (λ h. let l = long (low-two f e g (h .0) (h .1)) in omega arith) (classed .normal)
+          (subst (λ (A : pair.Aligned). Admits F (j .mode) s (unitAt e) A (j .c)) (class-aligned like s e m g n hs fm fn classed under) a)
 
       w : Moved F (j .mode) like s (unitAt e) (k .x)
       w =
-          moved F (j .mode) like s (unitAt e) hs (classed .wide) (k .x) (made-most f A′ (k .x) (k .made)) (reach (ℕ-discrete (k .x) 0))
+          sum-moved like s e m g n hs fm fn classed under (k .x) (k .made)
           (⊎-elim (λ l. inl (omega (arith, some))) (λ never. inr (λ is. past-never F (j .c) never (direction (j .mode) s) s (omega (arith, classed .wide)) (subst (λ (v : ℕ). Meets v (j .c)) is (k .holds)))) (classed .within))
 
       formed : WellFormed (F .w) (onlyField F (w .field))
@@ -114,7 +131,7 @@ module _ (j : Job) (valid : Valid j) where
 
       own : Meets (w .sign) (signMask F (j .c)) × Meets (fieldAt f (unitAt e) (w .field)) (exponentMask F (j .c)) × Meets (w .fraction) (fractionMask F (j .c))
       own =
-          own-meets F (j .c) (onlyField F (w .field)) (valid .c) formed (w .sign) (fieldAt f (unitAt e) (w .field)) (w .fraction) (w .sign-lt) (w .within) (w .fraction-lt)
+          own-meets F (j .c) (onlyField F (w .field)) (valid .c) formed (w .sign) (fieldAt f (unitAt e) (w .field)) (w .fraction) (w .sign-lt) (w .within) (w .fraction-lt) .0
           (subst (λ (v : ℕ). Meets v (j .c)) (w .here) (k .holds))
 
       small : w .field < 2 ^ F .w
@@ -148,20 +165,13 @@ module _ (j : Job) (valid : Valid j) where
         → Reached j E r (λ (i : Mask). Posed (asking j i) (aField f (classOf f ea eb)) (bField f (classOf f ea eb)) sa sb)
     posing E r p = record { field = p .field; most = p .most; least = p .least; meets = p .meets; holds = record { a-sign = P .a-sign; b-sign = P .b-sign; sums = p .holds } }
 
-    low-same : (E : ℕ) → f + 4 ≤ E → lowField f E E ≡ f + 4
-    low-same zero l = omega arith
-    low-same (suc E) l = omega arith
-
     -- a's exponent field is not the smaller one
     module _ (l : eb ≤ ea) where
-      class-is : classOf f ea eb ≡ lowField f ea eb
-      class-is = rw (le-leb eb ea l)
-
       a-is : f + 4 ≡ aField f (classOf f ea eb)
-      a-is = rw (class-is, le-leb (lowField f ea eb) (f + 4) (low-le f ea eb l))
+      a-is = fields-a f ea eb l .0
 
       b-is : lowField f ea eb ≡ bField f (classOf f ea eb)
-      b-is = rw (class-is, le-leb (lowField f ea eb) (f + 4) (low-le f ea eb l))
+      b-is = fields-a f ea eb l .1
 
       pub a-larger : Classed (j .format) (j .c) ea eb → Reached j ea (lowField f ea eb) (λ (i : Mask). Posed (asking j i) (aField f (classOf f ea eb)) (bField f (classOf f ea eb)) sa sb)
       a-larger classed = posing ea (lowField f ea eb) (⊎-elim first second (P .sums))
@@ -182,7 +192,7 @@ module _ (j : Job) (valid : Valid j) where
                   let same : eb ≡ ea = omega (arith, p .0) in
                   let q = subst (λ (e : ℕ). Larger j (eqb t sa) t e (fractionMask (j .format) (j .b)) ea (fractionMask (j .format) (j .a))) same p in
                   let r = larger-moved (eqb t sa) t ea (fractionMask (j .format) (j .b)) ea (fractionMask (j .format) (j .a)) (mod-lt (sb + j .operation) (omega arith)) mb ma (record { wide = classed .wide; normal = inl h; within = classed .within }) q in
-                  let top = low-same ea h in
+                  let top = low-same f ea h in
                   let b-top : f + 4 ≡ bField f (classOf f ea eb) = sym top ∙ ap (lowField f ea) (sym same) ∙ b-is in
                   let a-top : lowField f ea ea ≡ aField f (classOf f ea eb) = top ∙ a-is in
                   record {
@@ -195,17 +205,11 @@ module _ (j : Job) (valid : Valid j) where
 
     -- b's is the larger one
     module _ (l : ea < eb) where
-      class-then : classOf f ea eb ≡ f + 5 + lowField f eb ea
-      class-then = rw (lt-leb eb ea l)
-
-      above : leb (f + 5 + lowField f eb ea) (f + 4) ≡ false
-      above = lt-leb (f + 5 + lowField f eb ea) (f + 4) (omega arith)
-
       b-then : f + 4 ≡ bField f (classOf f ea eb)
-      b-then = rw (class-then, above)
+      b-then = fields-b f ea eb l .0
 
       a-then : lowField f eb ea ≡ aField f (classOf f ea eb)
-      a-then = rw (class-then, above) (omega arith)
+      a-then = fields-b f ea eb l .1
 
       pub b-larger : Classed (j .format) (j .c) eb ea → Reached j eb (lowField f eb ea) (λ (i : Mask). Posed (asking j i) (aField f (classOf f ea eb)) (bField f (classOf f ea eb)) sa sb)
       b-larger classed = posing eb (lowField f eb ea) (⊎-elim (λ p. absurd (⊎-elim (λ h. omega (arith, p .0)) (λ h. omega (arith, p .0)) (classed .normal))) second (P .sums))

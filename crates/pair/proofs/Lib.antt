@@ -11,3 +11,4 @@ pub mod Aligning
 pub mod ClassMasks
 pub mod Classes
 pub mod LikeSigns
+pub mod ClassBack
