@@ -4,7 +4,7 @@ use std::hint::black_box;
 use std::time::{Duration, Instant};
 
 /// How often each job is run; the least time counts.
-pub const RUNS: u32 = 3;
+pub const RUNS: u32 = 7;
 
 /// The least time of a few runs of a call, whose reply is kept from being optimised away.
 pub fn least<R>(call: impl Fn() -> R) -> Duration {
