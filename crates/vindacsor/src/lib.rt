@@ -22,6 +22,7 @@ use records::First;
 use records::read;
 use whole::Masks;
 use whole::Words;
+ghost use mathlib.Core.Path.{_≡_};
 ghost use Rattle.mask.specs.Join.{join};
 ghost use Rattle.adder.specs.Result.{resultReply};
 ghost use Rattle.adder.specs.Row.{rowReply};
@@ -30,6 +31,13 @@ ghost use Rattle.records.specs.Record.{firstIn};
 ghost use Rattle.vindacsor.specs.Answer.{Handed};
 ghost use Rattle.vindacsor.specs.Replies.{formatOf, maskOf, masksOf, wordsOf, wholeJob, ofResult, ofRow, ofJoined, ofFirst, ofConfirmed, confirmation, ofCase, EntryGenerated, Generated, WholeGenerated};
 ghost use Rattle.generator.specs.declared.Reply.the-variants.{Found};
+
+// The mask of two numbers.
+fn mask_of(care: u64, value: u64) -> Mask
+    ensures { λ r. ⌜ r ≡ maskOf care value ⌝ }
+{
+    Mask { care, value }
+}
 
 // The rounded result: c.
 #[no_mangle]
@@ -194,22 +202,10 @@ pub extern "C" fn vindacsor_whole(
         (wholeJob length (masksOf (maskOf «x_care» «x_value») (maskOf «y_care» «y_value») (maskOf «z_care» «z_value») (maskOf «carries_care» «carries_value»)) (wordsOf r1 r2 r3))
         (now (out .entry)) (now (out .exit)) r ⌝ }
 {
-    let x = Mask {
-        care: x_care,
-        value: x_value,
-    };
-    let y = Mask {
-        care: y_care,
-        value: y_value,
-    };
-    let z = Mask {
-        care: z_care,
-        value: z_value,
-    };
-    let carries = Mask {
-        care: carries_care,
-        value: carries_value,
-    };
+    let x = mask_of(x_care, x_value);
+    let y = mask_of(y_care, y_value);
+    let z = mask_of(z_care, z_value);
+    let carries = mask_of(carries_care, carries_value);
     let masks = Masks { x, y, z, carries };
     let words = Words {
         x: r1,

@@ -1,0 +1,52 @@
+-- `vindacsor::vindacsor_whole` meets its contract: the job is made of the numbers passed. Assumes nothing.
+use mathlib.Core.Path.{_≡_, subst}
+use denote.Ref.{now}
+use Rattle.whole.specs.declared.Masks.{Masks}
+use Rattle.vindacsor.specs.Replies.{maskOf, masksOf, wordsOf, wholeJob, WholeGenerated}
+use borrow.Author.Needs.{needs}
+use Rattle.vindacsor.proofs.vindacsor_whole.Statement.{statement}
+use Rattle.vindacsor.proofs.vindacsor_whole.Tie as tie
+
+mask-of-requires : tie.Need-mask-of-requires
+mask-of-requires c κs = search needs
+
+mask-of-requires-2 : tie.Need-mask-of-requires-2
+mask-of-requires-2 c κs = search needs
+
+mask-of-requires-3 : tie.Need-mask-of-requires-3
+mask-of-requires-3 c κs = search needs
+
+mask-of-requires-4 : tie.Need-mask-of-requires-4
+mask-of-requires-4 c κs = search needs
+
+generate-whole-requires : tie.Need-generate-whole-requires
+generate-whole-requires c κs = search needs
+
+same-length : tie.Need-same-length
+same-length c = search needs
+
+returns : tie.Need-returns
+returns c =
+    let g = c .before .before in
+    let four = g .before .before in
+    let three = four .before in
+    let two = three .before in
+    let one = two .before in
+    let a = one .before .before .args in
+    let masks : masksOf (one .mask-of .result) (two .mask-of2 .result) (three .mask-of3 .result) (four .mask-of4 .result)
+    ≡ masksOf (maskOf (a .x-care) (a .x-value)) (maskOf (a .y-care) (a .y-value)) (maskOf (a .z-care) (a .z-value)) (maskOf (a .carries-care) (a .carries-value)) =
+    λ i. masksOf (one .mask-of .ensures i) (two .mask-of2 .ensures i) (three .mask-of3 .ensures i) (four .mask-of4 .ensures i) in
+    subst (λ (m : Masks). WholeGenerated (wholeJob (a .length) m (wordsOf (a .r1) (a .r2) (a .r3))) (now (a .out)) (g .generate-whole .last .1 .0) (g .generate-whole .result)) masks
+    (g .generate-whole .ensures)
+
+pub vindacsor-whole-spec : {M : Type 1} → statement M
+vindacsor-whole-spec =
+    tie.close
+    (tie.spec
+    mask-of-requires
+    mask-of-requires-2
+    mask-of-requires-3
+    mask-of-requires-4
+    generate-whole-requires
+    same-length
+    returns)
