@@ -1,16 +1,19 @@
 -- The two operands alike: what a case and its job say of the operand of a role. Assumes nothing.
-use mathlib.Core.Path.{_≡_, refl, subst}
+use mathlib.Core.Path.{_≡_, refl, sym, subst}
 use Prim.Native.Nat.{ℕ, _^_, _<_}
+use Rattle.format.specs.declared.Format.{Format}
 use Rattle.format.specs.Format.{wordBits}
 use Rattle.mask.specs.declared.Mask.{Mask}
 use Rattle.mask.specs.Mask.{WellFormed, Meets}
+use Rattle.fixing.proofs.Walk.{Replaced}
 use Rattle.job.specs.declared.Job.{Job}
 use Rattle.job.specs.Job.{Valid}
+use Rattle.adder.specs.Word.{biased}
 use Rattle.fit.specs.Fit.{Fits}
-use Rattle.pair.specs.Asked.{PairFits}
 use Rattle.search.specs.declared.Role.{Role}
 use Rattle.search.specs.declared.Role.the-variants.{A, B}
 use Rattle.search.specs.Role.{operand, maskOf, withMask}
+use Rattle.search.specs.Walk.{NoneBelow, Case, CaseFits, operandOf}
 
 pub mask-with : (role : Role) (j : Job) (m : Mask) → maskOf role (withMask role j m) ≡ m
 mask-with A j m = refl
@@ -40,13 +43,13 @@ module _ (j : Job) where
     fits-own A f = f .a-meets
     fits-own B f = f .b-meets
 
-    pub fits-with : (role : Role) (m : Mask) → Fits j a b c → Meets (operand role a b) m → Fits (withMask role j m) a b c
+    fits-with : (role : Role) (m : Mask) → Fits j a b c → Meets (operand role a b) m → Fits (withMask role j m) a b c
     fits-with A m f e =
         record { a-word = f .a-word; b-word = f .b-word; c-word = f .c-word; a-meets = e; b-meets = f .b-meets; c-meets = f .c-meets; sum = f .sum; row = f .row }
     fits-with B m f e =
         record { a-word = f .a-word; b-word = f .b-word; c-word = f .c-word; a-meets = f .a-meets; b-meets = e; c-meets = f .c-meets; sum = f .sum; row = f .row }
 
-    pub fits-mask : (role : Role) (m : Mask) → Fits (withMask role j m) a b c → Meets (operand role a b) m
+    fits-mask : (role : Role) (m : Mask) → Fits (withMask role j m) a b c → Meets (operand role a b) m
     fits-mask A m f = f .a-meets
     fits-mask B m f = f .b-meets
 
@@ -55,13 +58,26 @@ with-back : (role : Role) (j : Job) (m : Mask) → withMask role (withMask role 
 with-back A j m = refl
 with-back B j m = refl
 
-pub fits-back : (j : Job) (a b c : ℕ) (role : Role) (m : Mask) → Fits (withMask role j m) a b c → Meets (operand role a b) (maskOf role j) → Fits j a b c
+fits-back : (j : Job) (a b c : ℕ) (role : Role) (m : Mask) → Fits (withMask role j m) a b c → Meets (operand role a b) (maskOf role j) → Fits j a b c
 fits-back j a b c role m f e =
     subst (λ (t : Job). Fits t a b c) (with-back role j m) (fits-with (withMask role j m) a b c role (maskOf role j) f e)
 
--- a pair that admits a case of the job with the mask replaced, where each such case fits the job
-pub pair-back : (j : Job) (role : Role) (m : Mask) → ((a b c : ℕ) → Fits (withMask role j m) a b c → Fits j a b c) → (d e : ℕ) → PairFits (withMask role j m) d e → PairFits j d e
-pair-back j A m back d e p =
-    record { a = p .a; b = p .b; c = p .c; fits = back (p .a) (p .b) (p .c) (p .fits); a-exponent = p .a-exponent; b-exponent = p .b-exponent }
-pair-back j B m back d e p =
-    record { a = p .a; b = p .b; c = p .c; fits = back (p .a) (p .b) (p .c) (p .fits); a-exponent = p .a-exponent; b-exponent = p .b-exponent }
+-- the cases that fit the job with that one replaced
+pub fits-replaced : (j : Job) (role : Role) (m : Mask) (t : Job) → t ≡ withMask role j m
+    → Replaced Case (operandOf role) (CaseFits j) (maskOf role j) m (CaseFits t)
+fits-replaced j role m t is = subst (λ (u : Job). Replaced Case (operandOf role) (CaseFits j) (maskOf role j) m (CaseFits u)) (sym is) (record {
+  to = λ p. fits-with j (p .0) (p .1) (p .2) role m;
+  meets = λ p. fits-mask j (p .0) (p .1) (p .2) role m;
+  back = λ p. fits-back j (p .0) (p .1) (p .2) role m;
+})
+
+-- where each case of t fits j, no case of t has a row that none of j has
+pub none-back : (j t : Job) (n : ℕ) → t .format ≡ j .format → ((p : Case) → CaseFits t p → CaseFits j p) → NoneBelow j n → NoneBelow t n
+none-back j t n same back none d e h p = none d e h (record {
+  a = p .a;
+  b = p .b;
+  c = p .c;
+  fits = back (p .a, p .b, p .c) (p .fits);
+  a-exponent = subst (λ (F : Format). biased F (p .a) .0 ≡ d) same (p .a-exponent);
+  b-exponent = subst (λ (F : Format). biased F (p .b) .0 ≡ e) same (p .b-exponent);
+})

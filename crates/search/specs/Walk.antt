@@ -1,12 +1,9 @@
 -- What the bit walk asks and promises (document 01, "each bit of a, from the top, follows the first random word": recursion over the bits
 -- still open). Nothing here is needed to read the choice. Assumes nothing.
 use mathlib.Core.Path.{_≡_}
-use mathlib.Core.Logic.{_↔_}
 use Prim.Native.Nat.{ℕ, _^_, _≤_, _<_}
-use Rattle.bits.specs.Bit.{bit}
-use Rattle.format.specs.declared.Format.{Format}
 use Rattle.format.specs.Format.{wordBits}
-use Rattle.columns.specs.Choice.{Closest}
+use Rattle.fixing.specs.Walk.{FixedFrom, Settles}
 use Rattle.job.specs.declared.Job.{Job}
 use Rattle.fit.specs.Fit.{Fits}
 use Rattle.pair.specs.Asked.{PairFits}
@@ -18,7 +15,7 @@ use Rattle.search.specs.Left.{Left, Ready}
 pub record Open (j : Job) (role : Role) (k : ℕ) : Type 0 where
   pub ready : Ready j
   pub most : k ≤ wordBits (j .format)
-  pub settled : (i : ℕ) → k ≤ i → i < wordBits (j .format) → bit (maskOf role j .care) i ≡ 1
+  pub settled : FixedFrom (wordBits (j .format)) (maskOf role j) k
 
 -- no pair of exponent fields of which a's is below n admits a case
 abbrev pub NoneBelow : Job → ℕ → Type 0
@@ -34,17 +31,18 @@ pub record Started (j : Job) (role : Role) (k n : ℕ) : Type 0 where
   pub top : Open j role k
   pub none : NoneBelow j n
 
--- v is the operand of a fitting case
-pub record Has (j : Job) (role : Role) (v : ℕ) : Type 0 where
-  pub a : ℕ
-  pub b : ℕ
-  pub c : ℕ
-  pub fits : Fits j a b c
-  pub is : operand role a b ≡ v
+-- the three words of a case as one, which fit, and of which an operand is settled
+abbrev pub Case : Type 0
+Case = ℕ × ℕ × ℕ
+
+abbrev pub CaseFits : Job → Case → Type 0
+CaseFits j p = Fits j (p .0) (p .1) (p .2)
+
+abbrev pub operandOf : Role → Case → ℕ
+operandOf role p = operand role (p .0) (p .1)
 
 -- t is j with the operand settled to its closest value
 pub record Settled (j : Job) (role : Role) (word : ℕ) (t : Job) : Type 0 where
   pub ready : Ready t
   pub format : t .format ≡ j .format
-  pub closest : Closest (Has j role) word (maskOf role t .value)
-  pub same : (a b c : ℕ) → Fits t a b c ↔ (Fits j a b c × (operand role a b ≡ maskOf role t .value))
+  pub settles : Settles Case (operandOf role) (CaseFits j) word (CaseFits t) (maskOf role t .value)

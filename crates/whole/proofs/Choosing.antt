@@ -13,6 +13,7 @@ use Rattle.columns.specs.Carry.{carry}
 use Rattle.columns.specs.Choice.{Closest, Farther}
 use Rattle.columns.proofs.Carry.{carries-bit, carries-lt}
 use Rattle.columns.proofs.Closest.{farther}
+use Rattle.fixing.specs.Walk.{Has}
 use Rattle.whole.specs.declared.Masks.{Masks}
 use Rattle.whole.specs.declared.Words.{Words}
 use Rattle.whole.specs.declared.Case.{Case}
@@ -21,7 +22,7 @@ use Rattle.whole.specs.declared.Role.the-variants.{X, Y, Z}
 use Rattle.whole.specs.Role.{number}
 use Rattle.whole.specs.Fits.{Adds, Fits}
 use Rattle.whole.specs.Choice.{Chosen}
-use Rattle.whole.specs.Walk.{Has, Settled, caseOf}
+use Rattle.whole.specs.Walk.{Settled, caseOf}
 
 -- ---- the numbers of a case tell the rest
 
@@ -60,7 +61,7 @@ same-case n c d least added-c added-d ex ey ez =
 -- ---- three walks
 
 -- the closest number of a role, of a fitting case
-nearest : (n : ℕ) (s : Masks) (role : Role) (word v : ℕ) → Closest (Has n s role) word v → (d : Case) → Fits n s d
+nearest : (n : ℕ) (s : Masks) (role : Role) (word v : ℕ) → Closest (Has Case (number role) (Fits n s)) word v → (d : Case) → Fits n s d
     → (number role d ≡ v) ⊎ (bitXor v word < bitXor (number role d) word)
 nearest n s role word v q d f = q .least (number role d) (record { case = d; fits = f; is = refl })
 
@@ -76,13 +77,13 @@ module _ (n : ℕ) (s : Masks) (w : Words) (least : 1 ≤ n) (sx sy sz : Masks) 
 
   last-z : Fits n sy last × (last .z ≡ sz .z .value)
   unfolding last
-  last-z = qz .same last .0 (qz .ready .left .fits)
+  last-z = qz .settles .same last .0 (qz .ready .left .fits)
 
   last-y : Fits n sx last × (last .y ≡ sy .y .value)
-  last-y = qy .same last .0 (last-z .0)
+  last-y = qy .settles .same last .0 (last-z .0)
 
   last-x : Fits n s last × (last .x ≡ sx .x .value)
-  last-x = qx .same last .0 (last-y .0)
+  last-x = qx .settles .same last .0 (last-y .0)
 
   is-last : chosen ≡ last
   is-last =
@@ -101,11 +102,11 @@ module _ (n : ℕ) (s : Masks) (w : Words) (least : 1 ≤ n) (sx sy sz : Masks) 
       later : (d : Case) → Fits n s d
           → Farther (w .x) (sx .x .value) (d .x) (Farther (w .y) (sy .y .value) (d .y) (Farther (w .z) (sz .z .value) (d .z) (d ≡ chosen)))
       later d f =
-          farther (w .x) (sx .x .value) (d .x) (nearest n s X (w .x) (sx .x .value) (qx .closest) d f)
+          farther (w .x) (sx .x .value) (d .x) (nearest n s X (w .x) (sx .x .value) (qx .settles .closest) d f)
           (λ ex.
-          let g = qx .same d .1 (f, ex) in
-          farther (w .y) (sy .y .value) (d .y) (nearest n sx Y (w .y) (sy .y .value) (qy .closest) d g)
+          let g = qx .settles .same d .1 (f, ex) in
+          farther (w .y) (sy .y .value) (d .y) (nearest n sx Y (w .y) (sy .y .value) (qy .settles .closest) d g)
           (λ ey.
-          let h = qy .same d .1 (g, ey) in
-          farther (w .z) (sz .z .value) (d .z) (nearest n sy Z (w .z) (sz .z .value) (qz .closest) d h)
+          let h = qy .settles .same d .1 (g, ey) in
+          farther (w .z) (sz .z .value) (d .z) (nearest n sy Z (w .z) (sz .z .value) (qz .settles .closest) d h)
           (λ ez. same-case n chosen d least (chosen-fits .adds) (f .adds) ex ey ez)))

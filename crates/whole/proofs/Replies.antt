@@ -7,6 +7,7 @@ use native.Mathlib.Omega.{arith}
 use lib.Bits.{bitXor}
 use Rattle.format.specs.Cause as cause
 use Rattle.columns.proofs.Closest.{farther, farther-both, closest-self}
+use Rattle.fixing.specs.Walk.{Has}
 use Rattle.whole.specs.declared.Masks.{Masks}
 use Rattle.whole.specs.declared.Words.{Words}
 use Rattle.whole.specs.declared.Job.{Job}
@@ -20,7 +21,6 @@ use Rattle.whole.specs.Job.{jobCause}
 use Rattle.whole.specs.Fits.{Fits, Left}
 use Rattle.whole.specs.Choice.{Chosen}
 use Rattle.whole.specs.Reply.{Replied}
-use Rattle.whole.specs.Walk.{Has}
 use Rattle.whole.proofs.Choosing.{same-case}
 use Rattle.whole.proofs.Taken.{job-none}
 
@@ -46,7 +46,7 @@ chosen-own n s c least f = record {
     near : (role : Role) (d : Case) → Fits n s d
         → (number role d ≡ number role c) ⊎ (bitXor (number role c) (number role c) < bitXor (number role d) (number role c))
     near role d g =
-        closest-self (Has n s role) (number role c) (record { case = c; fits = f; is = refl }) .least (number role d)
+        closest-self (Has Case (number role) (Fits n s)) (number role c) (record { case = c; fits = f; is = refl }) .least (number role d)
         (record { case = d; fits = g; is = refl })
 
 -- ---- the reply

@@ -1,8 +1,9 @@
 -- The three numbers alike: what a case and its masks say of the number of a role. Assumes nothing.
-use mathlib.Core.Path.{_≡_, refl, subst}
+use mathlib.Core.Path.{_≡_, refl, sym, subst}
 use Prim.Native.Nat.{ℕ, _^_, _<_}
 use Rattle.mask.specs.declared.Mask.{Mask}
 use Rattle.mask.specs.Mask.{WellFormed, Meets}
+use Rattle.fixing.proofs.Walk.{Replaced}
 use Rattle.whole.specs.declared.Masks.{Masks}
 use Rattle.whole.specs.declared.Case.{Case}
 use Rattle.whole.specs.declared.Role.{Role}
@@ -38,12 +39,12 @@ module _ (n : ℕ) (s : Masks) where
     fits-own Y f = f .y-meets
     fits-own Z f = f .z-meets
 
-    pub fits-with : (role : Role) (m : Mask) → Fits n s c → Meets (number role c) m → Fits n (withMask role s m) c
+    fits-with : (role : Role) (m : Mask) → Fits n s c → Meets (number role c) m → Fits n (withMask role s m) c
     fits-with X m f e = record { adds = f .adds; x-meets = e; y-meets = f .y-meets; z-meets = f .z-meets; carries-meets = f .carries-meets }
     fits-with Y m f e = record { adds = f .adds; x-meets = f .x-meets; y-meets = e; z-meets = f .z-meets; carries-meets = f .carries-meets }
     fits-with Z m f e = record { adds = f .adds; x-meets = f .x-meets; y-meets = f .y-meets; z-meets = e; carries-meets = f .carries-meets }
 
-    pub fits-mask : (role : Role) (m : Mask) → Fits n (withMask role s m) c → Meets (number role c) m
+    fits-mask : (role : Role) (m : Mask) → Fits n (withMask role s m) c → Meets (number role c) m
     fits-mask X m f = f .x-meets
     fits-mask Y m f = f .y-meets
     fits-mask Z m f = f .z-meets
@@ -54,6 +55,14 @@ with-back X s m = refl
 with-back Y s m = refl
 with-back Z s m = refl
 
-pub fits-back : (n : ℕ) (s : Masks) (c : Case) (role : Role) (m : Mask) → Fits n (withMask role s m) c → Meets (number role c) (maskOf role s) → Fits n s c
+fits-back : (n : ℕ) (s : Masks) (c : Case) (role : Role) (m : Mask) → Fits n (withMask role s m) c → Meets (number role c) (maskOf role s) → Fits n s c
 fits-back n s c role m f e =
     subst (λ (t : Masks). Fits n t c) (with-back role s m) (fits-with n (withMask role s m) c role (maskOf role s) f e)
+
+-- the cases that fit the masks with that one replaced
+pub fits-replaced : (n : ℕ) (s : Masks) (role : Role) (m : Mask) (t : Masks) → t ≡ withMask role s m → Replaced Case (number role) (Fits n s) (maskOf role s) m (Fits n t)
+fits-replaced n s role m t is = subst (λ (u : Masks). Replaced Case (number role) (Fits n s) (maskOf role s) m (Fits n u)) (sym is) (record {
+  to = λ c. fits-with n s c role m;
+  meets = λ c. fits-mask n s c role m;
+  back = λ c. fits-back n s c role m;
+})

@@ -1,7 +1,7 @@
 -- The proof of the cycle of calls {settle}. The measure is the number of open bits. With none open the job is settled; else the bit below
--- them is passed over where it is fixed, or tried, and what the call below settles is settled here, by `settled-step`. Assumes nothing.
-use mathlib.Core.Path.{sym, _∙_, subst}
-use mathlib.Core.Bool.{false≢true}
+-- them is passed over where it is fixed, or tried, and what the call below settles is settled here, by `tried-settled`
+-- and `other-settled`. Assumes nothing.
+use mathlib.Core.Path.{subst}
 use borrow.Author.Tests.{not-true}
 use borrow.Author.Needs.{needs}
 use native.Mathlib.Omega.{arith}

@@ -1,5 +1,5 @@
 -- The proof of the cycle of calls {settle}. The measure is the number of open bits. With none open the masks are settled; else the bit below
--- them is tried, and what the call below settles is settled here, by `settled-step`. Assumes nothing.
+-- them is tried, and what the call below settles is settled here, by `tried-settled` and `other-settled`. Assumes nothing.
 use mathlib.Core.Path.{sym, _∙_, subst}
 use mathlib.Core.Bool.{false≢true}
 use Prim.Native.Nat.{ℕ, _-_, _<_}
