@@ -39,16 +39,17 @@ fixed-below n m b top one i l h = go (ℕ-discrete (b - 1) i)
     go (yes e) = subst (λ (u : ℕ). bit (m .care) u ≡ 1) e one
     go (no ne) = top i (omega arith) h
 
-module _ {C : Type 0} {number : C → ℕ} {n : ℕ} {m : Mask} {P : C → Type 0} {b : ℕ} (o : Walked C number n m P b) where
-  has-lt : (v : ℕ) → Has C number P v → v < 2 ^ n
-  has-lt v p = subst (λ (u : ℕ). u < 2 ^ n) (p .is) (o .small (p .case) (p .fits))
+-- what holds of the number of each case that is left holds of v
+has-all : {C : Type 0} {number : C → ℕ} {P : C → Type 0} (A : ℕ → Type 0) → ((c : C) → P c → A (number c)) → (v : ℕ) → Has C number P v → A v
+has-all A all v p = subst A (p .is) (all (p .case) (p .fits))
 
+module _ {C : Type 0} {number : C → ℕ} {n : ℕ} {m : Mask} {P : C → Type 0} {b : ℕ} (o : Walked C number n m P b) where
   has-meets : (v : ℕ) → Has C number P v → Meets v m
-  has-meets v p = subst (λ (u : ℕ). Meets u m) (p .is) (o .meets (p .case) (p .fits))
+  has-meets = has-all (λ u. Meets u m) (o .meets)
 
   -- the numbers that are left agree from the lowest fixed bit of the top up
   agree : AgreeFrom (Has C number P) b
-  agree = agree-from (Has C number P) n b has-lt (λ x y i px py l h. agrees x px i l h ∙ sym (agrees y py i l h))
+  agree = agree-from (Has C number P) n b (has-all (λ u. u < 2 ^ n) (o .small)) (λ x y i px py l h. agrees x px i l h ∙ sym (agrees y py i l h))
     where
       agrees : (v : ℕ) → Has C number P v → (i : ℕ) → b ≤ i → i < n → bit v i ≡ bit (m .value) i
       agrees v p i l h = meets-bits v m (o .formed .inside) .0 (has-meets v p) i (o .top i l h)
@@ -64,7 +65,7 @@ module _ {C : Type 0} {number : C → ℕ} {n : ℕ} {m : Mask} {P : C → Type 
       full : (d : C) → P d → number d ≡ m .value
       full d g = meets-full n (number d) m (o .formed) (λ i h. o .top i (omega arith) h) (o .small d g) .0 (o .meets d g)
 
-  -- ---- the bit below the b - 1 lowest is the highest open one
+  -- ---- bit b - 1 is the highest open one
 
   module _ (h : b ≡ 0 → ⊥) where
     k-lt : b - 1 < 64
@@ -86,14 +87,14 @@ module _ {C : Type 0} {number : C → ℕ} {n : ℕ} {m : Mask} {P : C → Type 
         pub walk-back : (c : C) → Q c → P c
         walk-back c f = r .back c f (met .same (number c) .0 (r .meets c f) .0)
 
+        next-meets : (y : ℕ) → Has C number Q y → Meets y (fix m (b - 1) v)
+        next-meets = has-all (λ u. Meets u (fix m (b - 1) v)) (r .meets)
+
         walk-narrows : Narrowed (Has C number P) (Has C number Q) (b - 1) v
         walk-narrows = record { is = met .is; same = λ y. (to y, from y); why = why (met .why) }
           where
             to : (y : ℕ) → Has C number Q y → Has C number P y × (bit y (b - 1) ≡ met .is)
-            to y p = (
-              record { case = p .case; fits = walk-back (p .case) (p .fits); is = p .is },
-              met .same y .0 (subst (λ (u : ℕ). Meets u (fix m (b - 1) v)) (p .is) (r .meets (p .case) (p .fits))) .1,
-            )
+            to y p = (record { case = p .case; fits = walk-back (p .case) (p .fits); is = p .is }, met .same y .0 (next-meets y p) .1)
 
             from : (y : ℕ) → Has C number P y × (bit y (b - 1) ≡ met .is) → Has C number Q y
             from y p =
@@ -111,12 +112,11 @@ module _ {C : Type 0} {number : C → ℕ} {n : ℕ} {m : Mask} {P : C → Type 
             → Settles C number Q word T w → Settles C number P word T w
         walk-step word {w = w} asked q =
             let up : b ≡ suc (b - 1) = omega arith in
-            let at = q .closest .member in
             record {
               closest = narrowed-closest (Has C number P) (Has C number Q) (b - 1) v walk-narrows (subst (AgreeFrom (Has C number P)) up agree) word w asked (q .closest);
               same = λ c. (
                 λ f. let e = q .same c .0 f in (walk-back c (e .0), e .1),
-                λ p. q .same c .1 (r .to c (p .0) (subst (λ (u : ℕ). Meets u (fix m (b - 1) v)) (at .is ∙ sym (p .1)) (r .meets (at .case) (at .fits))), p .1),
+                λ p. q .same c .1 (r .to c (p .0) (subst (λ (u : ℕ). Meets u (fix m (b - 1) v)) (sym (p .1)) (next-meets w (q .closest .member))), p .1),
               );
             }
 
