@@ -7,15 +7,15 @@ use native.Mathlib.Omega.{arith}
 use Rattle.format.specs.Cause as cause
 use Rattle.columns.proofs.Pair.{pair-unique, pair-self}
 use Rattle.job.specs.declared.Job.{Job}
-use Rattle.job.specs.Job.{jobCause}
-use Rattle.job.proofs.Laws.{job-none}
+use Rattle.job.specs.Job.{jobCause, requestCause}
+use Rattle.job.proofs.Laws.{job-none, request-none}
 use Rattle.adder.specs.Row.{rowOf}
 use Rattle.fit.specs.Fit.{Fits, Fitting}
 use Rattle.generator.specs.declared.Case.{Case}
 use Rattle.generator.specs.declared.Reply.{Reply}
 use Rattle.generator.specs.declared.Reply.the-variants.{Found, Refused}
-use Rattle.generator.specs.Promise.{requestCause, caseOf, Chosen, Replied}
-use Rattle.generator.proofs.Taken.{request-none, chosen-case}
+use Rattle.generator.specs.Promise.{caseOf, Chosen, Replied}
+use Rattle.generator.proofs.Taken.{chosen-case}
 
 pub chosen-unique : (j : Job) (r1 r2 : ℕ) (x y : Case) → Chosen j r1 r2 x → Chosen j r1 r2 y → x ≡ y
 chosen-unique j r1 r2 x y p q =

@@ -2,29 +2,17 @@
 -- replies"). `Fits` tells a fitting case by sums, and no search stands in it. Assumes nothing.
 use mathlib.Core.Path.{_≡_}
 use mathlib.Core.Logic.{_⊎_}
-use Prim.Native.Nat.{ℕ, _^_, _<_}
+use Prim.Native.Nat.{ℕ, _<_}
 use Rattle.format.specs.Cause as cause
-use Rattle.format.specs.Cause.{first}
-use Rattle.format.specs.Format.{wordBits, wordCause}
 use Rattle.columns.specs.Choice.{ClosestPair}
 use Rattle.job.specs.declared.Job.{Job}
-use Rattle.job.specs.Job.{jobCause, Valid}
+use Rattle.job.specs.Job.{requestCause}
 use Rattle.adder.specs.Result.{result}
 use Rattle.adder.specs.Row.{rowOf}
 use Rattle.fit.specs.Fit.{Fits, Fitting}
 use Rattle.generator.specs.declared.Case.{Case}
 use Rattle.generator.specs.declared.Reply.{Reply}
 use Rattle.generator.specs.declared.Reply.the-variants.{Found, Refused}
-
--- "Order": 1 to 5 against the job, then 6 against the two random words
-unfoldable pub requestCause : Job → ℕ → ℕ → ℕ
-requestCause j r1 r2 = first (jobCause j) (first (wordCause (wordBits (j .format)) r1) (wordCause (wordBits (j .format)) r2))
-
--- none of these stands: the job is valid and the words are words of its format
-pub record Request (j : Job) (r1 r2 : ℕ) : Type 0 where
-  pub valid : Valid j
-  pub first-word : r1 < 2 ^ wordBits (j .format)
-  pub second-word : r2 < 2 ^ wordBits (j .format)
 
 -- the case of two operands: "c follows from a and b", and so does the row
 abbrev pub caseOf : Job → ℕ → ℕ → Case

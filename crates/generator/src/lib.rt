@@ -4,16 +4,15 @@ use adder::RowReply;
 use adder::carry_row::carry_row;
 use adder::result::rounded_result;
 use format::cause;
-use format::first;
-use format::word_cause;
 use job::Job;
-use job::job_cause;
+use job::request_cause;
 use search::Choice;
 use search::choose;
 ghost use mathlib.Core.Path.{_≡_};
+ghost use Rattle.job.specs.Job.{Request};
 ghost use Rattle.adder.specs.Result.{result};
 ghost use Rattle.adder.specs.Row.{rowOf};
-ghost use Rattle.generator.specs.Promise.{Request, requestCause, caseOf, Replied};
+ghost use Rattle.generator.specs.Promise.{caseOf, Replied};
 
 // Operands, their rounded result and their carry row.
 pub struct Case {
@@ -27,18 +26,6 @@ pub struct Case {
 pub enum Reply {
     Found(Case),
     Refused(u64),
-}
-
-// The first of the causes 1 to 5 against the job, or 6 where a word is too wide; else 0.
-pub fn request_cause(job: Job, r1: u64, r2: u64) -> u64
-    ensures { λ r. ⌜ r ≡ requestCause job r1 r2 ⌝ }
-{
-    let found = job_cause(job);
-    if found != 0 {
-        return found;
-    }
-    let width = job.format.w + job.format.f + 1;
-    first(word_cause(width, r1), word_cause(width, r2))
 }
 
 // The rounded result of a and b.

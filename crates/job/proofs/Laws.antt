@@ -1,14 +1,14 @@
--- What it means that no cause stands against a job. Assumes nothing.
+-- What it means that no cause stands against a job, and against a job and two random words. Assumes nothing.
 use mathlib.Core.Path.{_≡_}
 use mathlib.Core.Logic.{_↔_}
 use Prim.Native.Nat.{ℕ}
 use Rattle.format.specs.Cause.{first}
-use Rattle.format.specs.Format.{wordBits, precision}
-use Rattle.format.proofs.Laws.{first-none, format-none, operation-none, mode-none}
+use Rattle.format.specs.Format.{wordBits, precision, wordCause}
+use Rattle.format.proofs.Laws.{first-none, format-none, operation-none, mode-none, word-none}
 use Rattle.mask.specs.Mask.{WellFormed}
 use Rattle.mask.proofs.Checks.{mask-none}
 use Rattle.job.specs.declared.Job.{Job}
-use Rattle.job.specs.Job.{masksCause, jobCause, Valid}
+use Rattle.job.specs.Job.{masksCause, jobCause, Valid, requestCause, Request}
 
 -- two causes, each with what it means that it does not stand
 both-none : {P Q : Type 0} (m n : ℕ) → (m ≡ 0) ↔ P → (n ≡ 0) ↔ Q → (first m n ≡ 0) ↔ (P × Q)
@@ -37,4 +37,17 @@ job-none j =
           let m = v .1 .1 .1 in
           record { format = v .0; operation = v .1 .0; mode = v .1 .1 .0; a = m .0; b = m .1 .0; c = m .1 .1 .0; carries = m .1 .1 .1 }),
       λ v. law .1 (v .format, (v .operation, (v .mode, (v .a, (v .b, (v .c, v .carries)))))),
+    )
+
+pub request-none : (j : Job) (r1 r2 : ℕ) → (requestCause j r1 r2 ≡ 0) ↔ Request j r1 r2
+unfolding requestCause
+request-none j r1 r2 =
+    let width = wordBits (j .format) in
+    let all = first-none (jobCause j) (first (wordCause width r1) (wordCause width r2)) in
+    let both = first-none (wordCause width r1) (wordCause width r2) in (
+      λ e.
+          let p = all .0 e in
+          let q = both .0 (p .1) in
+          record { valid = job-none j .0 (p .0); first-word = word-none width r1 .0 (q .0); second-word = word-none width r2 .0 (q .1) },
+      λ h. all .1 (job-none j .1 (h .valid), both .1 (word-none width r1 .1 (h .first-word), word-none width r2 .1 (h .second-word))),
     )

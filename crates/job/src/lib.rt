@@ -4,11 +4,12 @@ use format::first;
 use format::format_cause;
 use format::mode_cause;
 use format::operation_cause;
+use format::word_cause;
 use mask::Mask;
 use mask::mask_cause;
 ghost use mathlib.Core.Path.{_≡_};
 ghost use Rattle.format.specs.Format.{Supported};
-ghost use Rattle.job.specs.Job.{jobCause, masksCause};
+ghost use Rattle.job.specs.Job.{jobCause, masksCause, requestCause};
 
 // A format, an operation, a rounding mode, and the masks of the operands a and b, the result c and the carry row.
 pub struct Job {
@@ -48,4 +49,16 @@ pub fn job_cause(job: Job) -> u64
         return first(operation, first(mode, masks_cause(job)));
     }
     format
+}
+
+// The first of the causes 1 to 5 against the job, or 6 where a word is too wide; else 0.
+pub fn request_cause(job: Job, r1: u64, r2: u64) -> u64
+    ensures { λ r. ⌜ r ≡ requestCause job r1 r2 ⌝ }
+{
+    let found = job_cause(job);
+    if found != 0 {
+        return found;
+    }
+    let width = job.format.w + job.format.f + 1;
+    first(word_cause(width, r1), word_cause(width, r2))
 }

@@ -11,6 +11,7 @@ use lib.ListN.{length, getD, drop, length-drop}
 use lib.Seq.{drop-drop}
 use Rattle.format.specs.Cause as cause
 use Rattle.job.specs.declared.Job.{Job}
+use Rattle.job.specs.Job.{requestCause}
 use Rattle.records.specs.Record.{firstIn, recordCause, recordLength}
 use Rattle.records.specs.File.{fileBytes, Reads, end as no-byte, next as record-first, Writable}
 use Rattle.records.specs.declared.Entry.{Entry}
@@ -18,7 +19,7 @@ use Rattle.records.specs.declared.First.{First}
 use Rattle.records.specs.declared.First.the-variants as found
 use Rattle.records.proofs.Causes.{first-job, first-none-left}
 use Rattle.records.proofs.Files.{file-read}
-use Rattle.generator.specs.Promise.{requestCause, Replied}
+use Rattle.generator.specs.Promise.{Replied}
 use Rattle.generator.specs.declared.Reply.{Reply}
 use Rattle.generator.specs.declared.Reply.the-variants.{Found, Refused}
 use Rattle.generator.proofs.Replies.{reply-unique}
@@ -126,7 +127,6 @@ stops-none j r1 r2 (Refused k) ok (inl p) = absurd (omega (arith, ok, p .0))
 stops-none j r1 r2 (Refused k) ok (inr p) = ap not (eq-eqb k cause.noCase (p .1))
 
 read-taken : (s : List ℕ) (e : Entry) (n : ℕ) → firstIn s ≡ found.Job e n → requestCause (e .job) (e .r1) (e .r2) ≡ 0
-unfolding requestCause recordCause
 read-taken s e n q = let t = first-job s e n q in ap recordCause (sym (t .entry)) ∙ t .readable .sound
 
 reads-listed : (s u : List ℕ) (at n : ℕ) {es : List Entry} {t : List ℕ} → length s ≤ longest → n ≤ at → at ≤ length s → u ≡ drop at s → Reads u es → Lines n es t

@@ -28,7 +28,7 @@ abbrev pub stops : Reply → Bool
 stops (Found x) = false
 stops (Refused k) = not (eqb k cause.noCase)
 
--- the listing goes on at the place: reading has not stopped
+-- a record is to be read at the place: reading has not stopped, and the count is one that a listing can have
 pub record Open (p : Place) : Type 0 where
   pub reading : p .stopped ≡ false
   pub most : p .lines ≤ longest

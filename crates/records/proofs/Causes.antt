@@ -13,14 +13,14 @@ use lib.Dec.{leb, ltb}
 use lib.Pow.{pow-mono}
 use Rattle.format.specs.Cause as cause
 use Rattle.format.specs.Cause.{unless, first}
-use Rattle.format.specs.Format.{wordBits, precision, Supported, wordCause}
+use Rattle.format.specs.Format.{wordBits, precision, Supported}
 use Rattle.format.specs.declared.Format.{Format}
-use Rattle.format.proofs.Laws.{first-none, unless-none, word-none, first-some}
+use Rattle.format.proofs.Laws.{first-none, unless-none, first-some}
 use Rattle.mask.specs.declared.Mask.{Mask}
 use Rattle.mask.specs.Mask.{WellFormed}
 use Rattle.mask.proofs.ByBits.{value-below}
-use Rattle.job.specs.Job.{jobCause, Valid}
-use Rattle.job.proofs.Laws.{job-none}
+use Rattle.job.specs.Job.{Request}
+use Rattle.job.proofs.Laws.{request-none}
 use Rattle.records.specs.Fields.{mapOf, saysDefault}
 use Rattle.records.specs.Record.{words, shapes, maskNumbers, fields, recordCause, recordBytes, recordLength, fieldsOf, entryIn, readCause, answer, firstIn}
 use Rattle.records.specs.declared.Entry.{Entry}
@@ -30,26 +30,6 @@ use Rattle.records.proofs.OneField.{Fits}
 use Rattle.records.proofs.AllFields as all
 use Rattle.records.proofs.AllFields.{AllFit, body-length}
 use Rattle.records.proofs.Places.{body-most}
-
--- no cause stands against the entry
-pub record Sound (e : Entry) : Type 0 where
-  pub job : Valid (e .job)
-  pub r1 : e .r1 < 2 ^ wordBits (e .job .format)
-  pub r2 : e .r2 < 2 ^ wordBits (e .job .format)
-
-pub record-none : (e : Entry) → (recordCause e ≡ 0) ↔ Sound e
-unfolding recordCause
-record-none e =
-    let width : ℕ = wordBits (e .job .format) in
-    let outer = first-none (jobCause (e .job)) (first (wordCause width (e .r1)) (wordCause width (e .r2))) in
-    let inner = first-none (wordCause width (e .r1)) (wordCause width (e .r2)) in (
-      (λ z. record {
-        job = job-none (e .job) .0 (outer .0 z .0);
-        r1 = word-none width (e .r1) .0 (inner .0 (outer .0 z .1) .0);
-        r2 = word-none width (e .r2) .0 (inner .0 (outer .0 z .1) .1);
-      }),
-      λ v. outer .1 (job-none (e .job) .1 (v .job), inner .1 (word-none width (e .r1) .1 (v .r1), word-none width (e .r2) .1 (v .r2))),
-    )
 
 -- ---- every number fits its field
 
@@ -61,22 +41,22 @@ mask-fits : (F : Format) → Supported F → (width : ℕ) (m : Mask) → width 
 mask-fits F h width m le w =
     field.more (word-fits F h width (m .care) le (w .below)) (field.more (word-fits F h width (m .value) le (value-below width m w)) field.none)
 
-pub entry-fits : (e : Entry) → Sound e → AllFit shapes (fields e)
+pub entry-fits : (e : Entry) → Request (e .job) (e .r1) (e .r2) → AllFit shapes (fields e)
 entry-fits e v =
     let F : Format = e .job .format in
-    let h : Supported F = v .job .format in
+    let h : Supported F = v .valid .format in
     let W : ℕ = wordBits F in
-    all.more (mask-fits F h W (e .job .a) (omega arith) (v .job .a))
-    (all.more (mask-fits F h W (e .job .b) (omega arith) (v .job .b))
-    (all.more (mask-fits F h W (e .job .c) (omega arith) (v .job .c))
-    (all.more (mask-fits F h (precision F) (e .job .carries) (omega arith) (v .job .carries))
-    (all.more (field.more {k = 1} {n = e .job .mode} (omega (arith, v .job .mode)) field.none)
-    (all.more (field.more (word-fits F h W (e .r1) (omega arith) (v .r1)) (field.more (word-fits F h W (e .r2) (omega arith) (v .r2)) field.none)) all.none)))))
+    all.more (mask-fits F h W (e .job .a) (omega arith) (v .valid .a))
+    (all.more (mask-fits F h W (e .job .b) (omega arith) (v .valid .b))
+    (all.more (mask-fits F h W (e .job .c) (omega arith) (v .valid .c))
+    (all.more (mask-fits F h (precision F) (e .job .carries) (omega arith) (v .valid .carries))
+    (all.more (field.more {k = 1} {n = e .job .mode} (omega (arith, v .valid .mode)) field.none)
+    (all.more (field.more (word-fits F h W (e .r1) (omega arith) (v .first-word)) (field.more (word-fits F h W (e .r2) (omega arith) (v .second-word)) field.none)) all.none)))))
 
 -- the length by the map is the record's length, 45 at most
 pub record-length : (e : Entry) → recordCause e ≡ 0 → recordLength (mapOf (fields e)) ≡ length (recordBytes e)
 unfolding recordLength recordBytes
-record-length e ok = omega (arith, body-length (entry-fits e (record-none e .0 ok)))
+record-length e ok = omega (arith, body-length (entry-fits e (request-none (e .job) (e .r1) (e .r2) .0 ok)))
 
 pub record-most : (e : Entry) → recordCause e ≡ 0 → length (recordBytes e) ≤ 45
 unfolding recordLength

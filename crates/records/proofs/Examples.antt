@@ -6,10 +6,10 @@ use Prim.Native.Nat.{ℕ}
 use Rattle.format.specs.Format.{formatCause, operationCause, modeCause, wordCause}
 use Rattle.mask.specs.declared.Mask.{Mask}
 use Rattle.mask.specs.Mask.{maskCause}
-use Rattle.job.specs.Job.{masksCause, jobCause}
+use Rattle.job.specs.Job.{masksCause, jobCause, requestCause}
 use Rattle.records.specs.Number.{littleEndian}
 use Rattle.records.specs.Fields.{fieldBytes, isDefault, piece, mapBit, mapOf, body}
-use Rattle.records.specs.Record.{recordCause, recordBytes}
+use Rattle.records.specs.Record.{recordBytes}
 use Rattle.records.specs.File.{fileBytes, Reads, Writable, none, more}
 use Rattle.records.specs.declared.Entry.{Entry}
 use Rattle.records.proofs.Files.{file-read}
@@ -45,7 +45,7 @@ unfolding fileBytes recordBytes mapOf mapBit body piece isDefault fieldBytes lit
 example-bytes = refl
 
 writable : Writable jobs
-unfolding recordCause jobCause masksCause formatCause operationCause modeCause wordCause maskCause
+unfolding requestCause jobCause masksCause formatCause operationCause modeCause wordCause maskCause
 writable = more refl (more refl none)
 
 pub example-read : Reads file jobs

@@ -21,12 +21,13 @@ use Rattle.records.proofs.Numbers.{bytes-drop}
 use Rattle.records.proofs.OneField as field
 use Rattle.records.proofs.AllFields as all
 use Rattle.records.proofs.AllFields.{AllFit, map-lt, fields-back, fields-fit, map-no-default, map-back, default-map, body-back}
-use Rattle.records.proofs.Causes.{record-none, entry-fits, record-length, read-none, Readable, first-job, lateCause}
+use Rattle.job.proofs.Laws.{request-none}
+use Rattle.records.proofs.Causes.{entry-fits, record-length, read-none, Readable, first-job, lateCause}
 
 -- ---- written and read back
 module _ (e : Entry) (t : List ℕ) (ok : recordCause e ≡ 0) where
   same-fields : fieldsIn shapes (mapOf (fields e)) (body shapes (fields e) ++ t) ≡ fields e
-  same-fields = fields-back (entry-fits e (record-none e .0 ok)) t
+  same-fields = fields-back (entry-fits e (request-none (e .job) (e .r1) (e .r2) .0 ok)) t
 
   same-entry : entryIn (recordBytes e ++ t) ≡ e
   unfolding recordBytes

@@ -7,10 +7,9 @@ use lib.ListN.{length, getD, drop}
 use lib.Dec.{leb, ltb}
 use Rattle.format.specs.Cause as cause
 use Rattle.format.specs.Cause.{unless, first}
-use Rattle.format.specs.Format.{wordBits, wordCause}
 use Rattle.format.specs.declared.Format.{Format}
 use Rattle.mask.specs.declared.Mask.{Mask}
-use Rattle.job.specs.Job.{jobCause}
+use Rattle.job.specs.Job.{requestCause}
 use Rattle.records.specs.Fields.{mapOf, body, bodyLength, fieldsIn, saysDefault}
 use Rattle.records.specs.declared.Entry.{Entry}
 use Rattle.records.specs.declared.First.{First}
@@ -59,10 +58,9 @@ entryOf format operation fs =
       r2 = getD (getD fs 5 []) 1 0;
     }
 
--- the job's cause, then 6 for a random word
-unfoldable pub recordCause : Entry → ℕ
-recordCause e =
-    first (jobCause (e .job)) (first (wordCause (wordBits (e .job .format)) (e .r1)) (wordCause (wordBits (e .job .format)) (e .r2)))
+-- 1 to 6: the cause against the job and its random words
+abbrev pub recordCause : Entry → ℕ
+recordCause e = requestCause (e .job) (e .r1) (e .r2)
 
 -- ---- the record's bytes
 

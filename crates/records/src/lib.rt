@@ -12,9 +12,8 @@ use format::Format;
 use format::cause;
 use format::first;
 use format::unless;
-use format::word_cause;
 use job::Job;
-use job::job_cause;
+use job::request_cause;
 use mask::Mask;
 use number::put_number;
 use number::wide;
@@ -58,12 +57,7 @@ pub enum Writing {
 pub fn entry_cause(entry: Entry) -> u64
     ensures { λ r. ⌜ r ≡ recordCause entry ⌝ }
 {
-    let job = job_cause(entry.job);
-    if job == 0 {
-        let width = entry.job.format.w + entry.job.format.f + 1;
-        return first(word_cause(width, entry.r1), word_cause(width, entry.r2));
-    }
-    job
+    request_cause(entry.job, entry.r1, entry.r2)
 }
 
 // The map byte of the entry's record.

@@ -5,7 +5,8 @@ use mathlib.Core.Logic.{inl, inr}
 use native.Mathlib.Nat.{pos-of-ne-zero}
 use Rattle.search.specs.Choice.{Chosen}
 use Rattle.generator.specs.Promise as promise
-use Rattle.generator.proofs.Taken.{request-none, fits-request, case-chosen}
+use Rattle.job.proofs.Laws.{request-none}
+use Rattle.generator.proofs.Taken.{fits-request, case-chosen}
 use borrow.Author.Needs.{needs}
 use Rattle.generator.proofs.generate.Statement.{statement}
 use Rattle.generator.proofs.generate.Tie as tie

@@ -10,7 +10,7 @@ use Rattle.records.specs.Number.{put}
 use Rattle.records.specs.Fields.{mapOf, body}
 use Rattle.records.specs.Record.{shapes, fields, recordBytes}
 use Rattle.records.proofs.AllFields.{map-lt}
-use Rattle.records.proofs.Causes.{record-none}
+use Rattle.job.proofs.Laws.{request-none}
 use Rattle.records.proofs.Replies.{put-after}
 use borrow.Author.Needs.{needs}
 use Rattle.records.proofs.put_record.Statement.{statement}
@@ -20,8 +20,9 @@ put-header-requires : tie.Need-put-header-requires
 unfolding recordBytes
 put-header-requires c κs =
     let k = c .before .before .before in
-    let v = record-none (k .args .entry) .0 (k .pre .0) in
-    omega (arith, k .pre .1, k .pre .2, map-lt (fields (k .args .entry)), v .job .format .w-most, v .job .format .f-most, v .job .operation)
+    let e = k .args .entry in
+    let v = request-none (e .job) (e .r1) (e .r2) .0 (k .pre .0) in
+    omega (arith, k .pre .1, k .pre .2, map-lt (fields (k .args .entry)), v .valid .format .w-most, v .valid .format .f-most, v .valid .operation)
 
 put-fields-requires : tie.Need-put-fields-requires
 unfolding recordBytes

@@ -1,15 +1,15 @@
--- `generator::request_cause` meets its contract: the words are looked at only where no cause stands against the job. Assumes nothing.
+-- `job::request_cause` meets its contract: the words are looked at only where no cause stands against the job. Assumes nothing.
 use mathlib.Core.Path.{sym, ap, ap₂, _∙_}
 use Prim.Native.Nat.{ℕ}
 use native.Mathlib.Omega.{arith}
 use Rattle.format.specs.Cause.{first}
 use Rattle.format.specs.Format.{wordBits, wordCause}
 use Rattle.format.proofs.Laws.{first-some}
 use Rattle.job.proofs.Laws.{job-none}
-use Rattle.generator.specs.Promise.{requestCause}
+use Rattle.job.specs.Job.{requestCause}
 use borrow.Author.Needs.{needs}
-use Rattle.generator.proofs.request_cause.Statement.{statement}
-use Rattle.generator.proofs.request_cause.Tie as tie
+use Rattle.job.proofs.request_cause.Statement.{statement}
+use Rattle.job.proofs.request_cause.Tie as tie
 
 job-cause-requires : tie.Need-job-cause-requires
 job-cause-requires c κs = search needs
