@@ -22,8 +22,8 @@ fits-request j a b c r1 r2 h f = record { valid = h .valid; first-word = f .righ
 pub case-chosen : (j : Job) (r1 r2 a b : ℕ) → ClosestPair (Fitting j) r1 r2 a b → Chosen j r1 r2 (caseOf j a b)
 case-chosen j r1 r2 a b q =
     let f = q .member .1 in
-    record { fits = subst (Fits j a b) (f .sum) f; row = refl; closest = q }
+    record { fits = subst (Fits j a b) (f .right .sum) f; row = refl; closest = q }
 
 -- and the chosen case is the case of its operands
 pub chosen-case : (j : Job) (r1 r2 : ℕ) (x : Case) → Chosen j r1 r2 x → x ≡ caseOf j (x .a) (x .b)
-chosen-case j r1 r2 x p = ap₂ (λ (c : ℕ) (r : row.Row). record { a = x .a; b = x .b; c = c; row = r }) (p .fits .sum) (p .row)
+chosen-case j r1 r2 x p = ap₂ (λ (c : ℕ) (r : row.Row). record { a = x .a; b = x .b; c = c; row = r }) (p .fits .right .sum) (p .row)
