@@ -6,7 +6,7 @@ use second::fits::{confirm, Case};
 use second::format::{Refusal, CUT_SHORT};
 use second::random::Random;
 use second::record::{encode, read, Reply};
-use second::sample::{job, numbers, pair};
+use second::sample::{job, numbers, pair, unrelated_job};
 use second::table::Table;
 use vindacsor::buffer;
 
@@ -143,7 +143,7 @@ fn generation(
 }
 
 /// The generator in every format of at most `WIDTH` bits, each operation and mode, with `each`
-/// jobs for each of them.
+/// jobs for each of them. Every fifth has masks that are made around no case.
 pub fn small_generations(random: &mut Random, each: u64) -> Result<Tally, String> {
     const WIDTH: u64 = 8;
     let mut tally = Tally::default();
@@ -154,9 +154,15 @@ pub fn small_generations(random: &mut Random, each: u64) -> Result<Tally, String
         for [operation, mode] in (0..8).map(|n| [n / 4, n % 4]) {
             let adder = Adder::new(w, f, operation, mode).expect("within the limits");
             let table = Table::new(adder).expect("a small format");
-            for _ in 0..each {
-                let care = random.below(6);
-                let job = job(random, [w, f, operation, mode], care);
+            for n in 0..each {
+                let numbers = [w, f, operation, mode];
+                let job = match n % 5 {
+                    0 => unrelated_job(random, numbers),
+                    _ => {
+                        let care = random.below(6);
+                        job(random, numbers, care)
+                    }
+                };
                 generation(random, &mut tally, &record(&job), table.generate(&job))?;
             }
         }
