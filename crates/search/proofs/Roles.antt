@@ -5,7 +5,7 @@ use Rattle.format.specs.declared.Format.{Format}
 use Rattle.format.specs.Format.{wordBits}
 use Rattle.mask.specs.declared.Mask.{Mask}
 use Rattle.mask.specs.Mask.{WellFormed, Meets}
-use Rattle.fixing.proofs.Walk.{Replaced}
+use Rattle.choice.proofs.Walk.{Replaced}
 use Rattle.job.specs.declared.Job.{Job}
 use Rattle.job.specs.Job.{Valid}
 use Rattle.adder.specs.Word.{biased}

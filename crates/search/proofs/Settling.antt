@@ -1,4 +1,4 @@
--- The bit walk over jobs, once over the two roles, by the laws of `fixing`. Assumes nothing.
+-- The bit walk over jobs, once over the two roles, by the laws of `choice`. Assumes nothing.
 use mathlib.Core.Path.{_≡_, refl, sym, ap, _∙_, subst}
 use mathlib.Core.Bool.{Bool, false}
 use Prim.Native.Nat.{ℕ, _-_, _^_, _≤_, _<_}
@@ -10,8 +10,8 @@ use Rattle.format.specs.declared.Format.{Format}
 use Rattle.format.specs.Format.{wordBits}
 use Rattle.mask.specs.declared.Mask.{Mask}
 use Rattle.mask.specs.Mask.{free, fix}
-use Rattle.fixing.specs.Walk.{FixedFrom}
-use Rattle.fixing.proofs.Walk.{Walked, Replaced, fixed-below, walk-done, walk-formed, walk-top, walk-back, walk-tried, walk-left, walk-other}
+use Rattle.choice.specs.Walk.{FixedFrom}
+use Rattle.choice.proofs.Walk.{Walked, Replaced, fixed-below, walk-done, walk-formed, walk-top, walk-back, walk-tried, walk-left, walk-other}
 use Rattle.job.specs.declared.Job.{Job}
 use Rattle.job.specs.Job.{Valid}
 use Rattle.search.specs.declared.Role.{Role}

@@ -3,7 +3,7 @@
 use mathlib.Core.Path.{_≡_}
 use Prim.Native.Nat.{ℕ, _^_, _≤_, _<_}
 use Rattle.format.specs.Format.{wordBits}
-use Rattle.fixing.specs.Walk.{FixedFrom, Settles}
+use Rattle.choice.specs.Walk.{FixedFrom, Settles}
 use Rattle.job.specs.declared.Job.{Job}
 use Rattle.fit.specs.Fit.{Fits}
 use Rattle.pair.specs.Asked.{PairFits}
