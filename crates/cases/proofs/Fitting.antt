@@ -38,5 +38,5 @@ every-case j test valid e a b c f =
     let at-a = every-word (j .a .mask) width (λ a. everyWord (j .b .mask) width (inner a)) (valid .a .mask) e a (f .right .a-word) (f .satisfies .a-allowed .mask) in
     let at-b : inner a b ≡ true = every-word (j .b .mask) width (inner a) (valid .b .mask) at-a b (f .right .b-word) (f .satisfies .b-allowed .mask) in
     let fit : fits j a b c ≡ true = fits-true j a b c (record { a-word = f .right .a-word; b-word = f .right .b-word; c-word = f .right .c-word }) .1 f in
-    let at-c : implies (fits j a b c) (test a b c) ≡ true = subst (λ (u : ℕ). implies (fits j a b u) (test a b u) ≡ true) (sym (f .sum)) at-b in
+    let at-c : implies (fits j a b c) (test a b c) ≡ true = subst (λ (u : ℕ). implies (fits j a b u) (test a b u) ≡ true) (sym (f .right .sum)) at-b in
     implies-elim (fits j a b c) (test a b c) at-c fit

@@ -5,7 +5,7 @@ use mathlib.Core.Logic.{inl, inr, _↔_}
 use Prim.Native.Nat.{ℕ}
 use native.Mathlib.Omega.{arith}
 use Rattle.format.specs.Cause as cause
-use Rattle.columns.proofs.Pair.{pair-unique, pair-self}
+use Rattle.choice.proofs.Pair.{pair-unique, pair-self}
 use Rattle.job.specs.declared.Job.{Job}
 use Rattle.job.specs.Job.{jobCause, requestCause}
 use Rattle.job.proofs.Laws.{job-none, request-none}

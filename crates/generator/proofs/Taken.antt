@@ -1,7 +1,7 @@
 -- What the case of two operands is where no cause stands against the job and the words. Assumes nothing.
 use mathlib.Core.Path.{_≡_, refl, ap₂, subst}
 use Prim.Native.Nat.{ℕ}
-use Rattle.columns.specs.Choice.{ClosestPair}
+use Rattle.choice.specs.Choice.{ClosestPair}
 use Rattle.job.specs.declared.Job.{Job}
 use Rattle.job.specs.Job.{Request}
 use Rattle.adder.specs.declared.Row as row

@@ -4,7 +4,7 @@ use mathlib.Core.Path.{_≡_}
 use mathlib.Core.Logic.{_⊎_}
 use Prim.Native.Nat.{ℕ, _<_}
 use Rattle.format.specs.Cause as cause
-use Rattle.columns.specs.Choice.{ClosestPair}
+use Rattle.choice.specs.Choice.{ClosestPair}
 use Rattle.job.specs.declared.Job.{Job}
 use Rattle.job.specs.Job.{requestCause}
 use Rattle.fit.specs.Fit.{resultIn, rowIn, Fits, Fitting}

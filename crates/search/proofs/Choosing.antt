@@ -3,10 +3,10 @@ use mathlib.Core.Path.{_≡_, refl, subst}
 use Prim.Native.Nat.{ℕ}
 use native.Mathlib.Omega.{arith}
 use Rattle.format.specs.Format.{wordBits}
-use Rattle.columns.specs.Choice.{Closest, ClosestPair}
-use Rattle.columns.proofs.Closest.{closest-cong}
-use Rattle.columns.proofs.Pair.{First, pair-of}
-use Rattle.fixing.specs.Walk.{Has}
+use Rattle.choice.specs.Choice.{Closest, ClosestPair}
+use Rattle.choice.proofs.Closest.{closest-cong}
+use Rattle.choice.proofs.Pair.{First, pair-of}
+use Rattle.choice.specs.Walk.{Has}
 use Rattle.job.specs.declared.Job.{Job}
 use Rattle.job.specs.declared.Role.{Role}
 use Rattle.job.specs.declared.Role.the-variants.{A, B}

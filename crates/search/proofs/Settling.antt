@@ -1,4 +1,4 @@
--- The bit walk over jobs, once over the two roles, by the laws of `fixing`. Assumes nothing.
+-- The bit walk over jobs, once over the two roles, by the laws of `choice`. Assumes nothing.
 use mathlib.Core.Path.{_≡_, refl, sym, ap, _∙_, subst}
 use mathlib.Core.Bool.{Bool, false}
 use Prim.Native.Nat.{ℕ, _-_, _^_, _≤_, _<_}
@@ -8,8 +8,8 @@ use Rattle.bits.specs.Bit.{bit}
 use Rattle.bits.proofs.Laws.{bit-lt}
 use Rattle.format.specs.Format.{wordBits}
 use Rattle.mask.specs.Mask.{free, fix}
-use Rattle.fixing.specs.Walk.{FixedFrom}
-use Rattle.fixing.proofs.Walk.{Walked, Replaced, fixed-below, walk-done, walk-formed, walk-top, walk-back, walk-tried, walk-left, walk-other}
+use Rattle.choice.specs.Walk.{FixedFrom}
+use Rattle.choice.proofs.Walk.{Walked, Replaced, fixed-below, walk-done, walk-formed, walk-top, walk-back, walk-tried, walk-left, walk-other}
 use Rattle.job.specs.declared.Setting.{Setting}
 use Rattle.job.specs.declared.Wanted.{Wanted}
 use Rattle.job.specs.declared.Job.{Job}

@@ -3,7 +3,7 @@
 use mathlib.Core.Path.{_≡_}
 use Prim.Native.Nat.{ℕ, _^_, _≤_, _<_}
 use Rattle.format.specs.Format.{wordBits}
-use Rattle.fixing.specs.Walk.{FixedFrom, Settles}
+use Rattle.choice.specs.Walk.{FixedFrom, Settles}
 use Rattle.job.specs.declared.Job.{Job}
 use Rattle.job.specs.declared.Role.{Role}
 use Rattle.job.specs.Role.{member, wanted}

@@ -6,7 +6,7 @@ use mathlib.Core.Logic.{_↔_}
 use Prim.Native.Nat.{ℕ, _≤_, _<_}
 use Rattle.bits.specs.Bit.{bit}
 use Rattle.mask.specs.declared.Mask.{Mask}
-use Rattle.columns.specs.Choice.{Closest}
+use Rattle.choice.specs.Choice.{Closest}
 
 -- the bits of a mask of n bits from position k on are fixed
 abbrev pub FixedFrom : ℕ → Mask → ℕ → Type 0

@@ -10,11 +10,11 @@ use Rattle.bits.proofs.Laws.{bit-lt}
 use Rattle.mask.specs.declared.Mask.{Mask}
 use Rattle.mask.specs.Mask.{WellFormed, Meets, fix}
 use Rattle.mask.proofs.ByBits.{meets-bits, meets-full}
-use Rattle.columns.specs.Choice.{AgreeFrom}
-use Rattle.columns.proofs.Closest.{agree-from, closest-done}
-use Rattle.columns.proofs.Narrow.{Narrowed, narrowed-all, narrowed-none, narrowed-closest}
-use Rattle.fixing.specs.Walk.{FixedFrom, Has, Settles}
-use Rattle.fixing.proofs.Fixing.{fix-cares, fix-keeps, fix-formed, fix-narrows}
+use Rattle.choice.specs.Choice.{AgreeFrom}
+use Rattle.choice.proofs.Closest.{agree-from, closest-done}
+use Rattle.choice.proofs.Narrow.{Narrowed, narrowed-all, narrowed-none, narrowed-closest}
+use Rattle.choice.specs.Walk.{FixedFrom, Has, Settles}
+use Rattle.choice.proofs.Fixing.{fix-cares, fix-keeps, fix-formed, fix-narrows}
 
 -- the cases of P have numbers of n bits that meet m, whose bits from position b on are fixed
 pub record Walked (C : Type 0) (number : C → ℕ) (n : ℕ) (m : Mask) (P : C → Type 0) (b : ℕ) : Type 0 where

@@ -4,8 +4,8 @@ use mathlib.Core.Logic.{_⊎_, inl, inr, _↔_}
 use Prim.Native.Nat.{ℕ, _<_}
 use native.Mathlib.Omega.{arith}
 use lib.Bits.{bitXor}
-use Rattle.columns.specs.Choice.{Closest, Farther, ClosestPair}
-use Rattle.columns.proofs.Closest.{farther, closest-unique, closest-self}
+use Rattle.choice.specs.Choice.{Closest, Farther, ClosestPair}
+use Rattle.choice.proofs.Closest.{farther, closest-unique, closest-self}
 
 module _ (P : ℕ → ℕ → Type 0) where
   -- some pair has x as its first number

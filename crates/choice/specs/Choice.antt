@@ -2,11 +2,9 @@
 -- a exclusive-or the first word, read as a whole number without sign, and then the smallest b exclusive-or the second).
 -- Assumes nothing.
 use mathlib.Core.Path.{_≡_}
-use mathlib.Core.Bool.{Bool, cond}
 use mathlib.Core.Logic.{_⊎_}
-use Prim.Native.Nat.{ℕ, zero, suc, _+_, _-_, _*_, _/_, _^_, _<_}
+use Prim.Native.Nat.{ℕ, _/_, _^_, _<_}
 use lib.Bits.{bitXor}
-use Rattle.bits.specs.Bit.{bit}
 
 -- x is in P, and every other member of P has a larger exclusive-or with r
 pub record Closest (P : ℕ → Type 0) (r x : ℕ) : Type 0 where
@@ -26,9 +24,3 @@ pub record ClosestPair (P : ℕ → ℕ → Type 0) (r s x y : ℕ) : Type 0 whe
 -- members of P agree from bit k up
 abbrev pub AgreeFrom : (ℕ → Type 0) → ℕ → Type 0
 AgreeFrom P k = (x y : ℕ) → P x → P y → x / 2 ^ k ≡ y / 2 ^ k
-
--- the number that follows r from the top: k bits are open below u, `left j v` tells whether a member has v above bit j, and each bit is
--- that of r where this leaves a member, else the other
-abbrev pub follow : (ℕ → ℕ → Bool) → ℕ → ℕ → ℕ → ℕ
-follow left r zero u = u
-follow left r (suc k) u = follow left r k (u * 2 + cond (left k (u * 2 + bit r k)) (bit r k) (1 - bit r k))

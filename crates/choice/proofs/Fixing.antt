@@ -11,7 +11,7 @@ use Rattle.mask.specs.Mask.{Inside, WellFormed, Meets, fixed, fix}
 use Rattle.mask.proofs.Bitwise.{bit-case}
 use Rattle.mask.proofs.ByBits.{meets-bits}
 use Rattle.mask.proofs.Fixing.{care-same, care-other, fixed-formed, fixed-meets, fix-free}
-use Rattle.columns.proofs.Narrow.{Narrowed}
+use Rattle.choice.proofs.Narrow.{Narrowed}
 
 -- what holds of m where it fixes bit i, and of m with bit i fixed where it does not, holds of the result
 module _ (m : Mask) (i v : ℕ) (hi : i < 64) (hv : v < 2) where

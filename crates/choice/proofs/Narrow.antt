@@ -8,8 +8,8 @@ use native.Mathlib.Decide.{ℕ-discrete}
 use native.Mathlib.Omega.{arith}
 use Rattle.bits.specs.Bit.{bit}
 use Rattle.bits.proofs.Laws.{bit-lt}
-use Rattle.columns.specs.Choice.{Closest, AgreeFrom}
-use Rattle.columns.proofs.Closest.{closest-cong, closest-step}
+use Rattle.choice.specs.Choice.{Closest, AgreeFrom}
+use Rattle.choice.proofs.Closest.{closest-cong, closest-step}
 
 pub record Narrowed (P Q : ℕ → Type 0) (k v : ℕ) : Type 0 where
   pub is : ℕ

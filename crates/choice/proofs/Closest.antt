@@ -7,13 +7,12 @@ use native.Mathlib.Nat.{div-one, lt-of-le-of-lt, lt-of-lt-of-le}
 use native.Mathlib.Numerals.{add-one}
 use native.Mathlib.Decide.{decLt, ℕ-discrete}
 use native.Mathlib.Omega.{arith}
-use lib.Bits.{bitXor, xor-self, xor-shr, xor-add-and, and-le-l, and-le-r}
+use lib.Bits.{bitXor, xor-self, xor-shr, xor-lt, xor-add-and, and-le-l, and-le-r}
 use lib.Pow.{shr-shr, shr-mono, shr-le, pow-mono}
 use Rattle.bits.specs.Bit.{bit}
 use Rattle.bits.proofs.Laws.{bit-lt, bit-above, bit-shr, by-bits}
 use Rattle.bits.proofs.Logic.{bit-xor}
-use Rattle.columns.specs.Choice.{Closest, Farther, AgreeFrom}
-use Rattle.columns.proofs.Carry.{xor-bits}
+use Rattle.choice.specs.Choice.{Closest, Farther, AgreeFrom}
 
 -- ---- numbers from bit k up
 
@@ -35,7 +34,7 @@ pub first-difference : (k x y r : ℕ) → x / 2 ^ suc k ≡ y / 2 ^ suc k → b
 first-difference k x y r above same differ =
     let up : bitXor x r / 2 ^ suc k ≡ bitXor y r / 2 ^ suc k = xor-shr x r (suc k) ∙ ap (λ (u : ℕ). bitXor u (r / 2 ^ suc k)) above ∙ sym (xor-shr y r (suc k)) in
     let at-x : bit (bitXor x r) k ≡ 0 = bit-xor x r k ∙ ap (λ (u : ℕ). bitXor u (bit r k)) same ∙ xor-self (bit r k) in
-    let at-y : bit (bitXor y r) k ≡ 1 = bit-xor y r k ∙ xor-bits (bit y k) (bit r k) (bit-lt y k) (bit-lt r k) ∙ omega (arith, bit-lt y k, bit-lt r k) in
+    let at-y : bit (bitXor y r) k ≡ 1 = bit-xor y r k ∙ omega (arith, bit-lt y k, bit-lt r k, xor-add-and (bit y k) (bit r k), xor-lt 1 (bit y k) (bit r k) (bit-lt y k) (bit-lt r k)) in
     lt-of-shr (bitXor x r) (bitXor y r) k (omega (arith, shr-suc (bitXor x r) k, shr-suc (bitXor y r) k))
 
 pub xor-zero : (x y : ℕ) → bitXor x y ≡ 0 → x ≡ y
