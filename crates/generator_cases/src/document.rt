@@ -67,15 +67,19 @@ fn both_words(count: Count, job: Job, zeros: Reply, others: Reply) -> Count {
     asked(asked(count, job, 0, 0, zeros), job, 0x4D, 0, others)
 }
 
-// 1 to 4. (45, 2B, 4C) row 04 and (4D, 3B, 55) row 1D in mode 0; the second in mode 3, the first in mode 2; carry position 1 fixed to 1.
+// 1 to 3. (45, 2B, 4C) row 04 and (4D, 3B, 55) row 1D in mode 0; the second in mode 3, the first in mode 2.
 pub fn masked_cases(count: Count) -> Count {
     let first = found(0x45, 0x2B, 0x4C, 0x04);
     let second = found(0x4D, 0x3B, 0x55, 0x1D);
     let nearest = both_words(count, eight(0, free()), first, second);
     let down = both_words(nearest, eight(3, free()), second, second);
-    let up = both_words(down, eight(2, free()), first, first);
+    both_words(down, eight(2, free()), first, first)
+}
+
+// 4. Carry position 1 fixed to 1.
+pub fn carry_fixed(count: Count) -> Count {
     let none = Reply::Refused(cause::NO_CASE);
-    both_words(up, eight(0, mask(0x02, 0x02)), none, none)
+    both_words(count, eight(0, mask(0x02, 0x02)), none, none)
 }
 
 // Nothing fixed.
@@ -122,47 +126,51 @@ pub fn impossible_signs(count: Count) -> Count {
     signs(signs(signs(signs(count, 0), 1), 2), 3)
 }
 
-// A job of the eight-bit widths but for what is given.
-fn bad(format: Format, operation: u64, mode: u64, a: Mask, carries: Mask) -> Job {
+// A line for a job of these numbers and masks that is refused, with both random words the same.
+fn bad(count: Count, setting: Setting, a: Mask, carries: Mask, word: u64, number: u64) -> Count {
+    let job = masked_job(setting, a, free(), free(), carries);
+    asked(count, job, word, word, Reply::Refused(number))
+}
+
+// One whose masks and words have a bit above every width.
+fn wide(count: Count, w: u64, f: u64, operation: u64, mode: u64, number: u64) -> Count {
     let setting = Setting {
-        format,
+        format: Format { w, f },
         operation,
         mode,
     };
-    masked_job(setting, a, free(), free(), carries)
+    let above = mask(0x100, 0);
+    bad(count, setting, above, above, 0x100, number)
 }
 
-// Of the causes 1 to 6 each line has one fewer: the first is named.
+// Of the causes 1 to 5 each line has one fewer: the first is named.
 fn first_cause(count: Count) -> Count {
-    let wide = mask(0x100, 0);
-    let word = 0x100;
-    let good = Format { w: 3, f: 4 };
-    let w = bad(Format { w: 1, f: 1 }, 2, 4, wide, wide);
-    let f = bad(Format { w: 3, f: 1 }, 2, 4, wide, wide);
-    let operation = bad(good, 2, 4, wide, wide);
-    let mode = bad(good, 0, 4, wide, wide);
-    let masks = bad(good, 0, 0, wide, wide);
-    let words = bad(good, 0, 0, free(), free());
-    let one = asked(count, w, word, word, Reply::Refused(cause::EXPONENT_BITS));
-    let two = asked(one, f, word, word, Reply::Refused(cause::FRACTION_BITS));
-    let three = asked(two, operation, word, word, Reply::Refused(cause::OPERATION));
-    let four = asked(three, mode, word, word, Reply::Refused(cause::MODE));
-    let five = asked(four, masks, word, word, Reply::Refused(cause::MASK));
-    asked(five, words, word, word, Reply::Refused(cause::WORD))
+    let one = wide(count, 1, 1, 2, 4, cause::EXPONENT_BITS);
+    let two = wide(one, 3, 1, 2, 4, cause::FRACTION_BITS);
+    let three = wide(two, 3, 4, 2, 4, cause::OPERATION);
+    let four = wide(three, 3, 4, 0, 4, cause::MODE);
+    wide(four, 3, 4, 0, 0, cause::MASK)
 }
 
-// A value outside care, a carry above the precision, and either word alone too wide.
-fn one_cause(count: Count) -> Count {
-    let format = Format { w: 3, f: 4 };
-    let value = bad(format, 0, 0, mask(1, 3), free());
-    let carry = bad(format, 0, 0, free(), mask(0x20, 0x20));
-    let open = bad(format, 0, 0, free(), free());
-    let one = asked(count, value, 0, 0, Reply::Refused(cause::MASK));
-    let two = asked(one, carry, 0, 0, Reply::Refused(cause::MASK));
-    let three = asked(two, open, 0x100, 0, Reply::Refused(cause::WORD));
-    asked(three, open, 0, 0x100, Reply::Refused(cause::WORD))
+// Words alone too wide.
+fn words(count: Count, r1: u64, r2: u64) -> Count {
+    asked(count, open(3, 4), r1, r2, Reply::Refused(cause::WORD))
+}
+
+// A value outside care, and a carry above the precision.
+fn masks(count: Count) -> Count {
+    let one = bad(count, adding(3, 4, 0), mask(1, 3), free(), 0, cause::MASK);
+    bad(
+        one,
+        adding(3, 4, 0),
+        free(),
+        mask(0x20, 0x20),
+        0,
+        cause::MASK,
+    )
 }
 
 pub fn bad_input(count: Count) -> Count {
-    one_cause(first_cause(count))
+    let first = words(first_cause(count), 0x100, 0x100);
+    words(words(masks(first), 0x100, 0), 0, 0x100)
 }

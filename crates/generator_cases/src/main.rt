@@ -7,7 +7,7 @@ use tally::Count;
 
 fn main() {
     let none = Count { lines: 0, wrong: 0 };
-    let masked = document::masked_cases(none);
+    let masked = document::carry_fixed(document::masked_cases(none));
     let limits = document::limits(masked);
     let signs = document::impossible_signs(limits);
     tally::put_count(document::bad_input(signs));
