@@ -63,7 +63,7 @@ fn show_case_11() {
     )));
 }
 
-fn show_long() {
+fn show_length_32() {
     show(whole::generate(job(
         32,
         free(),
@@ -89,6 +89,9 @@ fn show_long() {
         fixed(0x1_0000_0000, 0x1_0000_0000),
         words(0, 0, 0),
     )));
+}
+
+fn show_length_31() {
     show(whole::generate(job(
         31,
         fixed(0x5555_5555, 0x5050_5050),
@@ -118,7 +121,8 @@ fn show_refused() {
 
 fn main() {
     show_case_11();
-    show_long();
+    show_length_32();
+    show_length_31();
     show_refused();
     io::write_all(STDOUT_FILENO, b"end\n");
 }

@@ -8,7 +8,10 @@ use second::fits::Conditions;
 use second::mask::Mask;
 use second::record::write;
 
-const PROGRAM: &str = concat!(env!("CARGO_MANIFEST_DIR"), "/../target/bin/records_written");
+const PROGRAM: &str = concat!(
+    env!("CARGO_MANIFEST_DIR"),
+    "/../../target/bin/records_written"
+);
 const JOBS: usize = 400;
 const MODULUS: u64 = (1 << 31) - 1;
 

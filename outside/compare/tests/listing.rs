@@ -4,7 +4,7 @@ use compare::program::printed;
 use second::choice::generate;
 use second::listing::{listing, LONGEST_FILE};
 
-const PROGRAM: &str = concat!(env!("CARGO_MANIFEST_DIR"), "/../target/bin/listing");
+const PROGRAM: &str = concat!(env!("CARGO_MANIFEST_DIR"), "/../../target/bin/listing");
 
 fn lists(file: &[u8], text: &str) {
     let came = printed(PROGRAM, file).expect("the program ends");

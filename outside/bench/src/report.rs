@@ -121,11 +121,11 @@ fn conditions(options: &Options, rows: &[Row]) -> String {
     format!(
         "## How it was measured\n\n\
          `rt staticlib vindacsor`, then `cargo run --release --offline --manifest-path \
-         bench/Cargo.toml -- --write`, on {}. Seed {:#x}. Each job is given {RUNS} times, to \
-         z3 as to the generator, and the least time counts; the operation and the mode of each are random. Masks are made around a \
-         true case, but those of impossible jobs, of which {left_out} were drawn again because they \
-         had a case. All jobs ran on a thread with a stack of {} KiB. That no job takes longer than \
-         the largest here is not shown.\n",
+         outside/bench/Cargo.toml -- --write`, on {}. Seed {:#x}. Each job is given {RUNS} times, \
+         to z3 as to the generator, and the least time counts; the operation and the mode of each \
+         are random. Masks are made around a true case, but those of impossible jobs, of which \
+         {left_out} were drawn again because they had a case. All jobs ran on a thread with a stack \
+         of {} KiB. That no job takes longer than the largest here is not shown.\n",
         machine(),
         options.seed,
         options.stack

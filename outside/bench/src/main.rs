@@ -203,7 +203,7 @@ fn main() -> ExitCode {
     };
     print!("{text}");
     if write {
-        let path = std::path::Path::new(env!("CARGO_MANIFEST_DIR")).join("../docs/SPEED.md");
+        let path = std::path::Path::new(env!("CARGO_MANIFEST_DIR")).join("../../docs/SPEED.md");
         if let Err(error) = std::fs::write(path, text) {
             eprintln!("docs/SPEED.md: {error}");
             return ExitCode::FAILURE;
