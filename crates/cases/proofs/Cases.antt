@@ -16,10 +16,11 @@ use Rattle.mask.specs.Mask.{maskCause}
 use Rattle.choice.specs.Choice.{Farther}
 use Rattle.columns.proofs.Some.{or-cases}
 use Rattle.job.specs.declared.Job.{Job}
-use Rattle.job.specs.Job.{settingCause, masksCause, jobCause}
-use Rattle.job.proofs.Laws.{job-none}
+use Rattle.job.specs.Job.{settingCause, masksCause, jobCause, requestCause}
+use Rattle.job.proofs.Laws.{job-none, request-none}
 use Rattle.adder.specs.declared.Reply as reply
 use Rattle.adder.specs.declared.Reply.the-variants as answer
+use Rattle.adder.specs.declared.Row as carry-row
 use Rattle.adder.specs.declared.Row.the-variants.{Carries, NoRow}
 use Rattle.adder.specs.declared.RowReply as row-reply
 use Rattle.adder.specs.declared.RowReply.the-variants as row-answer
@@ -28,15 +29,15 @@ use Rattle.adder.specs.Operand.{operandOf}
 use Rattle.adder.specs.Rounding.{direction, increment, roundOff, magnitudeWord, overflowWord, boundedWord}
 use Rattle.adder.specs.Result.{cancelledSign, finiteSum, infiniteSum, kindSum, result, resultCause, resultReply}
 use Rattle.adder.specs.Row.{gather, finiteRow, kindRow, rowOf, rowCause, rowReply}
+use Rattle.format.specs.Cause as cause
 use Rattle.fit.specs.Fit.{Fits, satisfies, fits, caseCause}
-use Rattle.fit.proofs.Laws.{case-none}
 use Rattle.whole.specs.declared.Reply.the-variants.{Found}
 use Rattle.whole.specs.Sum.{addends}
 use Rattle.whole.specs.Reply.{Replied}
 use Rattle.whole.proofs.Sum.{sum-replied}
-use Rattle.cases.specs.Cases.{Carried, row, noRow, unsaid, Case, sum, exactly, chosen, wholeSum, CarriedIs, Holds, cases}
+use Rattle.cases.specs.Cases.{Carried, row, noRow, unsaid, Claim, sum, exactly, found, refused, wholeSum, CarriedIs, Holds, cases}
 use Rattle.cases.proofs.Words.{everyWord}
-use Rattle.cases.proofs.Fitting.{resultOf, isCase, is-case, everyCase, every-case}
+use Rattle.cases.proofs.Fitting.{isCase, is-case, everyCase, every-case}
 
 -- ---- the test of a row
 
@@ -52,6 +53,10 @@ isCarried noRow (row-answer.Row (Carries m)) = false
 isCarried noRow (row-answer.Row NoRow) = true
 isCarried noRow (row-answer.Refused m) = false
 isCarried unsaid r = true
+
+isRow : ℕ → carry-row.Row → Bool
+isRow n (Carries m) = eqb m n
+isRow n NoRow = false
 
 allFit : Job → List (ℕ × ℕ × ℕ) → Bool
 allFit j [] = true
@@ -69,13 +74,15 @@ isWhole : ℕ → ℕ → ℕ → ℕ → ℕ → ℕ → Bool
 isWhole n x y c z carries =
     within leastLength mostLength n && ((ltb x (2 ^ n) && (ltb y (2 ^ n) && ltb c 2)) && (eqb ((x + y + c) % 2 ^ n) z && eqb (bitXor (bitXor x y) (x + y + c)) carries))
 
-passes : Case → Bool
+passes : Claim → Bool
 passes (sum F operation mode a b c carried) = isWord (resultReply F operation mode a b) c && isCarried carried (rowReply F operation a b)
 passes (exactly j fitting) = eqb (jobCause j) 0 && (allFit j fitting && everyCase j (listed fitting))
-passes (chosen j r s a b) = isCase j a b (resultOf j a b) && everyCase j (λ x y z. notCloser r s a b x y)
+passes (found j r1 r2 a b c carries) =
+    eqb (requestCause j r1 r2) 0 && ((isCase j a b c && isRow carries (rowOf (j .setting .format) (j .setting .operation) a b)) && everyCase j (λ x y z. notCloser r1 r2 a b x y))
+passes (refused j k) = eqb (jobCause j) 0 && (eqb k cause.noCase && everyCase j (λ x y z. false))
 passes (wholeSum n x y carryIn z carries) = isWhole n x y carryIn z carries
 
-every : List Case → Bool
+every : List Claim → Bool
 every [] = true
 every (x ∷ xs) = passes x && every xs
 
@@ -95,6 +102,11 @@ carried-is noRow (row-answer.Row (Carries m)) t = absurd (false≢true t)
 carried-is noRow (row-answer.Row NoRow) t = refl
 carried-is noRow (row-answer.Refused m) t = absurd (false≢true t)
 carried-is unsaid r t = tt
+
+row-is : (n : ℕ) (r : carry-row.Row) → isRow n r ≡ true → Carries n ≡ r
+unfolding isRow
+row-is n (Carries m) e = ap Carries (sym (eqb-true m n e))
+row-is n NoRow e = absurd (false≢true e)
 
 all-fit : (j : Job) (ts : List (ℕ × ℕ × ℕ)) → allFit j ts ≡ true → (t : ℕ × ℕ × ℕ) → List·Memᴰ t ts → Fits j (t .0) (t .1) (t .2)
 unfolding allFit
@@ -142,17 +154,53 @@ whole-is n x y c z carries e w wx wy wz =
     let q = and-eq-true-iff (ltb x (2 ^ n) && (ltb y (2 ^ n) && ltb c 2)) (eqb ((x + y + c) % 2 ^ n) z && eqb (bitXor (bitXor x y) (x + y + c)) carries) .0 (p .1) in
     let small = and-eq-true-iff (ltb x (2 ^ n)) (ltb y (2 ^ n) && ltb c 2) .0 (q .0) in
     let small′ = and-eq-true-iff (ltb y (2 ^ n)) (ltb c 2) .0 (small .1) in
-    let told = and-eq-true-iff (eqb ((x + y + c) % 2 ^ n) z) (eqb (bitXor (bitXor x y) (x + y + c)) carries) .0 (q .1) in
+    let sums = and-eq-true-iff (eqb ((x + y + c) % 2 ^ n) z) (eqb (bitXor (bitXor x y) (x + y + c)) carries) .0 (q .1) in
     let length = within-holds leastLength mostLength n .0 (p .0) in
     subst (λ (k : ℕ). Replied (record { length = n; masks = addends n x y c; words = w }) (Found (record { x = x; y = y; z = z; carries = k })))
-    (eqb-true (bitXor (bitXor x y) (x + y + c)) carries (told .1))
+    (eqb-true (bitXor (bitXor x y) (x + y + c)) carries (sums .1))
     (subst
     (λ (k : ℕ). Replied (record { length = n; masks = addends n x y c; words = w }) (Found (record { x = x; y = y; z = k; carries = bitXor (bitXor x y) (x + y + c) })))
-    (eqb-true ((x + y + c) % 2 ^ n) z (told .0))
+    (eqb-true ((x + y + c) % 2 ^ n) z (sums .0))
     (sum-replied n x y c (length .0) (ltb-true x (2 ^ n) (small .0)) (ltb-true y (2 ^ n) (small′ .0)) (ltb-true c 2 (small′ .1)) (length .1) w wx wy wz))
 
-passes-holds : (x : Case) → passes x ≡ true → Holds x
-unfolding passes isCase
+found-is : (j : Job) (r1 r2 a b c carries : ℕ) → passes (found j r1 r2 a b c carries) ≡ true → Holds (found j r1 r2 a b c carries)
+unfolding passes
+found-is j r1 r2 a b c carries e =
+    let test : ℕ → ℕ → ℕ → Bool = λ x y z. notCloser r1 r2 a b x y in
+    let row-of = rowOf (j .setting .format) (j .setting .operation) a b in
+    let p = and-eq-true-iff (eqb (requestCause j r1 r2) 0) ((isCase j a b c && isRow carries row-of) && everyCase j test) .0 e in
+    let q = and-eq-true-iff (isCase j a b c && isRow carries row-of) (everyCase j test) .0 (p .1) in
+    let s = and-eq-true-iff (isCase j a b c) (isRow carries row-of) .0 (q .0) in
+    let none = eqb-true (requestCause j r1 r2) 0 (p .0) in
+    let fit = is-case j a b c (s .0) in (
+      none,
+      record {
+        fits = fit;
+        row = row-is carries row-of (s .1);
+        closest = record {
+          member = (c, fit);
+          least = λ x y m. not-closer r1 r2 a b x y (every-case j test (request-none j r1 r2 .0 none .valid) (q .1) x y (m .0) (m .1));
+        };
+      },
+    )
+
+refused-is : (j : Job) (k : ℕ) → passes (refused j k) ≡ true → Holds (refused j k)
+unfolding passes
+refused-is j k e r1 r2 h1 h2 =
+    let test : ℕ → ℕ → ℕ → Bool = λ x y z. false in
+    let p = and-eq-true-iff (eqb (jobCause j) 0) (eqb k cause.noCase && everyCase j test) .0 e in
+    let q = and-eq-true-iff (eqb k cause.noCase) (everyCase j test) .0 (p .1) in
+    let valid = job-none j .0 (eqb-true (jobCause j) 0 (p .0)) in
+    inr (
+      record {
+        taken = request-none j r1 r2 .1 (record { valid = valid; first-word = h1; second-word = h2 });
+        none = λ a b c f. false≢true (every-case j test valid (q .1) a b c f);
+      },
+      eqb-true k cause.noCase (q .0),
+    )
+
+passes-holds : (x : Claim) → passes x ≡ true → Holds x
+unfolding passes
 passes-holds (sum F operation mode a b c carried) e =
     let both = and-eq-true-iff (isWord (resultReply F operation mode a b) c) (isCarried carried (rowReply F operation a b)) .0 e in
     (word-is (resultReply F operation mode a b) c (both .0), carried-is carried (rowReply F operation a b) (both .1))
@@ -166,18 +214,11 @@ passes-holds (exactly j fitting) e =
         λ m. all-fit j fitting (q .0) (a, b, c) m,
       ),
     )
-passes-holds (chosen j r s a b) e =
-    let c = resultOf j a b in
-    let test : ℕ → ℕ → ℕ → Bool = λ x y z. notCloser r s a b x y in
-    let both = and-eq-true-iff (isCase j a b c) (everyCase j test) .0 e in
-    let valid = case-none j a b c .0 (eqb-true (caseCause j a b c) 0 (and-eq-true-iff (eqb (caseCause j a b c) 0) (fits j a b c) .0 (both .0) .0)) .0 in
-    record {
-      member = (c, is-case j a b c (both .0));
-      least = λ x y m. not-closer r s a b x y (every-case j test valid (both .1) x y (m .0) (m .1));
-    }
+passes-holds (found j r1 r2 a b c carries) e = found-is j r1 r2 a b c carries e
+passes-holds (refused j k) e = refused-is j k e
 passes-holds (wholeSum n x y carryIn z carries) e = whole-is n x y carryIn z carries e
 
-every-holds : (xs : List Case) → every xs ≡ true → (x : Case) → List·Memᴰ x xs → Holds x
+every-holds : (xs : List Claim) → every xs ≡ true → (x : Claim) → List·Memᴰ x xs → Holds x
 unfolding every
 every-holds [] t x m = absurd (List·Memᴰ·not-nil m)
 every-holds (y ∷ ys) t x m =
@@ -189,6 +230,6 @@ every-holds (y ∷ ys) t x m =
 
 -- ---- the table
 
-pub cases-hold : (x : Case) → List·Memᴰ x cases → Holds x
-unfolding every passes isWord isCarried allFit listed notCloser isWhole isCase everyCase everyWord fits satisfies caseCause jobCause settingCause masksCause maskCause formatCause operationCause modeCause wordCause resultCause rowCause size significand operandOf direction increment roundOff magnitudeWord overflowWord boundedWord cancelledSign finiteSum infiniteSum kindSum result gather finiteRow kindRow rowOf
+pub cases-hold : (x : Claim) → List·Memᴰ x cases → Holds x
+unfolding every passes isWord isCarried isRow allFit listed notCloser isWhole isCase everyCase everyWord fits satisfies caseCause jobCause settingCause requestCause masksCause maskCause formatCause operationCause modeCause wordCause resultCause rowCause size significand operandOf direction increment roundOff magnitudeWord overflowWord boundedWord cancelledSign finiteSum infiniteSum kindSum result gather finiteRow kindRow rowOf
 cases-hold = every-holds cases refl

@@ -1,13 +1,13 @@
 -- The cases that document 01 marks with ● ("Cases, in hexadecimal"), as rows of one table about the definitions.
--- A `Case` is a statement of one of the kinds that document 01 makes there, `Holds` is what it claims, and `cases` is the table.
+-- A `Claim` is a statement of one of the kinds that document 01 makes there, `Holds` is what it says, and `cases` is the table.
 -- Assumes nothing.
 use mathlib.Core.Path.{_≡_}
 use mathlib.Core.Logic.{_↔_}
 use mathlib.Core.List.{List, [], _∷_, _++_, List·Memᴰ}
 use Prim.Native.Nat.{ℕ, _^_, _<_}
 use Rattle.format.specs.declared.Format.{Format}
+use Rattle.format.specs.Format.{wordBits}
 use Rattle.mask.specs.declared.Mask.{Mask}
-use Rattle.choice.specs.Choice.{ClosestPair}
 use Rattle.job.specs.declared.Job.{Job}
 use Rattle.job.specs.Job.{jobCause}
 use Rattle.job.specs.Role.{maskedJob}
@@ -17,11 +17,13 @@ use Rattle.adder.specs.declared.RowReply.{RowReply}
 use Rattle.adder.specs.declared.RowReply.the-variants.{Row}
 use Rattle.adder.specs.Result.{resultReply}
 use Rattle.adder.specs.Row.{rowReply}
-use Rattle.fit.specs.Fit.{Fits, Fitting}
+use Rattle.fit.specs.Fit.{Fits}
+use Rattle.generator.specs.declared.Reply.the-variants as reply
+use Rattle.generator.specs.Promise as generator
 use Rattle.whole.specs.declared.Words.{Words}
-use Rattle.whole.specs.declared.Reply.the-variants.{Found}
+use Rattle.whole.specs.declared.Reply.the-variants as whole-reply
 use Rattle.whole.specs.Sum.{addends}
-use Rattle.whole.specs.Reply.{Replied}
+use Rattle.whole.specs.Reply as whole
 
 -- what a case says of the carry row: that it is a word, that there is none, or nothing
 pub data Carried : Type 0 where
@@ -29,41 +31,44 @@ pub data Carried : Type 0 where
   noRow : Carried
   unsaid : Carried
 
-pub data Case : Type 0 where
+pub data Claim : Type 0 where
   -- of a format, an operation, a mode, a and b: c, and the carry row
-  sum : Format → ℕ → ℕ → ℕ → ℕ → ℕ → Carried → Case
+  sum : Format → ℕ → ℕ → ℕ → ℕ → ℕ → Carried → Claim
   -- of a job: the cases (a, b, c) that fit, and no other does
-  exactly : Job → List (ℕ × ℕ × ℕ) → Case
-  -- of a job and two random words: a and b of the chosen case
-  chosen : Job → ℕ → ℕ → ℕ → ℕ → Case
+  exactly : Job → List (ℕ × ℕ × ℕ) → Claim
+  -- of a job and two random words: the reply is the case a, b, c with its carry row
+  found : Job → ℕ → ℕ → ℕ → ℕ → ℕ → ℕ → Claim
+  -- of a job: the reply is a number, whatever the random words
+  refused : Job → ℕ → Claim
   -- of whole numbers of a length, x, y and the carry in: z and the carries, whatever the random words
-  wholeSum : ℕ → ℕ → ℕ → ℕ → ℕ → ℕ → Case
+  wholeSum : ℕ → ℕ → ℕ → ℕ → ℕ → ℕ → Claim
 
 abbrev pub CarriedIs : Carried → RowReply → Type 0
 CarriedIs (row n) r = r ≡ Row (Carries n)
 CarriedIs noRow r = r ≡ Row NoRow
 CarriedIs unsaid r = Unit {0}
 
--- what a case claims
-abbrev pub Holds : Case → Type 0
+-- what a claim says
+abbrev pub Holds : Claim → Type 0
 Holds (sum F operation mode a b c carried) = (resultReply F operation mode a b ≡ Word c) × CarriedIs carried (rowReply F operation a b)
 Holds (exactly j fitting) = (jobCause j ≡ 0) × ((a b c : ℕ) → Fits j a b c ↔ List·Memᴰ (a, b, c) fitting)
-Holds (chosen j r s a b) = ClosestPair (Fitting j) r s a b
+Holds (found j r1 r2 a b c carries) = generator.Replied j r1 r2 (reply.Found (record { a = a; b = b; c = c; row = Carries carries }))
+Holds (refused j k) = (r1 r2 : ℕ) → r1 < 2 ^ wordBits (j .setting .format) → r2 < 2 ^ wordBits (j .setting .format) → generator.Replied j r1 r2 (reply.Refused k)
 Holds (wholeSum n x y carryIn z carries) =
     (w : Words) → w .x < 2 ^ n → w .y < 2 ^ n → w .z < 2 ^ n
-    → Replied (record { length = n; masks = addends n x y carryIn; words = w }) (Found (record { x = x; y = y; z = z; carries = carries }))
+    → whole.Replied (record { length = n; masks = addends n x y carryIn; words = w }) (whole-reply.Found (record { x = x; y = y; z = z; carries = carries }))
 
 -- format w = 3, f = 4, the eight-bit one of source document 000
 abbrev pub eight : Format
 eight = record { w = 3; f = 4 }
 
-abbrev pub add : ℕ → ℕ → ℕ → ℕ → Carried → Case
+abbrev pub add : ℕ → ℕ → ℕ → ℕ → Carried → Claim
 add mode a b c carried = sum eight 0 mode a b c carried
 
-abbrev pub subtract : ℕ → ℕ → ℕ → ℕ → Carried → Case
+abbrev pub subtract : ℕ → ℕ → ℕ → ℕ → Carried → Claim
 subtract mode a b c carried = sum eight 1 mode a b c carried
 
-abbrev pub everyMode : (ℕ → Case) → List Case
+abbrev pub everyMode : (ℕ → Claim) → List Claim
 everyMode at = at 0 ∷ at 1 ∷ at 2 ∷ at 3 ∷ []
 
 -- "Masks there: a 0100x101, b 001x1011, c 010xx10x (x free)": the job that adds in a mode, with a carry mask
@@ -76,52 +81,54 @@ abbrev pub nothingFixed : Mask
 nothingFixed = record { care = 0; value = 0 }
 
 -- 1. Add, mode 0: exactly (45, 2B, 4C) row 04 and (4D, 3B, 55) row 1D fit.
-abbrev pub case1 : List Case
+abbrev pub case1 : List Claim
 case1 =
     exactly (masked 0 nothingFixed) ((0x45, 0x2B, 0x4C) ∷ (0x4D, 0x3B, 0x55) ∷ []) ∷ add 0 0x45 0x2B 0x4C (row 0x04)
     ∷ add 0 0x4D 0x3B 0x55 (row 0x1D) ∷ []
 
 -- 2. Words 0, 0 give the first; 4D, 0 the second.
-abbrev pub case2 : List Case
-case2 = chosen (masked 0 nothingFixed) 0x00 0x00 0x45 0x2B ∷ chosen (masked 0 nothingFixed) 0x4D 0x00 0x4D 0x3B ∷ []
+abbrev pub case2 : List Claim
+case2 =
+    found (masked 0 nothingFixed) 0x00 0x00 0x45 0x2B 0x4C 0x04
+    ∷ found (masked 0 nothingFixed) 0x4D 0x00 0x4D 0x3B 0x55 0x1D ∷ []
 
 -- 3. Mode 3: only the second. Mode 2: only the first.
-abbrev pub case3 : List Case
+abbrev pub case3 : List Claim
 case3 = exactly (masked 3 nothingFixed) ((0x4D, 0x3B, 0x55) ∷ []) ∷ exactly (masked 2 nothingFixed) ((0x45, 0x2B, 0x4C) ∷ []) ∷ []
 
--- 4. Carry position 1 fixed to 1, mode 0: refusal 7, since no case fits.
-abbrev pub case4 : List Case
-case4 = exactly (masked 0 (record { care = 0x02; value = 0x02 })) [] ∷ []
+-- 4. Carry position 1 fixed to 1, mode 0: refusal 7.
+abbrev pub case4 : List Claim
+case4 = refused (masked 0 (record { care = 0x02; value = 0x02 })) 7 ∷ []
 
 -- 5. 30 - 30: 00, but 80 in mode 3.
-abbrev pub case5 : List Case
+abbrev pub case5 : List Claim
 case5 =
     subtract 0 0x30 0x30 0x00 unsaid ∷ subtract 1 0x30 0x30 0x00 unsaid ∷ subtract 2 0x30 0x30 0x00 unsaid
     ∷ subtract 3 0x30 0x30 0x80 unsaid ∷ []
 
 -- 6. 6F + 6F: 70 in modes 0 and 2, 6F in modes 1 and 3.
-abbrev pub case6 : List Case
+abbrev pub case6 : List Claim
 case6 = add 0 0x6F 0x6F 0x70 unsaid ∷ add 1 0x6F 0x6F 0x6F unsaid ∷ add 2 0x6F 0x6F 0x70 unsaid ∷ add 3 0x6F 0x6F 0x6F unsaid ∷ []
 
 -- 7. 70 - 70: 78. An infinite operand has no row.
-abbrev pub case7 : List Case
+abbrev pub case7 : List Claim
 case7 = everyMode (λ mode. subtract mode 0x70 0x70 0x78 noRow)
 
 -- 8. 0F + 01 = 10.
-abbrev pub case8 : List Case
+abbrev pub case8 : List Claim
 case8 = everyMode (λ mode. add mode 0x0F 0x01 0x10 unsaid)
 
 -- 9. 30 + 02: 30 in mode 0, 31 in mode 2. 31 + 02: 32 in mode 0.
-abbrev pub case9 : List Case
+abbrev pub case9 : List Claim
 case9 = add 0 0x30 0x02 0x30 unsaid ∷ add 2 0x30 0x02 0x31 unsaid ∷ add 0 0x31 0x02 0x32 unsaid ∷ []
 
 -- 10. 30 - 01: row 0F; 30 in mode 0, 2F in mode 3.
-abbrev pub case10 : List Case
+abbrev pub case10 : List Claim
 case10 = subtract 0 0x30 0x01 0x30 (row 0x0F) ∷ subtract 3 0x30 0x01 0x2F (row 0x0F) ∷ []
 
 -- 11. Whole numbers, N = 2, x 3, y 1, carry in 0: z 0, carries 6.
-abbrev pub case11 : List Case
+abbrev pub case11 : List Claim
 case11 = wholeSum 2 3 1 0 0 6 ∷ []
 
-abbrev pub cases : List Case
+abbrev pub cases : List Claim
 cases = case1 ++ case2 ++ case3 ++ case4 ++ case5 ++ case6 ++ case7 ++ case8 ++ case9 ++ case10 ++ case11

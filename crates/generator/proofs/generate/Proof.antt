@@ -31,7 +31,7 @@ case-of-requires c κs =
     let i = h .before in
     let a = i .before .before .args in
     let taken = request-none (a .job) (a .r1) (a .r2) .0 (sym (i .before .request-cause .ensures) ∙ i .if1 .left) in
-    let m = subst (Chosen (a .job) (a .r1) (a .r2)) (c .before .pair .given .1) (h .choose .ensures) .1 .member in
+    let m = subst (Chosen (a .job) _ _) (c .before .pair .given .1) (h .choose .ensures) .1 .member in
     fits-request (a .job) (c .before .pair .given .0 .0 .a) (c .before .pair .given .0 .0 .b) (m .0) (a .r1) (a .r2) taken (m .1)
 
 enum-told : tie.Need-enum-told
