@@ -79,6 +79,50 @@ fn mixed(random: &mut Random, word: u64, width: u32) -> Mask {
     mask(word, care(random, width, of_16))
 }
 
+/// The conditions of a job of a kind.
+fn conditions(random: &mut Random, adder: &Adder, kind: Kind) -> Conditions {
+    let format = adder.format;
+    let (width, precision) = (format.width(), format.precision());
+    let (w, f) = (format.exponent_bits(), format.fraction_bits());
+    let [operation, mode] = [adder.operation as u64, adder.mode as u64];
+    let mut conditions = Conditions::free(u64::from(w), u64::from(f), operation, mode);
+    let masks = [&mut conditions.a, &mut conditions.b, &mut conditions.c];
+    match kind {
+        Kind::Fixed { of_16, carries } => {
+            let case = any_case(random, adder);
+            for (place, word) in masks.into_iter().zip([case.a, case.b, case.c]) {
+                *place = mask(word, care(random, width, of_16));
+            }
+            if let (true, Some(row)) = (carries, case.row) {
+                conditions.carries = mask(row, care(random, precision, of_16));
+            }
+        }
+        Kind::Impossible => masks
+            .into_iter()
+            .for_each(|place| *place = mask(random.word(), (1 << f) - 1)),
+        Kind::Mixed => {
+            let case = any_case(random, adder);
+            for (place, word) in masks.into_iter().zip([case.a, case.b, case.c]) {
+                *place = mixed(random, word, width);
+            }
+            conditions.carries = mixed(random, case.row.unwrap_or(0), precision);
+        }
+        Kind::Signs => {
+            let sign = format.sign_bit();
+            for (place, word) in masks.into_iter().zip([0, 0, sign]) {
+                *place = mask(word, sign);
+            }
+        }
+    }
+    conditions
+}
+
+/// The case of a pair of words.
+fn any_case(random: &mut Random, adder: &Adder) -> Case {
+    let (a, b) = pair(random, adder.format);
+    Case::of(adder, a, b)
+}
+
 /// A job of a format with any operation and mode, of a kind. One that is to be impossible may
 /// have a case: `jobs` leaves such out.
 fn job(random: &mut Random, (w, f): (u64, u64), kind: Kind) -> Job {
@@ -87,40 +131,8 @@ fn job(random: &mut Random, (w, f): (u64, u64), kind: Kind) -> Job {
         _ => random.below(2),
     };
     let adder = Adder::new(w, f, operation, random.below(4)).expect("within the limits");
-    let (width, precision) = (adder.format.width(), adder.format.precision());
-    let mut conditions = Conditions::free(w, f, operation, adder.mode as u64);
-    match kind {
-        Kind::Fixed { of_16, carries } => {
-            let (a, b) = pair(random, adder.format);
-            let case = Case::of(&adder, a, b);
-            conditions.a = mask(case.a, care(random, width, of_16));
-            conditions.b = mask(case.b, care(random, width, of_16));
-            conditions.c = mask(case.c, care(random, width, of_16));
-            if let (true, Some(row)) = (carries, case.row) {
-                conditions.carries = mask(row, care(random, precision, of_16));
-            }
-        }
-        Kind::Impossible => {
-            let fraction = (1 << adder.format.fraction_bits()) - 1;
-            for mask_of in [&mut conditions.a, &mut conditions.b, &mut conditions.c] {
-                *mask_of = mask(random.word(), fraction);
-            }
-        }
-        Kind::Mixed => {
-            let (a, b) = pair(random, adder.format);
-            let case = Case::of(&adder, a, b);
-            conditions.a = mixed(random, case.a, width);
-            conditions.b = mixed(random, case.b, width);
-            conditions.c = mixed(random, case.c, width);
-            conditions.carries = mixed(random, case.row.unwrap_or(0), precision);
-        }
-        Kind::Signs => {
-            let sign = adder.format.sign_bit();
-            conditions.a = mask(0, sign);
-            conditions.b = mask(0, sign);
-            conditions.c = mask(sign, sign);
-        }
-    }
+    let conditions = conditions(random, &adder, kind);
+    let width = adder.format.width();
     let words = [random.bits(width), random.bits(width)];
     Job { conditions, words }
 }

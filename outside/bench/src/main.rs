@@ -1,10 +1,14 @@
 //! Times of the proved generators per job, and of z3 on the same jobs where it is installed.
 //!
-//! `bench [--seed N] [--jobs N] [--limit SECONDS] [--stack KIB] [--write]`: at least one job of
-//! each kind, 40 by default; z3 may spend the limit on a job, 20 seconds by default; every job
-//! runs on a thread with a stack of so many KiB, 256 by default; `--write` writes what is printed
-//! to docs/SPEED.md.
+//! `bench [--seed N] [--jobs N] [--limit SECONDS] [--stack KIB] [--alone] [--write]`: at least one
+//! job of each kind, 40 by default; z3 may spend the limit on a job, 20 seconds by default; every
+//! job runs on a thread with a stack of so many KiB, 256 by default; `--alone` asks no z3;
+//! `--write` writes what is printed to docs/SPEED.md.
+//!
+//! Where `VINDACSOR_LIBRARY` names an archive when this program is built, that is linked in place
+//! of target/staticlib/libvindacsor.a: so two builds can be timed one after the other.
 
+mod case_13;
 mod jobs;
 mod report;
 mod solver;
@@ -29,6 +33,7 @@ pub struct Options {
     pub limit: Duration,
     /// The stack of the thread on which every job runs, in KiB.
     pub stack: usize,
+    alone: bool,
     write: bool,
 }
 
@@ -38,6 +43,7 @@ fn options() -> Option<Options> {
         jobs: 40,
         limit: Duration::from_secs(20),
         stack: 256,
+        alone: false,
         write: false,
     };
     let mut words = std::env::args().skip(1);
@@ -47,6 +53,7 @@ fn options() -> Option<Options> {
             "--jobs" => options.jobs = words.next()?.parse().ok().filter(|&jobs| jobs > 0)?,
             "--limit" => options.limit = Duration::from_secs(words.next()?.parse().ok()?),
             "--stack" => options.stack = words.next()?.parse().ok()?,
+            "--alone" => options.alone = true,
             "--write" => options.write = true,
             _ => return None,
         }
@@ -138,35 +145,32 @@ fn whole_row(random: &mut Random, of_16: u64, possible: bool, name: &str, count:
     }
 }
 
+/// The rows of the case generator, beside z3 but for the last.
+fn case_rows(
+    random: &mut Random,
+    solver: &mut Option<Solver>,
+    count: usize,
+) -> Result<Vec<Row>, String> {
+    let single = ((8, 23), "single precision (8/23)");
+    let mut rows = Vec::new();
+    for format in [((5, 10), "half precision (5/10)"), single] {
+        for (name, kind) in KINDS {
+            rows.push(row(random, solver, format, (kind, name), count)?);
+        }
+    }
+    let mixed = (Kind::Mixed, "any share of each mask fixed");
+    rows.push(row(random, &mut None, single, mixed, count * MIXED)?);
+    Ok(rows)
+}
+
 fn run(options: &Options) -> Result<String, String> {
-    let version = solver::version();
+    let version = solver::version().filter(|_| !options.alone);
     let mut solver = match version {
         Some(_) => Some(Solver::start(options.limit).map_err(|error| format!("z3: {error}"))?),
         None => None,
     };
     let mut random = Random::new(options.seed);
-    let mut rows = Vec::new();
-    for format in [
-        ((5, 10), "half precision (5/10)"),
-        ((8, 23), "single precision (8/23)"),
-    ] {
-        for (name, kind) in KINDS {
-            rows.push(row(
-                &mut random,
-                &mut solver,
-                format,
-                (kind, name),
-                options.jobs,
-            )?);
-        }
-    }
-    rows.push(row(
-        &mut random,
-        &mut None,
-        ((8, 23), "single precision (8/23)"),
-        (Kind::Mixed, "any share of each mask fixed"),
-        options.jobs * MIXED,
-    )?);
+    let mut rows = case_rows(&mut random, &mut solver, options.jobs)?;
     for (of_16, possible, name) in [
         (1, true, "sparse"),
         (8, true, "half fixed"),
@@ -175,8 +179,10 @@ fn run(options: &Options) -> Result<String, String> {
     ] {
         rows.push(whole_row(&mut random, of_16, possible, name, options.jobs));
     }
+    let case_13 = case_13::case_13()?;
     let walks = walks::walks(options.seed, options.jobs)?;
-    Ok(report::report(options, version.as_deref(), &rows, walks))
+    let version = version.as_deref();
+    Ok(report::report(options, version, &rows, &case_13, walks))
 }
 
 fn main() -> ExitCode {
@@ -188,7 +194,9 @@ fn main() -> ExitCode {
         };
     }
     let Some(options) = options() else {
-        eprintln!("usage: bench [--seed N] [--jobs N] [--limit SECONDS] [--stack KIB] [--write]");
+        eprintln!(
+            "usage: bench [--seed N] [--jobs N] [--limit SECONDS] [--stack KIB] [--alone] [--write]"
+        );
         return ExitCode::from(2);
     };
     let write = options.write;

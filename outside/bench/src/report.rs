@@ -1,6 +1,9 @@
 //! The report: what docs/SPEED.md holds.
 
-use crate::times::{ratio, text, RUNS};
+use std::path::Path;
+
+use crate::case_13::{self, Spread};
+use crate::times::{microseconds, ratio, text, RUNS};
 use crate::walks::{formats, Walks};
 use crate::{Options, Row};
 
@@ -9,6 +12,7 @@ pub fn report(
     options: &Options,
     version: Option<&str>,
     rows: &[Row],
+    case_13: &[Spread],
     walks: Option<Vec<Walks>>,
 ) -> String {
     let compared: Vec<&Row> = rows.iter().filter(|row| row.other.is_some()).collect();
@@ -18,9 +22,10 @@ pub fn report(
             parts.push(headline(&compared));
             parts.push(comparison(version, options, &compared));
         }
-        None => parts.push("z3 was not installed, so there is no comparison.\n".to_string()),
+        None => parts.push("z3 was not asked, so there is no comparison.\n".to_string()),
     }
     parts.push(own(rows));
+    parts.push(signs(case_13));
     if let Some(walks) = walks {
         parts.push(columns(&walks));
     }
@@ -98,6 +103,22 @@ fn own(rows: &[Row]) -> String {
     table
 }
 
+/// Case 13, a line for each mode.
+fn signs(modes: &[Spread]) -> String {
+    let mut table = format!(
+        "## Document 01's case 13\n\n\
+         The one job: 8/23, + and + give -, nothing else fixed, both random words 0. The generator \
+         alone, {} runs in each mode, of which every one counts.\n\n\
+         | Mode | median, µs | 99 of 100 within, µs | largest, µs |\n|---|---|---|---|\n",
+        case_13::RUNS
+    );
+    for (mode, times) in modes.iter().enumerate() {
+        let columns = [times.median, times.nearly_all, times.largest].map(microseconds);
+        table += &format!("| {mode} | {} |\n", columns.join(" | "));
+    }
+    table
+}
+
 /// Walks over columns, one format beside the other.
 fn columns(walks: &[Walks]) -> String {
     let names = formats();
@@ -120,16 +141,28 @@ fn conditions(options: &Options, rows: &[Row]) -> String {
     let left_out: u64 = rows.iter().map(|row| row.left_out).sum();
     format!(
         "## How it was measured\n\n\
-         `rt staticlib vindacsor`, then `cargo run --release --offline --manifest-path \
+         {}, then `cargo run --release --offline --manifest-path \
          outside/bench/Cargo.toml -- --write`, on {}. Seed {:#x}. Each job is given {RUNS} times, \
          to z3 as to the generator, and the least time counts; the operation and the mode of each \
          are random. Masks are made around a true case, but those of impossible jobs, of which \
          {left_out} were drawn again because they had a case. All jobs ran on a thread with a stack \
          of {} KiB. That no job takes longer than the largest here is not shown.\n",
+        library(),
         machine(),
         options.seed,
         options.stack
     )
+}
+
+/// What was linked: the library that the toolchain writes, or the file that a variable names.
+fn library() -> String {
+    match option_env!("VINDACSOR_LIBRARY") {
+        None => "`rt staticlib vindacsor`".to_string(),
+        Some(path) => {
+            let name = Path::new(path).file_name().unwrap_or_default();
+            format!("Another library, `{}`", name.to_string_lossy())
+        }
+    }
 }
 
 /// The processor's name where the system tells it, and how many of them there are.

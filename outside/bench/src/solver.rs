@@ -66,7 +66,7 @@ impl Solver {
         &mut self,
         job: &Job,
         has_case: bool,
-        runs: u32,
+        runs: usize,
     ) -> std::io::Result<(Said, Duration)> {
         let (mut said, mut least) = self.ask(job, has_case)?;
         for _ in 1..runs {

@@ -4,16 +4,21 @@ use std::hint::black_box;
 use std::time::{Duration, Instant};
 
 /// How often each job is run; the least time counts.
-pub const RUNS: u32 = 7;
+pub const RUNS: usize = 7;
 
-/// The least time of a few runs of a call, whose reply is kept from being optimised away.
-pub fn least<R>(call: impl Fn() -> R) -> Duration {
+/// The time of each of some runs of a call, whose reply is kept from being optimised away.
+pub fn each<R>(runs: usize, call: impl Fn() -> R) -> Vec<Duration> {
     let time = |_| {
         let start = Instant::now();
         black_box(call());
         start.elapsed()
     };
-    (0..RUNS).map(time).min().expect("some runs")
+    (0..runs).map(time).collect()
+}
+
+/// The least time of a few runs of a call.
+pub fn least<R>(call: impl Fn() -> R) -> Duration {
+    each(RUNS, call).into_iter().min().expect("some runs")
 }
 
 /// The median, mean and largest of some times.
@@ -52,6 +57,11 @@ pub fn text(time: Duration) -> String {
     };
     let digits = usize::from(number < 100.0) + usize::from(number < 10.0);
     format!("{number:.digits$} {unit}")
+}
+
+/// A time in microseconds.
+pub fn microseconds(time: Duration) -> String {
+    format!("{:.1}", time.as_nanos() as f64 / 1e3)
 }
 
 /// How many times longer the first is.
