@@ -11,8 +11,8 @@ use Rattle.mask.specs.declared.Mask.{Mask}
 use Rattle.mask.specs.Mask.{Meets, WellFormed}
 use Rattle.job.specs.declared.Job.{Job}
 use Rattle.job.specs.Job.{Valid}
-use Rattle.adder.specs.Word.{allOnes}
-use Rattle.pair.specs.Asked.{signMask, exponentMask, fractionMask}
+use Rattle.word.specs.Word.{allOnes}
+use Rattle.word.specs.Masks.{signMask, exponentMask, fractionMask}
 use Rattle.pair.specs.Pair.{SomeSigns}
 
 -- the smaller field of the pair that stands for a class, whose larger one is f + 4: where the larger field is E and the smaller one e, as

@@ -1,6 +1,4 @@
 // The pair of exponent fields that stands for a class of pairs.
-use crate::fields::fraction_mask;
-use crate::fields::sign_mask;
 use crate::finite::some_signs;
 use crate::special::word_of;
 use bits::power;
@@ -9,6 +7,8 @@ use job::Job;
 use job::job_cause;
 use mask::Mask;
 use mask::mask_cause;
+use word::masks::fraction_mask;
+use word::masks::sign_mask;
 ghost use mathlib.Core.Bool.{true};
 ghost use mathlib.Core.Logic.{_↔_};
 ghost use mathlib.Core.Path.{_≡_};

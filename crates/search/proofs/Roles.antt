@@ -8,7 +8,7 @@ use Rattle.mask.specs.Mask.{WellFormed, Meets}
 use Rattle.fixing.proofs.Walk.{Replaced}
 use Rattle.job.specs.declared.Job.{Job}
 use Rattle.job.specs.Job.{Valid}
-use Rattle.adder.specs.Word.{biased}
+use Rattle.word.specs.Word.{biased}
 use Rattle.fit.specs.Fit.{Fits}
 use Rattle.search.specs.declared.Role.{Role}
 use Rattle.search.specs.declared.Role.the-variants.{A, B}

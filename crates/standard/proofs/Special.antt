@@ -3,13 +3,13 @@ use mathlib.Core.Path.{_≡_, refl, sym, ap₂, _∙_}
 use Prim.Native.Nat.{ℕ}
 use borrow.Author.Tests.{eq-eqb, ne-eqb}
 use Rattle.format.specs.declared.Format.{Format}
-use Rattle.adder.specs.declared.Operand as kind
-use Rattle.adder.specs.declared.Operand.the-variants.{Finite, Infinite, Nan}
-use Rattle.adder.specs.Word.{sign}
-use Rattle.adder.specs.Operand.{operandOf, finiteOf}
-use Rattle.adder.specs.Result.{effective, nan, infiniteSum, kindSum, result}
-use Rattle.adder.proofs.Fields.{effective-biased, effective-fraction}
-use Rattle.adder.proofs.ExactSum.{operand-finite}
+use Rattle.word.specs.declared.Operand as kind
+use Rattle.word.specs.declared.Operand.the-variants.{Finite, Infinite, Nan}
+use Rattle.word.specs.Word.{sign, effective}
+use Rattle.word.specs.Operand.{operandOf, finiteOf}
+use Rattle.adder.specs.Result.{nan, infiniteSum, kindSum, result}
+use Rattle.word.proofs.Fields.{effective-biased, effective-fraction}
+use Rattle.word.proofs.Canonical.{operand-finite}
 use Rattle.standard.specs.Number.{FiniteWord}
 use Rattle.standard.specs.Special.{InfiniteWord, NanWord, SpecialSum}
 

@@ -5,8 +5,8 @@ use Prim.Native.Nat.{ℕ, _^_, _<_}
 use native.Mathlib.Decide.{ℕ-discrete}
 use Rattle.format.specs.declared.Format.{Format}
 use Rattle.format.specs.Format.{Supported, wordBits}
-use Rattle.adder.specs.Word.{fraction, biased, sign, allOnes}
-use Rattle.adder.specs.Result.{effective, result}
+use Rattle.word.specs.Word.{fraction, biased, sign, allOnes, effective}
+use Rattle.adder.specs.Result.{result}
 use Rattle.standard.specs.Number.{FiniteWord}
 use Rattle.standard.specs.Special.{InfiniteWord, NanWord}
 use Rattle.standard.specs.Standard.{StandardSum}

@@ -3,8 +3,8 @@
 use mathlib.Core.Path.{_≡_}
 use Prim.Native.Nat.{ℕ}
 use Rattle.format.specs.declared.Format.{Format}
-use Rattle.adder.specs.Word.{fraction, biased, sign, allOnes}
-use Rattle.adder.specs.Result.{effective, nan, infinity}
+use Rattle.word.specs.Word.{fraction, biased, sign, allOnes, effective}
+use Rattle.adder.specs.Result.{nan, infinity}
 use Rattle.standard.specs.Number.{FiniteWord}
 
 -- e all ones and t = 0

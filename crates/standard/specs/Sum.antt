@@ -4,9 +4,8 @@ use mathlib.Core.Path.{_≡_}
 use Prim.Native.Nat.{ℕ, zero, suc, _-_, _≤_, _<_}
 use lib.IntN.{ℤ, pos, negsuc, natAbs, _+ℤ_, _-ℤ_}
 use Rattle.format.specs.declared.Format.{Format}
-use Rattle.adder.specs.Word.{sign, signed}
-use Rattle.adder.specs.Rounding.{infinityWord}
-use Rattle.adder.specs.Result.{effective, infinity}
+use Rattle.word.specs.Word.{sign, signed, infinityWord, effective}
+use Rattle.adder.specs.Result.{infinity}
 use Rattle.standard.specs.Representable.{largest}
 use Rattle.standard.specs.Number.{number, FiniteWord, RoundsTo}
 
