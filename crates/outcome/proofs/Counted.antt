@@ -18,12 +18,12 @@ use Rattle.format.specs.declared.Format.{Format}
 use Rattle.mask.specs.declared.Mask.{Mask}
 use Rattle.mask.specs.Mask.{Meets, meets, high}
 use Rattle.mask.proofs.Checks.{meets-true}
-use Rattle.adder.specs.declared.Direction.{Direction}
-use Rattle.adder.specs.Word.{signed}
-use Rattle.adder.specs.Rounding.{roundOff, direction}
-use Rattle.adder.proofs.Size.{size-zero}
+use Rattle.rounding.specs.declared.Direction.{Direction}
+use Rattle.word.specs.Word.{signed}
+use Rattle.rounding.specs.Rounding.{roundOff, direction}
+use Rattle.rounding.proofs.Size.{size-zero}
 use Rattle.outcome.specs.declared.Aligned as pair
-use Rattle.outcome.specs.declared.word.Fractions as fractions-of
+use Rattle.outcome.specs.declared.sought.Fractions as fractions-of
 use Rattle.outcome.specs.Outcome.{boundedHeld, zeroSign, outcome}
 use Rattle.outcome.specs.Question.{Made, Making, topped, OfDigits, keptOf, wordOf, Seeks}
 use Rattle.outcome.proofs.Topped.{topped-meets, size-none, anything}

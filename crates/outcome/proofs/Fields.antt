@@ -18,9 +18,9 @@ use Rattle.mask.specs.Mask as mask
 use Rattle.mask.specs.Mask.{Meets}
 use Rattle.mask.proofs.ByParts.{meets-parts}
 use Rattle.mask.proofs.Checks.{meets-true}
-use Rattle.adder.specs.declared.Direction.{Direction}
-use Rattle.adder.specs.Word.{allOnes, signed}
-use Rattle.adder.specs.Rounding.{infinityWord, overflowWord}
+use Rattle.rounding.specs.declared.Direction.{Direction}
+use Rattle.word.specs.Word.{allOnes, signed, infinityWord}
+use Rattle.rounding.specs.Rounding.{overflowWord}
 use Rattle.outcome.specs.Outcome.{droppedOf, heldWord, boundedHeld}
 use Rattle.outcome.specs.Question.{keptOf, wordOf, Seeks}
 use Rattle.outcome.proofs.Topped.{anything}

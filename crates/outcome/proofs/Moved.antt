@@ -12,11 +12,11 @@ use borrow.Author.Tests.{lt-ltb, le-ltb}
 use lib.Ieee.{size}
 use lib.Pow.{pow-pos}
 use Rattle.format.specs.declared.Format.{Format}
-use Rattle.adder.specs.declared.Direction.{Direction}
-use Rattle.adder.specs.Word.{allOnes, signed}
-use Rattle.adder.specs.Rounding.{direction, overflowWord, roundOff}
-use Rattle.adder.proofs.ResultLaws.{cancelled-lt}
-use Rattle.adder.proofs.Size.{size-zero}
+use Rattle.rounding.specs.declared.Direction.{Direction}
+use Rattle.word.specs.Word.{allOnes, signed}
+use Rattle.rounding.specs.Rounding.{direction, overflowWord, roundOff}
+use Rattle.rounding.proofs.Rounded.{cancelled-lt}
+use Rattle.rounding.proofs.Size.{size-zero}
 use Rattle.outcome.specs.Outcome.{boundedHeld, zeroSign, outcome}
 use Rattle.outcome.specs.Question.{keptOf, wordOf}
 use Rattle.outcome.specs.Class.{fieldAt}

@@ -13,12 +13,12 @@ use Rattle.mask.specs.declared.Mask.{Mask}
 use Rattle.mask.specs.Mask.{Inside, WellFormed, Meets}
 use Rattle.columns.specs.Column.{allows}
 use Rattle.chain.specs.Chain.{combined, carryOf}
-use Rattle.adder.specs.declared.Direction as way
-use Rattle.adder.specs.Word.{allOnes, signed}
-use Rattle.adder.specs.Rounding.{overflowWord}
-use Rattle.adder.specs.Sticky.{keptPart}
+use Rattle.rounding.specs.declared.Direction as way
+use Rattle.word.specs.Word.{allOnes, signed}
+use Rattle.rounding.specs.Rounding.{overflowWord}
+use Rattle.rounding.specs.Sticky.{keptPart}
 use Rattle.outcome.specs.declared.Aligned as pair
-use Rattle.outcome.specs.declared.word.Fractions as fractions-of
+use Rattle.outcome.specs.declared.sought.Fractions as fractions-of
 use Rattle.outcome.specs.Outcome.{Bounded}
 
 -- the masks of two aligned significands are those of numbers below 2^(f+4), and the carry mask has p bits

@@ -1,10 +1,10 @@
 // Questions about what two aligned significands make, put to the chain of two adders.
 use crate::Aligned;
 use crate::masks::raised;
-use adder::Direction;
 use chain::Wires;
 use mask::Joined;
 use mask::Mask;
+use rounding::Direction;
 ghost use mathlib.Core.Bool.{true};
 ghost use mathlib.Core.Logic.{_↔_};
 ghost use mathlib.Core.Path.{_≡_};
@@ -12,8 +12,8 @@ ghost use Prim.Native.Nat.{ℕ, _+_, _-_, _^_, _≤_, _<_};
 ghost use Rattle.bits.specs.Bit.{bit};
 ghost use Rattle.mask.specs.Mask.{Inside, Meets, raised};
 ghost use Rattle.mask.specs.declared.Mask.{Mask};
-ghost use Rattle.adder.specs.declared.Direction.the-variants.{Nearest};
-ghost use Rattle.adder.specs.Rounding.{roundOff};
+ghost use Rattle.rounding.specs.declared.Direction.the-variants.{Nearest};
+ghost use Rattle.rounding.specs.Rounding.{roundOff};
 ghost use Rattle.outcome.specs.Question.{Formed, Making};
 
 // Whether they make a number that meets x and, with a constant and a carry added, z. Three bits stand below a significand, so the carry

@@ -3,12 +3,12 @@ use crate::Aligned;
 use crate::ask::ask;
 use crate::ask::rounds;
 use crate::masks;
-use crate::word::Fractions;
-use crate::word::sought;
-use crate::word::zero_word;
-use adder::Direction;
+use crate::sought::Fractions;
+use crate::sought::sought;
+use crate::sought::zero_word;
 use format::Format;
 use mask::Mask;
+use rounding::Direction;
 ghost use mathlib.Core.Bool.{true, cond};
 ghost use mathlib.Core.Logic.{_↔_};
 ghost use mathlib.Core.Path.{_≡_};
@@ -17,7 +17,7 @@ ghost use lib.Dec.{ltb};
 ghost use lib.Ieee.{size};
 ghost use Rattle.format.specs.Format.{Supported};
 ghost use Rattle.mask.specs.Mask.{Meets};
-ghost use Rattle.adder.specs.Word.{signed};
+ghost use Rattle.word.specs.Word.{signed};
 ghost use Rattle.outcome.specs.Outcome.{boundedHeld, outcome};
 ghost use Rattle.outcome.specs.Question.{Formed, Making, keptOf};
 
@@ -138,6 +138,6 @@ pub(crate) fn fits(
     if count == 0 {
         return at_zero(format, mode, sign, aligned, c);
     }
-    let direction = adder::round::direction(mode, sign);
+    let direction = rounding::mode::direction(mode, sign);
     at_count(format, direction, sign, unit, aligned, c, count)
 }

@@ -6,7 +6,7 @@ use mask::Mask;
 mod ask;
 mod digits;
 mod masks;
-mod word;
+mod sought;
 
 ghost use mathlib.Core.Bool.{true};
 ghost use mathlib.Core.Logic.{_↔_};

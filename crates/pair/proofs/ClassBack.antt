@@ -15,14 +15,15 @@ use Rattle.mask.specs.Mask.{Meets, WellFormed}
 use Rattle.mask.proofs.ByParts.{fraction-formed}
 use Rattle.job.specs.declared.Job.{Job}
 use Rattle.job.specs.Job.{Valid}
-use Rattle.adder.specs.Word.{allOnes}
+use Rattle.word.specs.Word.{allOnes}
 use Rattle.outcome.specs.declared.Aligned as pair
 use Rattle.outcome.specs.Outcome.{outcome, Admits}
 use Rattle.outcome.specs.Question.{Making}
 use Rattle.outcome.specs.Class.{fieldAt}
 use Rattle.outcome.proofs.Admitted.{admits-making}
 use Rattle.outcome.proofs.Moved.{Moved}
-use Rattle.pair.specs.Asked.{signMask, exponentMask, fractionMask, PairFits}
+use Rattle.word.specs.Masks.{signMask, exponentMask, fractionMask}
+use Rattle.pair.specs.Asked.{PairFits}
 use Rattle.pair.specs.Pair.{unitAt, alignedOf, Larger, turned, Finites}
 use Rattle.pair.specs.Class.{lowField, classOf, aField, bField, withExponent, asking, onlyField, ClassAdmits, Classed}
 use Rattle.pair.proofs.Aligning.{low-two, low-same, fields-a, fields-b}

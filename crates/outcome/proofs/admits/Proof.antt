@@ -7,7 +7,7 @@ use Rattle.bits.proofs.Laws.{power-exact}
 use Rattle.format.specs.declared.Format.{Format}
 use Rattle.format.specs.Format.{Supported}
 use Rattle.format.proofs.Laws.{format-none}
-use Rattle.adder.proofs.Bounds.{exponent-power}
+use Rattle.word.proofs.Widths.{exponent-power}
 use Rattle.outcome.proofs.Admitted.{admits-making}
 use borrow.Author.Needs.{needs}
 use Rattle.outcome.proofs.admits.Statement.{statement}

@@ -1,7 +1,7 @@
 -- `pair::finite::unit_at` meets its contract. Assumes nothing.
 use mathlib.Core.Path.{_≡_, refl, sym, ap, ap₂, _∙_, subst}
 use Prim.Native.Nat.{ℕ, zero, suc, _+_, _-_, _*_, _/_, _%_, _^_, _≤_, _<_}
-use Rattle.adder.specs.declared.Unit as exponent
+use Rattle.word.specs.declared.Unit as exponent
 use borrow.Author.Needs.{needs}
 use Rattle.pair.proofs.finite.unit_at.Statement.{statement}
 use Rattle.pair.proofs.finite.unit_at.Tie as tie
