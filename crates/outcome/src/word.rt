@@ -1,4 +1,5 @@
 // The word c: what its mask leaves open for an exponent field, and the words that need no columns.
+use adder::Biased;
 use adder::Direction;
 use format::Format;
 use mask::Mask;
@@ -36,16 +37,16 @@ pub(crate) fn sought(
     direction: Direction,
     sign: u64,
     c: Mask,
-    exponent: u64,
+    exponent: Biased,
 ) -> Fractions
     requires { ⌜ Supported format × (sign < 2) ⌝ }
     ensures { λ r. ⌜ Seeks format direction sign c exponent r ⌝ }
 {
-    if exponent < (1 << format.w) - 1 {
+    if exponent.0 < (1 << format.w) - 1 {
         let above = mask::high(c, format.f);
         let fraction = mask::low(c, format.f);
         return Fractions {
-            possible: mask::meets(above, (sign << format.w) + exponent),
+            possible: mask::meets(above, (sign << format.w) + exponent.0),
             fraction,
         };
     }

@@ -73,9 +73,9 @@ pub record Summing (j : Job) (ea eb sa sb : ℕ) : Type 0 where
   pub sb-lt : sb < 2
   pub a-sign : Meets sa (signMask (j .format) (j .a))
   pub b-sign : Meets sb (signMask (j .format) (j .b))
-  pub sums : ((unitAt eb ≤ unitAt ea)
+  pub sums : ((unitAt eb .0 ≤ unitAt ea .0)
       × Summed (j .format) (j .mode) sa ea (turned (j .operation) sb) eb (fractionMask (j .format) (j .a)) (fractionMask (j .format) (j .b)) (j .carries) (j .c))
-      ⊎ ((unitAt ea ≤ unitAt eb)
+      ⊎ ((unitAt ea .0 ≤ unitAt eb .0)
       × Summed (j .format) (j .mode) (turned (j .operation) sb) eb sa ea (fractionMask (j .format) (j .b)) (fractionMask (j .format) (j .a)) (j .carries) (j .c))
 
 module _ (j : Job) (valid : Valid j) where
@@ -131,9 +131,9 @@ module _ (j : Job) (valid : Valid j) where
       carries = subst (λ (r : row.Row). RowMeets r (j .carries)) (row-numbers F (j .operation) (j .mode) a b na nb) (h .row)
 
       go : Dec (magnitude x < magnitude y)
-          → ((unitAt (biased F b .0) ≤ unitAt (biased F a .0))
+          → ((unitAt (biased F b .0) .0 ≤ unitAt (biased F a .0) .0)
           × Summed F (j .mode) (sign F a) (biased F a .0) (turned (j .operation) (sign F b)) (biased F b .0) (fractionMask F (j .a)) (fractionMask F (j .b)) (j .carries) (j .c))
-          ⊎ ((unitAt (biased F a .0) ≤ unitAt (biased F b .0))
+          ⊎ ((unitAt (biased F a .0) .0 ≤ unitAt (biased F b .0) .0)
           × Summed F (j .mode) (turned (j .operation) (sign F b)) (biased F b .0) (sign F a) (biased F a .0) (fractionMask F (j .b)) (fractionMask F (j .a)) (j .carries) (j .c))
       go (no l) =
           let le : magnitude y ≤ magnitude x = omega arith in
@@ -264,12 +264,12 @@ module _ (j : Job) (valid : Valid j) where
           ht : t < 2
           ht = mod-lt (sb + j .operation) (omega arith)
 
-          first-larger : (unitAt eb ≤ unitAt ea) × Summed F (j .mode) sa ea t eb (fractionMask F (j .a)) (fractionMask F (j .b)) (j .carries) (j .c) → PairFits j ea eb
+          first-larger : (unitAt eb .0 ≤ unitAt ea .0) × Summed F (j .mode) sa ea t eb (fractionMask F (j .a)) (fractionMask F (j .b)) (j .carries) (j .c) → PairFits j ea eb
           first-larger S =
               fits-from sa sb (S .1 .p) (S .1 .q) (Q .sa-lt) (Q .sb-lt) (S .1 .p-lt) (S .1 .q-lt) (Q .a-sign) (Q .b-sign) (S .1 .p-meets) (S .1 .q-meets) (S .1 .row-meets)
               (S .1 .sum-meets)
 
-          second-larger : (unitAt ea ≤ unitAt eb) × Summed F (j .mode) t eb sa ea (fractionMask F (j .b)) (fractionMask F (j .a)) (j .carries) (j .c) → PairFits j ea eb
+          second-larger : (unitAt ea .0 ≤ unitAt eb .0) × Summed F (j .mode) t eb sa ea (fractionMask F (j .b)) (fractionMask F (j .a)) (j .carries) (j .c) → PairFits j ea eb
           second-larger S =
               let y = number (F .f) t eb (S .1 .p) in
               let x = number (F .f) sa ea (S .1 .q) in

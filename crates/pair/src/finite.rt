@@ -2,6 +2,7 @@
 use crate::fields::fraction_mask;
 use crate::fields::sign_mask;
 use adder::Biased;
+use adder::Unit;
 use adder::exponent::unit_of;
 use job::Job;
 use mask::Mask;
@@ -22,10 +23,10 @@ ghost use Rattle.pair.specs.Asked.{exponentMask, fractionMask, PairFits}
 ghost use Rattle.pair.specs.Pair.{unitAt, alignedOf, FinitePair, SomeSigns, Finites, Larger, turned, Posed};
 
 // The exponent of the unit that goes with an exponent field.
-fn unit_at(e: u64) -> u64
+fn unit_at(e: u64) -> Unit
     ensures { λ r. ⌜ r ≡ unitAt e ⌝ }
 {
-    unit_of(Biased(e)).0
+    unit_of(Biased(e))
 }
 
 // Whether two operands, the one with the exponent field e and the fraction mask m the larger, sum as the job asks; `sign` is the
@@ -36,12 +37,12 @@ fn larger(job: Job, like: bool, sign: u64, e: u64, m: Mask, g: u64, n: Mask) -> 
 {
     let u = unit_at(e);
     let v = unit_at(g);
-    if u < v {
+    if u.0 < v.0 {
         return false;
     }
     let p = job.format.f + 1;
     let head = tail_mask(p, significand_mask(job.format.f, m, e), 0);
-    let tail = tail_mask(p, significand_mask(job.format.f, n, g), u - v);
+    let tail = tail_mask(p, significand_mask(job.format.f, n, g), u.0 - v.0);
     let carries = job.carries;
     let aligned = Aligned {
         like,
