@@ -2,16 +2,18 @@
 
 use second::arith::Adder;
 use second::choice::{free_bits, generate, Job};
-use second::fits::{confirm, Case};
+use second::fits::{confirm, Case, Conditions};
 use second::format::{Refusal, CUT_SHORT};
 use second::random::Random;
 use second::record::{encode, read, Reply};
-use second::sample::{job, numbers, pair};
+use second::sample::{job, numbers, pair, unrelated_job};
+use second::signs::refusal;
 use second::table::Table;
 use vindacsor::buffer;
 
 use crate::call::{self, compare, Tally};
 use crate::damage::{damage_file, damaged_word};
+use crate::numbers::every_adder;
 
 /// The job that a function which wants one takes from a file.
 fn job_in(file: &[u8]) -> Result<Job, Refusal> {
@@ -143,7 +145,7 @@ fn generation(
 }
 
 /// The generator in every format of at most `WIDTH` bits, each operation and mode, with `each`
-/// jobs for each of them.
+/// jobs for each of them. Every fifth has masks that are made around no case.
 pub fn small_generations(random: &mut Random, each: u64) -> Result<Tally, String> {
     const WIDTH: u64 = 8;
     let mut tally = Tally::default();
@@ -154,11 +156,53 @@ pub fn small_generations(random: &mut Random, each: u64) -> Result<Tally, String
         for [operation, mode] in (0..8).map(|n| [n / 4, n % 4]) {
             let adder = Adder::new(w, f, operation, mode).expect("within the limits");
             let table = Table::new(adder).expect("a small format");
-            for _ in 0..each {
-                let care = random.below(6);
-                let job = job(random, [w, f, operation, mode], care);
+            for n in 0..each {
+                let numbers = [w, f, operation, mode];
+                let job = match n % 5 {
+                    0 => unrelated_job(random, numbers),
+                    _ => {
+                        let care = random.below(6);
+                        job(random, numbers, care)
+                    }
+                };
                 generation(random, &mut tally, &record(&job), table.generate(&job))?;
             }
+        }
+    }
+    Ok(tally)
+}
+
+/// A job that fixes the effective signs of a and b to + and that of c to −, and other bits too
+/// where `more` holds.
+fn signs_job(random: &mut Random, numbers: [u64; 4], more: bool) -> Job {
+    let [w, f, operation, mode] = numbers;
+    let (sign, plus) = (1 << (w + f), operation << (w + f));
+    let mut job = unrelated_job(random, numbers);
+    if !more {
+        job.conditions = Conditions::free(w, f, operation, mode);
+    }
+    let masks = &mut job.conditions;
+    for (mask, bit) in [
+        (&mut masks.a, 0),
+        (&mut masks.b, plus),
+        (&mut masks.c, sign),
+    ] {
+        mask.care |= sign;
+        mask.value = mask.value & !sign | bit;
+    }
+    job
+}
+
+/// The generator on jobs without a case because of their signs, in every format, each operation
+/// and mode: one that fixes nothing else, and `each` that do. Document 01's case 13 is the
+/// former, in format 8/23 and operation 0.
+pub fn sign_generations(random: &mut Random, each: u64) -> Result<Tally, String> {
+    let mut tally = Tally::default();
+    for adder in every_adder() {
+        for n in 0..=each {
+            let job = signs_job(random, adder, n > 0);
+            let number = refusal(&job).expect("a job that its signs decide");
+            generation(random, &mut tally, &record(&job), Err(number))?;
         }
     }
     Ok(tally)

@@ -14,7 +14,7 @@ const SEED: u64 = 0x5EED;
 type Part = fn(&mut Random, u64) -> Result<Tally, String>;
 
 /// Each part with how many calls, files or jobs it makes.
-const PARTS: [(&str, Part, u64); 8] = [
+const PARTS: [(&str, Part, u64); 10] = [
     ("rounded result", numbers::results, 4_000_000),
     ("carry row", numbers::rows, 4_000_000),
     ("joining", numbers::joinings, 200_000),
@@ -27,7 +27,18 @@ const PARTS: [(&str, Part, u64); 8] = [
         files::wide_generations,
         20_000,
     ),
+    // 1,232 adders of every format, so 4,928 jobs.
+    (
+        "generator, any format, no case by signs",
+        files::sign_generations,
+        3,
+    ),
     ("whole numbers", whole::generations, 40_000),
+    (
+        "short whole numbers, masks at random",
+        whole::short_generations,
+        15_000,
+    ),
 ];
 
 fn run(seed: u64) -> Result<(), String> {

@@ -22,12 +22,18 @@ struct Sum {
     b: u64,
 }
 
-/// Every format, operation and mode in turn.
-fn adders() -> impl Iterator<Item = [u64; 4]> {
+/// Every format, operation and mode.
+pub fn every_adder() -> Vec<[u64; 4]> {
     let formats =
         (SMALLEST_W..=LARGEST_W).flat_map(|w| (SMALLEST_F..=LARGEST_F).map(move |f| (w, f)));
-    let turns = formats.flat_map(|(w, f)| (0..8).map(move |n| [w, f, n / 4, n % 4]));
-    turns.collect::<Vec<_>>().into_iter().cycle()
+    formats
+        .flat_map(|(w, f)| (0..8).map(move |n| [w, f, n / 4, n % 4]))
+        .collect()
+}
+
+/// Every format, operation and mode in turn, again and again.
+fn adders() -> impl Iterator<Item = [u64; 4]> {
+    every_adder().into_iter().cycle()
 }
 
 /// A sum of the given format, operation and mode; one in six has a number or two that are not

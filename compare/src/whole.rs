@@ -48,6 +48,24 @@ fn job(random: &mut Random) -> WholeJob {
     job
 }
 
+/// A job of a length of at most 3 whose masks are made around no case, each with about half of
+/// its bits fixed.
+fn short_job(random: &mut Random) -> WholeJob {
+    let n = 1 + random.below(3) as u32;
+    let mut any = |width| {
+        let word = random.bits(width);
+        around(random, word, width, 4)
+    };
+    WholeJob {
+        n: u64::from(n),
+        x: any(n),
+        y: any(n),
+        z: any(n),
+        carries: any(n + 1),
+        words: [0; 3].map(|_: u64| random.bits(n)),
+    }
+}
+
 fn damage(random: &mut Random, job: &mut WholeJob, n: u32) {
     match random.below(4) {
         0 => job.n = damaged_number(random, 33),
@@ -71,27 +89,41 @@ fn is_quick(job: &WholeJob) -> bool {
         .map_or(true, |n| job.x.free_bits(n) + job.y.free_bits(n) <= FREE)
 }
 
+/// The generator on a job, held against the second implementation.
+fn generation(random: &mut Random, tally: &mut Tally, job: &WholeJob) -> Result<(), String> {
+    let reply = generate_whole(job).map(|case| vec![case.x, case.y, case.z, case.carries]);
+    let asked = vindacsor::WholeJob {
+        length: job.n,
+        x: given(job.x),
+        y: given(job.y),
+        z: given(job.z),
+        carries: given(job.carries),
+        words: job.words,
+    };
+    let call = |out: &mut [u8]| buffer::whole(&asked, out);
+    compare(random, tally, &reply, call, || {
+        format!("whole numbers {job:x?}")
+    })
+}
+
 /// Whole numbers, on `count` jobs.
 pub fn generations(random: &mut Random, count: u64) -> Result<Tally, String> {
     let mut tally = Tally::default();
     while tally.calls() < count {
         let job = job(random);
-        if !is_quick(&job) {
-            continue;
+        if is_quick(&job) {
+            generation(random, &mut tally, &job)?;
         }
-        let reply = generate_whole(&job).map(|case| vec![case.x, case.y, case.z, case.carries]);
-        let asked = vindacsor::WholeJob {
-            length: job.n,
-            x: given(job.x),
-            y: given(job.y),
-            z: given(job.z),
-            carries: given(job.carries),
-            words: job.words,
-        };
-        let call = |out: &mut [u8]| buffer::whole(&asked, out);
-        compare(random, &mut tally, &reply, call, || {
-            format!("whole numbers {job:x?}")
-        })?;
+    }
+    Ok(tally)
+}
+
+/// Whole numbers of a length of at most 3, on `count` jobs.
+pub fn short_generations(random: &mut Random, count: u64) -> Result<Tally, String> {
+    let mut tally = Tally::default();
+    for _ in 0..count {
+        let job = short_job(random);
+        generation(random, &mut tally, &job)?;
     }
     Ok(tally)
 }

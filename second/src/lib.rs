@@ -15,6 +15,7 @@
 //! - `fits`: conditions, the definition of a fitting case, confirmation
 //! - `choice`: jobs and the generator by trying pairs
 //! - `table`: the same search for many jobs over one small format
+//! - `signs`: jobs that their signs alone leave without a case, in every format
 //! - `whole`: the whole-number generator
 //! - `record`: job records and job files
 //! - `listing`: what the listing program prints
@@ -34,6 +35,7 @@ pub mod random;
 pub mod record;
 pub mod row;
 pub mod sample;
+pub mod signs;
 pub mod table;
 pub mod whole;
 pub mod wide;

@@ -134,6 +134,26 @@ pub fn job(random: &mut Random, numbers: [u64; 4], care_a_b: u64) -> Job {
     Job { conditions, words }
 }
 
+/// A job that is not refused with 1 to 6, whose masks are made around no case: each fixes about
+/// a quarter, a half or three quarters of its bits, at random.
+pub fn unrelated_job(random: &mut Random, numbers: [u64; 4]) -> Job {
+    let [w, f, operation, mode] = numbers;
+    let format = Format::new(w, f).expect("numbers within their limits");
+    let width = format.width();
+    let care = 2 + 2 * random.below(3);
+    let mut any = |width| {
+        let word = random.bits(width);
+        mask_around(random, word, width, care)
+    };
+    let mut conditions = Conditions::free(w, f, operation, mode);
+    conditions.a = any(width);
+    conditions.b = any(width);
+    conditions.c = any(width);
+    conditions.carries = any(format.precision());
+    let words = [random.bits(width), random.bits(width)];
+    Job { conditions, words }
+}
+
 /// A mask that a word meets, with about `care` of 8 bits fixed.
 fn mask_around(random: &mut Random, word: u64, width: u32, care: u64) -> Mask {
     let care = (0..width)

@@ -7,6 +7,7 @@ use second::fits::{confirm, Case, Conditions};
 use second::format::{Refusal, F_OUT_OF_RANGE, NO_CASE, W_OUT_OF_RANGE};
 use second::mask::Mask;
 use second::row::carry_row;
+use second::signs::refusal;
 use second::whole::{generate_whole, WholeCase, WholeJob};
 
 const FIRST: Case = Case {
@@ -193,24 +194,34 @@ fn case_12_limits() {
     }
 }
 
-/// Signs of a and b fixed to 0 and c's to 1, in small formats, since trying all pairs of
-/// 32-bit words is out of reach.
+/// Signs of a and b fixed to 0 and c's to 1.
+fn fixed_signs(w: u64, f: u64, mode: u64) -> Conditions {
+    let sign = 1 << (w + f);
+    let mut conditions = Conditions::free(w, f, 0, mode);
+    conditions.a = Mask {
+        care: sign,
+        value: 0,
+    };
+    conditions.b = conditions.a;
+    conditions.c = Mask {
+        care: sign,
+        value: sign,
+    };
+    conditions
+}
+
+/// By trying all pairs of words in small formats, and in every format, 8/23 among them, by the
+/// rule about signs.
 #[test]
-fn case_13_in_small_formats() {
-    for (w, f) in [(2, 2), (2, 3), (3, 2), (3, 4), (2, 5), (5, 2)] {
-        let sign = 1 << (w + f);
+fn case_13_signs() {
+    for (w, f) in (2..=8).flat_map(|w| (2..=23).map(move |f| (w, f))) {
         for mode in 0..4 {
-            let mut job = Conditions::free(w, f, 0, mode);
-            job.a = Mask {
-                care: sign,
-                value: 0,
-            };
-            job.b = job.a;
-            job.c = Mask {
-                care: sign,
-                value: sign,
-            };
-            assert_eq!(choose(job, 0, 0), Err(NO_CASE));
+            let conditions = fixed_signs(w, f, mode);
+            if w + f < 8 {
+                assert_eq!(choose(conditions, 0, 0), Err(NO_CASE));
+            }
+            let words = [0, 0];
+            assert_eq!(refusal(&Job { conditions, words }), Some(NO_CASE));
         }
     }
 }

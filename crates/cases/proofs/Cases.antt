@@ -13,7 +13,7 @@ use Rattle.format.specs.Limits.{leastLength, mostLength, within}
 use Rattle.format.specs.Format.{formatCause, operationCause, modeCause, wordCause}
 use Rattle.format.proofs.Laws.{within-holds}
 use Rattle.mask.specs.Mask.{maskCause}
-use Rattle.columns.specs.Choice.{Farther}
+use Rattle.choice.specs.Choice.{Farther}
 use Rattle.columns.proofs.Some.{or-cases}
 use Rattle.job.specs.declared.Job.{Job}
 use Rattle.job.specs.Job.{masksCause, jobCause}

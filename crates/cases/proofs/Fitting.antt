@@ -15,7 +15,7 @@ use Rattle.cases.proofs.Words.{implies, implies-elim, everyWord, every-
 
 -- the rounded result of a job's a and b
 abbrev pub resultOf : Job → ℕ → ℕ → ℕ
-resultOf j a b = result (j .format) (j .operation) (j .mode) a b
+resultOf j a b = result (j .setting .format) (j .setting .operation) (j .setting .mode) a b
 
 unfoldable pub isCase : Job → ℕ → ℕ → ℕ → Bool
 isCase j a b c = eqb (caseCause j a b c) 0 && fits j a b c
@@ -28,15 +28,15 @@ is-case j a b c e =
 
 unfoldable pub everyCase : Job → (ℕ → ℕ → ℕ → Bool) → Bool
 everyCase j test =
-    everyWord (j .a) (wordBits (j .format)) (λ a. everyWord (j .b) (wordBits (j .format)) (λ b. implies (fits j a b (resultOf j a b)) (test a b (resultOf j a b))))
+    everyWord (j .a .mask) (wordBits (j .setting .format)) (λ a. everyWord (j .b .mask) (wordBits (j .setting .format)) (λ b. implies (fits j a b (resultOf j a b)) (test a b (resultOf j a b))))
 
 pub every-case : (j : Job) (test : ℕ → ℕ → ℕ → Bool) → Valid j → everyCase j test ≡ true → (a b c : ℕ) → Fits j a b c → test a b c ≡ true
 unfolding everyCase
 every-case j test valid e a b c f =
-    let width = wordBits (j .format) in
+    let width = wordBits (j .setting .format) in
     let inner : ℕ → ℕ → Bool = λ a b. implies (fits j a b (resultOf j a b)) (test a b (resultOf j a b)) in
-    let at-a = every-word (j .a) width (λ a. everyWord (j .b) width (inner a)) (valid .a) e a (f .a-word) (f .a-meets) in
-    let at-b : inner a b ≡ true = every-word (j .b) width (inner a) (valid .b) at-a b (f .b-word) (f .b-meets) in
-    let fit : fits j a b c ≡ true = fits-true j a b c (record { a-word = f .a-word; b-word = f .b-word; c-word = f .c-word }) .1 f in
-    let at-c : implies (fits j a b c) (test a b c) ≡ true = subst (λ (u : ℕ). implies (fits j a b u) (test a b u) ≡ true) (sym (f .sum)) at-b in
+    let at-a = every-word (j .a .mask) width (λ a. everyWord (j .b .mask) width (inner a)) (valid .a .mask) e a (f .right .a-word) (f .satisfies .a-allowed .mask) in
+    let at-b : inner a b ≡ true = every-word (j .b .mask) width (inner a) (valid .b .mask) at-a b (f .right .b-word) (f .satisfies .b-allowed .mask) in
+    let fit : fits j a b c ≡ true = fits-true j a b c (record { a-word = f .right .a-word; b-word = f .right .b-word; c-word = f .right .c-word }) .1 f in
+    let at-c : implies (fits j a b c) (test a b c) ≡ true = subst (λ (u : ℕ). implies (fits j a b u) (test a b u) ≡ true) (sym (f .right .sum)) at-b in
     implies-elim (fits j a b c) (test a b c) at-c fit

@@ -7,7 +7,7 @@ use mathlib.Core.List.{List, [], _∷_, _++_, List·Memᴰ}
 use Prim.Native.Nat.{ℕ, _^_, _<_}
 use Rattle.format.specs.declared.Format.{Format}
 use Rattle.mask.specs.declared.Mask.{Mask}
-use Rattle.columns.specs.Choice.{ClosestPair}
+use Rattle.choice.specs.Choice.{ClosestPair}
 use Rattle.job.specs.declared.Job.{Job}
 use Rattle.job.specs.Job.{jobCause}
 use Rattle.adder.specs.declared.Reply.the-variants.{Word}
@@ -68,12 +68,10 @@ everyMode at = at 0 ∷ at 1 ∷ at 2 ∷ at 3 ∷ []
 -- "Masks there: a 0100x101, b 001x1011, c 010xx10x (x free)": the job that adds in a mode, with a carry mask
 abbrev pub masked : ℕ → Mask → Job
 masked mode carries = record {
-  format = eight;
-  operation = 0;
-  mode = mode;
-  a = record { care = 0xF7; value = 0x45 };
-  b = record { care = 0xEF; value = 0x2B };
-  c = record { care = 0xE6; value = 0x44 };
+  setting = record { format = eight; operation = 0; mode = mode };
+  a = record { mask = record { care = 0xF7; value = 0x45 } };
+  b = record { mask = record { care = 0xEF; value = 0x2B } };
+  c = record { mask = record { care = 0xE6; value = 0x44 } };
   carries = carries;
 }
 

@@ -3,7 +3,4 @@ pub mod Carry
 pub mod Borrow
 pub mod Some
 pub mod Reach
-pub mod Closest
-pub mod Narrow
-pub mod Pair
-pub mod Follow
+pub mod Product

@@ -1,4 +1,4 @@
 pub mod Carry
 pub mod Column
 pub mod Machine
-pub mod Choice
+pub mod Product

@@ -1,14 +1,17 @@
--- A case fits a job (document 01, "Masks and choice"), and the reply about a proposed case ("Causes and replies").
--- Fitting is stated twice: as a record, which laws and contracts read, and as a Bool, which confirmation computes; `proofs/Laws.antt` has
--- that they say the same. Neither runs a search. Assumes nothing.
+-- A case fits a job (document 01, "Masks and choice"): it is right in the job's setting, and it meets what the job states. Beside that the
+-- reply about a proposed case ("Causes and replies"). Each statement comes twice: as a record, which laws and contracts read, and as a Bool,
+-- which confirmation computes; `proofs/Laws.antt` has that they say the same. Neither runs a search. Assumes nothing.
 use mathlib.Core.Path.{_≡_}
 use mathlib.Core.Bool.{Bool, true, false, _&&_}
 use Prim.Native.Nat.{ℕ, zero, suc, _^_, _<_}
-use lib.Dec.{eqb, ltb}
+use lib.Dec.{eqb}
+use Rattle.format.specs.declared.Format.{Format}
 use Rattle.format.specs.Cause.{first}
 use Rattle.format.specs.Format.{wordBits, wordCause}
 use Rattle.mask.specs.declared.Mask.{Mask}
 use Rattle.mask.specs.Mask.{Meets, meets}
+use Rattle.job.specs.declared.Setting.{Setting}
+use Rattle.job.specs.declared.Wanted.{Wanted}
 use Rattle.job.specs.declared.Job.{Job}
 use Rattle.job.specs.Job.{jobCause}
 use Rattle.adder.specs.declared.Row as row
@@ -17,6 +20,32 @@ use Rattle.adder.specs.Result.{result}
 use Rattle.adder.specs.Row.{rowOf}
 use Rattle.fit.specs.declared.Confirmed as reply
 use Rattle.fit.specs.declared.Confirmed.the-variants.{Yes, No, Refused}
+
+-- ---- right
+
+-- c of a and b in a setting
+abbrev pub resultIn : Setting → ℕ → ℕ → ℕ
+resultIn S a b = result (S .format) (S .operation) (S .mode) a b
+
+-- the row of a and b in a setting
+abbrev pub rowIn : Setting → ℕ → ℕ → row.Row
+rowIn S a b = rowOf (S .format) (S .operation) a b
+
+-- three words of the format, and "c is the rounded result"
+pub record Right (S : Setting) (a b c : ℕ) : Type 0 where
+  pub a-word : a < 2 ^ wordBits (S .format)
+  pub b-word : b < 2 ^ wordBits (S .format)
+  pub c-word : c < 2 ^ wordBits (S .format)
+  pub sum : c ≡ resultIn S a b
+
+-- ---- what a job states
+
+-- a word of the format is as wanted: it agrees with every fixed bit
+pub record Allowed (F : Format) (x : ℕ) (W : Wanted) : Type 0 where
+  pub mask : Meets x (W .mask)
+
+abbrev pub allowed : Format → ℕ → Wanted → Bool
+allowed F x W = meets x (W .mask)
 
 -- the row agrees with every fixed bit; where there is no row, only a carry mask that fixes no bit is met ("The carry row")
 abbrev pub RowMeets : row.Row → Mask → Type 0
@@ -27,33 +56,42 @@ abbrev pub rowMeets : row.Row → Mask → Bool
 rowMeets (Carries r) m = meets r m
 rowMeets NoRow m = eqb (m .care) 0
 
+-- "its words and its row agree with every fixed bit"
+pub record Satisfies (j : Job) (a b c : ℕ) : Type 0 where
+  pub a-allowed : Allowed (j .setting .format) a (j .a)
+  pub b-allowed : Allowed (j .setting .format) b (j .b)
+  pub c-allowed : Allowed (j .setting .format) c (j .c)
+  pub row : RowMeets (rowIn (j .setting) a b) (j .carries)
+
+-- the same as a test
+unfoldable pub satisfies : Job → ℕ → ℕ → ℕ → Bool
+satisfies j a b c =
+    allowed (j .setting .format) a (j .a) && allowed (j .setting .format) b (j .b) && allowed (j .setting .format) c (j .c)
+    && rowMeets (rowIn (j .setting) a b) (j .carries)
+
+-- ---- fits
+
 -- "A case (a, b, c) fits when its words and its row agree with every fixed bit and c is the rounded result"
 pub record Fits (j : Job) (a b c : ℕ) : Type 0 where
-  pub a-word : a < 2 ^ wordBits (j .format)
-  pub b-word : b < 2 ^ wordBits (j .format)
-  pub c-word : c < 2 ^ wordBits (j .format)
-  pub a-meets : Meets a (j .a)
-  pub b-meets : Meets b (j .b)
-  pub c-meets : Meets c (j .c)
-  pub sum : c ≡ result (j .format) (j .operation) (j .mode) a b
-  pub row : RowMeets (rowOf (j .format) (j .operation) a b) (j .carries)
+  pub right : Right (j .setting) a b c
+  pub satisfies : Satisfies j a b c
 
 -- a and b are the operands of a fitting case
 abbrev pub Fitting : Job → ℕ → ℕ → Type 0
 Fitting j a b = (c : ℕ) × Fits j a b c
 
--- c is the rounded result and agrees with its mask
-abbrev pub sumMeets : Job → ℕ → ℕ → ℕ → Bool
-sumMeets j a b c = eqb (result (j .format) (j .operation) (j .mode) a b) c && meets c (j .c)
-
 -- the same of three words of the format, as a test
 unfoldable pub fits : Job → ℕ → ℕ → ℕ → Bool
-fits j a b c = meets a (j .a) && meets b (j .b) && sumMeets j a b c && rowMeets (rowOf (j .format) (j .operation) a b) (j .carries)
+fits j a b c = eqb (resultIn (j .setting) a b) c && satisfies j a b c
+
+-- ---- the reply
 
 -- "Order": 1 to 5 against the job, then 6 against the three proposed words
 unfoldable pub caseCause : Job → ℕ → ℕ → ℕ → ℕ
 caseCause j a b c =
-    first (jobCause j) (first (wordCause (wordBits (j .format)) a) (first (wordCause (wordBits (j .format)) b) (wordCause (wordBits (j .format)) c)))
+    first (jobCause j)
+    (first (wordCause (wordBits (j .setting .format)) a)
+    (first (wordCause (wordBits (j .setting .format)) b) (wordCause (wordBits (j .setting .format)) c)))
 
 abbrev pub answer : Bool → reply.Confirmed
 answer true = Yes

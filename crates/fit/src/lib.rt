@@ -4,18 +4,21 @@ use adder::Row;
 use adder::RowReply;
 use adder::carry_row::carry_row;
 use adder::result::rounded_result;
+use format::Format;
 use format::first;
 use format::word_cause;
 use job::Job;
+use job::Setting;
+use job::Wanted;
 use job::job_cause;
 use mask::Mask;
 use mask::meets;
 ghost use mathlib.Core.Path.{_≡_};
 ghost use Prim.Native.Nat.{_^_, _<_};
+ghost use lib.Dec.{eqb};
 ghost use Rattle.format.specs.Format.{wordBits};
-ghost use Rattle.job.specs.Job.{Valid};
-ghost use Rattle.fit.specs.Fit.{rowMeets, sumMeets, fits, caseCause, confirmedReply};
-ghost use Rattle.adder.specs.Row.{rowOf};
+ghost use Rattle.job.specs.Job.{ValidSetting, Valid};
+ghost use Rattle.fit.specs.Fit.{resultIn, rowIn, allowed, rowMeets, satisfies, fits, caseCause, confirmedReply};
 
 // The answer about a proposed case: it fits, it does not, or the number of the refusal.
 pub enum Confirmed {
@@ -32,11 +35,18 @@ pub fn case_cause(job: Job, a: u64, b: u64, c: u64) -> u64
     if cause != 0 {
         return cause;
     }
-    let width = job.format.w + job.format.f + 1;
+    let width = job.setting.format.w + job.setting.format.f + 1;
     first(
         word_cause(width, a),
         first(word_cause(width, b), word_cause(width, c)),
     )
+}
+
+// Whether a word of the format is as wanted.
+fn allowed(format: Format, w: Wanted, x: u64) -> bool
+    ensures { λ r. ⌜ r ≡ allowed format x w ⌝ }
+{
+    meets(w.mask, x)
 }
 
 // Whether a row agrees with the carry mask; where there is no row, only a mask that fixes no bit does.
@@ -49,34 +59,46 @@ fn row_meets(row: Row, carries: Mask) -> bool
     }
 }
 
-// Whether the row of a and b agrees with the job's carry mask.
-fn carries_meet(job: Job, a: u64, b: u64) -> bool
-    requires { ⌜ Valid job × (a < 2 ^ wordBits (job .format)) × (b < 2 ^ wordBits (job .format)) ⌝ }
-    ensures { λ r. ⌜ r ≡ rowMeets (rowOf (job .format) (job .operation) a b) (job .carries) ⌝ }
+// Whether the row of a and b agrees with a carry mask.
+fn carries_meet(setting: Setting, carries: Mask, a: u64, b: u64) -> bool
+    requires { ⌜ ValidSetting setting × (a < 2 ^ wordBits (setting .format)) × (b < 2 ^ wordBits (setting .format)) ⌝ }
+    ensures { λ r. ⌜ r ≡ rowMeets (rowIn setting a b) carries ⌝ }
 {
-    match carry_row(job.format, job.operation, a, b) {
-        RowReply::Row(row) => row_meets(row, job.carries),
+    match carry_row(setting.format, setting.operation, a, b) {
+        RowReply::Row(row) => row_meets(row, carries),
         RowReply::Refused(_) => false,
     }
 }
 
-// Whether c is the rounded result of a and b and agrees with its mask.
-fn sum_meets(job: Job, a: u64, b: u64, c: u64) -> bool
-    requires { ⌜ Valid job × (a < 2 ^ wordBits (job .format)) × (b < 2 ^ wordBits (job .format)) ⌝ }
-    ensures { λ r. ⌜ r ≡ sumMeets job a b c ⌝ }
+// Whether c is the rounded result of a and b.
+fn right(setting: Setting, a: u64, b: u64, c: u64) -> bool
+    requires { ⌜ ValidSetting setting × (a < 2 ^ wordBits (setting .format)) × (b < 2 ^ wordBits (setting .format)) ⌝ }
+    ensures { λ r. ⌜ r ≡ eqb (resultIn setting a b) c ⌝ }
 {
-    match rounded_result(job.format, job.operation, job.mode, a, b) {
-        Reply::Word(word) => (word == c) & meets(job.c, c),
+    match rounded_result(setting.format, setting.operation, setting.mode, a, b) {
+        Reply::Word(word) => word == c,
         Reply::Refused(_) => false,
     }
 }
 
+// Whether a case meets what the job states.
+fn satisfies(job: Job, a: u64, b: u64, c: u64) -> bool
+    requires { ⌜ Valid job × (a < 2 ^ wordBits (job .setting .format)) × (b < 2 ^ wordBits (job .setting .format)) ⌝ }
+    ensures { λ r. ⌜ r ≡ satisfies job a b c ⌝ }
+{
+    let setting = job.setting;
+    allowed(setting.format, job.a, a)
+        & allowed(setting.format, job.b, b)
+        & allowed(setting.format, job.c, c)
+        & carries_meet(setting, job.carries, a, b)
+}
+
 // Whether three words of the format fit.
 fn fits(job: Job, a: u64, b: u64, c: u64) -> bool
-    requires { ⌜ Valid job × (a < 2 ^ wordBits (job .format)) × (b < 2 ^ wordBits (job .format)) × (c < 2 ^ wordBits (job .format)) ⌝ }
+    requires { ⌜ Valid job × (a < 2 ^ wordBits (job .setting .format)) × (b < 2 ^ wordBits (job .setting .format)) × (c < 2 ^ wordBits (job .setting .format)) ⌝ }
     ensures { λ r. ⌜ r ≡ fits job a b c ⌝ }
 {
-    meets(job.a, a) & meets(job.b, b) & sum_meets(job, a, b, c) & carries_meet(job, a, b)
+    right(job.setting, a, b, c) & satisfies(job, a, b, c)
 }
 
 // Yes exactly when the case fits the job, no when it does not, or the number of the refusal.

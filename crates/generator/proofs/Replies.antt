@@ -5,7 +5,7 @@ use mathlib.Core.Logic.{inl, inr, _↔_}
 use Prim.Native.Nat.{ℕ}
 use native.Mathlib.Omega.{arith}
 use Rattle.format.specs.Cause as cause
-use Rattle.columns.proofs.Pair.{pair-unique, pair-self}
+use Rattle.choice.proofs.Pair.{pair-unique, pair-self}
 use Rattle.job.specs.declared.Job.{Job}
 use Rattle.job.specs.Job.{jobCause, requestCause}
 use Rattle.job.proofs.Laws.{job-none, request-none}
@@ -46,8 +46,8 @@ none-exactly j r1 r2 (Refused k) e (inr p) = (λ q. p .0 .none, λ none. ap Refu
 
 -- every fitting case is the reply to some two random words, its operands
 pub every-case : (j : Job) (a b c : ℕ) → jobCause j ≡ 0 → Fits j a b c
-    → Replied j a b (Found (record { a = a; b = b; c = c; row = rowOf (j .format) (j .operation) a b }))
+    → Replied j a b (Found (record { a = a; b = b; c = c; row = rowOf (j .setting .format) (j .setting .operation) a b }))
 every-case j a b c e f = (
-  request-none j a b .1 (record { valid = job-none j .0 e; first-word = f .a-word; second-word = f .b-word }),
+  request-none j a b .1 (record { valid = job-none j .0 e; first-word = f .right .a-word; second-word = f .right .b-word }),
   record { fits = f; row = refl; closest = pair-self (Fitting j) a b (c, f) },
 )

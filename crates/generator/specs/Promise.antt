@@ -4,25 +4,23 @@ use mathlib.Core.Path.{_≡_}
 use mathlib.Core.Logic.{_⊎_}
 use Prim.Native.Nat.{ℕ, _<_}
 use Rattle.format.specs.Cause as cause
-use Rattle.columns.specs.Choice.{ClosestPair}
+use Rattle.choice.specs.Choice.{ClosestPair}
 use Rattle.job.specs.declared.Job.{Job}
 use Rattle.job.specs.Job.{requestCause}
-use Rattle.adder.specs.Result.{result}
-use Rattle.adder.specs.Row.{rowOf}
-use Rattle.fit.specs.Fit.{Fits, Fitting}
+use Rattle.fit.specs.Fit.{resultIn, rowIn, Fits, Fitting}
 use Rattle.generator.specs.declared.Case.{Case}
 use Rattle.generator.specs.declared.Reply.{Reply}
 use Rattle.generator.specs.declared.Reply.the-variants.{Found, Refused}
 
 -- the case of two operands: "c follows from a and b", and so does the row
 abbrev pub caseOf : Job → ℕ → ℕ → Case
-caseOf j a b = record { a = a; b = b; c = result (j .format) (j .operation) (j .mode) a b; row = rowOf (j .format) (j .operation) a b }
+caseOf j a b = record { a = a; b = b; c = resultIn (j .setting) a b; row = rowIn (j .setting) a b }
 
 -- x fits and has its row, and every other fitting case has a larger a exclusive-or the first word, or the same a and a larger b
 -- exclusive-or the second
 pub record Chosen (j : Job) (r1 r2 : ℕ) (x : Case) : Type 0 where
   pub fits : Fits j (x .a) (x .b) (x .c)
-  pub row : x .row ≡ rowOf (j .format) (j .operation) (x .a) (x .b)
+  pub row : x .row ≡ rowIn (j .setting) (x .a) (x .b)
   pub closest : ClosestPair (Fitting j) r1 r2 (x .a) (x .b)
 
 -- no cause stands, and no three words fit

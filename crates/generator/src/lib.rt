@@ -31,9 +31,15 @@ pub enum Reply {
 // The rounded result of a and b.
 fn result_of(job: Job, a: u64, b: u64) -> u64
     requires { ⌜ Request job a b ⌝ }
-    ensures { λ r. ⌜ r ≡ result (job .format) (job .operation) (job .mode) a b ⌝ }
+    ensures { λ r. ⌜ r ≡ result (job .setting .format) (job .setting .operation) (job .setting .mode) a b ⌝ }
 {
-    match rounded_result(job.format, job.operation, job.mode, a, b) {
+    match rounded_result(
+        job.setting.format,
+        job.setting.operation,
+        job.setting.mode,
+        a,
+        b,
+    ) {
         adder::Reply::Word(word) => word,
         adder::Reply::Refused(_) => 0,
     }
@@ -42,9 +48,9 @@ fn result_of(job: Job, a: u64, b: u64) -> u64
 // The carry row of a and b.
 fn row_of(job: Job, a: u64, b: u64) -> Row
     requires { ⌜ Request job a b ⌝ }
-    ensures { λ r. ⌜ r ≡ rowOf (job .format) (job .operation) a b ⌝ }
+    ensures { λ r. ⌜ r ≡ rowOf (job .setting .format) (job .setting .operation) a b ⌝ }
 {
-    match carry_row(job.format, job.operation, a, b) {
+    match carry_row(job.setting.format, job.setting.operation, a, b) {
         RowReply::Row(row) => row,
         RowReply::Refused(_) => Row::NoRow,
     }

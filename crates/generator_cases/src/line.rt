@@ -1,5 +1,4 @@
 // A line for each case: what was asked, what came, and whether that is what was expected.
-use crate::sample::Tally;
 use adder::Row;
 use generator::Case;
 use generator::Reply;
@@ -72,15 +71,4 @@ pub fn put_reply(reply: Reply) {
             io::print_decimal(STDOUT_FILENO, number);
         }
     }
-}
-
-pub fn put_tally(tally: Tally) {
-    io::print_decimal(STDOUT_FILENO, tally.jobs);
-    io::write_all(STDOUT_FILENO, b" jobs, ");
-    io::print_decimal(STDOUT_FILENO, tally.found);
-    io::write_all(STDOUT_FILENO, b" found, ");
-    io::print_decimal(STDOUT_FILENO, tally.none);
-    io::write_all(STDOUT_FILENO, b" none, ");
-    io::print_decimal(STDOUT_FILENO, tally.unlike);
-    io::write_all(STDOUT_FILENO, b" unlike\nend\n");
 }

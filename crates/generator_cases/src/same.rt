@@ -16,7 +16,7 @@ fn same_row(one: Row, other: Row) -> bool {
     }
 }
 
-pub fn same_case(one: Case, other: Case) -> bool {
+fn same_case(one: Case, other: Case) -> bool {
     let words = (one.a == other.a) & (one.b == other.b) & (one.c == other.c);
     let row = one.row;
     let expected = other.row;

@@ -1,40 +1,56 @@
--- A job: a format, an operation, a mode and the four masks (document 01, "Masks and choice", "Causes and replies").
--- `jobCause` is the first cause against it, 0 for none, and `requestCause` that against it and two random words; `Valid` and `Request` say
--- as facts that there is none. Assumes nothing.
+-- A job: a setting (format, operation, mode), and what is wanted of the words a, b, c and of the carry row (document 01, "Masks and choice",
+-- "Causes and replies"). `jobCause` is the first cause against it, 0 for none, and `requestCause` that against it and two random words;
+-- `Valid` and `Request` say as facts that there is none. Assumes nothing.
 use Prim.Native.Nat.{ℕ, _^_, _≤_, _<_}
+use Rattle.format.specs.declared.Format.{Format}
 use Rattle.format.specs.Cause.{first}
 use Rattle.format.specs.Limits.{mostOperation, mostMode}
 use Rattle.format.specs.Format.{wordBits, precision, Supported, formatCause, operationCause, modeCause, wordCause}
 use Rattle.mask.specs.Mask.{WellFormed, maskCause}
+use Rattle.job.specs.declared.Setting.{Setting}
+use Rattle.job.specs.declared.Wanted.{Wanted}
 use Rattle.job.specs.declared.Job.{Job}
+
+-- "Order": 1 and 2, 3, 4
+unfoldable pub settingCause : Setting → ℕ
+settingCause S = first (formatCause (S .format)) (first (operationCause (S .operation)) (modeCause (S .mode)))
 
 -- 5 for the masks of a, b and c, whose width is the word's, then of the carries, whose width is p
 unfoldable pub masksCause : Job → ℕ
 masksCause j =
-    first (maskCause (wordBits (j .format)) (j .a))
-    (first (maskCause (wordBits (j .format)) (j .b))
-    (first (maskCause (wordBits (j .format)) (j .c)) (maskCause (precision (j .format)) (j .carries))))
+    first (maskCause (wordBits (j .setting .format)) (j .a .mask))
+    (first (maskCause (wordBits (j .setting .format)) (j .b .mask))
+    (first (maskCause (wordBits (j .setting .format)) (j .c .mask)) (maskCause (precision (j .setting .format)) (j .carries))))
 
--- "Order: 1 to 7, each where it applies": 1 and 2, 3, 4, then 5
+-- "Order: 1 to 7, each where it applies": 1 to 4, then 5
 unfoldable pub jobCause : Job → ℕ
-jobCause j = first (formatCause (j .format)) (first (operationCause (j .operation)) (first (modeCause (j .mode)) (masksCause j)))
+jobCause j = first (settingCause (j .setting)) (masksCause j)
+
+-- no cause stands against a setting
+pub record ValidSetting (S : Setting) : Type 0 where
+  pub format : Supported (S .format)
+  pub operation : S .operation ≤ mostOperation
+  pub mode : S .mode ≤ mostMode
+
+-- no cause stands against what is wanted of a word of the format
+pub record ValidWanted (F : Format) (W : Wanted) : Type 0 where
+  pub mask : WellFormed (wordBits F) (W .mask)
 
 -- no cause stands against the job
 pub record Valid (j : Job) : Type 0 where
-  pub format : Supported (j .format)
-  pub operation : j .operation ≤ mostOperation
-  pub mode : j .mode ≤ mostMode
-  pub a : WellFormed (wordBits (j .format)) (j .a)
-  pub b : WellFormed (wordBits (j .format)) (j .b)
-  pub c : WellFormed (wordBits (j .format)) (j .c)
-  pub carries : WellFormed (precision (j .format)) (j .carries)
+  pub setting : ValidSetting (j .setting)
+  pub a : ValidWanted (j .setting .format) (j .a)
+  pub b : ValidWanted (j .setting .format) (j .b)
+  pub c : ValidWanted (j .setting .format) (j .c)
+  pub carries : WellFormed (precision (j .setting .format)) (j .carries)
 
 -- "Order": 1 to 5 against the job, then 6 against the two random words
 unfoldable pub requestCause : Job → ℕ → ℕ → ℕ
-requestCause j r1 r2 = first (jobCause j) (first (wordCause (wordBits (j .format)) r1) (wordCause (wordBits (j .format)) r2))
+requestCause j r1 r2 =
+    first (jobCause j) (first (wordCause (wordBits (j .setting .format)) r1) (wordCause (wordBits (j .setting .format)) r2))
 
 -- none of these stands: the job is valid and the words are words of its format
 pub record Request (j : Job) (r1 r2 : ℕ) : Type 0 where
   pub valid : Valid j
-  pub first-word : r1 < 2 ^ wordBits (j .format)
-  pub second-word : r2 < 2 ^ wordBits (j .format)
+  pub first-word : r1 < 2 ^ wordBits (j .setting .format)
+  pub second-word : r2 < 2 ^ wordBits (j .setting .format)

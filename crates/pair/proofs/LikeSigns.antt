@@ -58,20 +58,20 @@ module _ (j : Job) (v : Valid j) (ea eb : ℕ) where
   unfolding signLeft
   posed-left sa sb ha hb P =
       ap₂ _&&_
-      (ap₂ _&&_ (meets-true sa (signMask (j .format) (j .a)) .1 (P .a-sign)) (meets-true sb (signMask (j .format) (j .b)) .1 (P .b-sign)))
-      (go (eqb sa (turned (j .operation) sb)) refl)
+      (ap₂ _&&_ (meets-true sa (signMask (j .setting .format) (j .a .mask)) .1 (P .a-sign)) (meets-true sb (signMask (j .setting .format) (j .b .mask)) .1 (P .b-sign)))
+      (go (eqb sa (turned (j .setting .operation) sb)) refl)
     where
-      of-c : sa ≡ turned (j .operation) sb → Meets sa (signMask (j .format) (j .c))
+      of-c : sa ≡ turned (j .setting .operation) sb → Meets sa (signMask (j .setting .format) (j .c .mask))
       of-c e =
           ⊎-elim
-          (λ s. like-sign (j .format) (v .format) (j .mode) sa _ _ (j .c) (v .c) ha (eq-eqb sa (turned (j .operation) sb) e) (s .1))
+          (λ s. like-sign (j .setting .format) (v .setting .format) (j .setting .mode) sa _ _ (j .c .mask) (v .c .mask) ha (eq-eqb sa (turned (j .setting .operation) sb) e) (s .1))
           (λ s.
-          subst (λ (n : ℕ). Meets n (signMask (j .format) (j .c))) (sym e)
-          (like-sign (j .format) (v .format) (j .mode) (turned (j .operation) sb) _ _ (j .c) (v .c) (mod-lt (sb + j .operation) (omega arith)) (eq-eqb (turned (j .operation) sb) sa (sym e)) (s .1)))
+          subst (λ (n : ℕ). Meets n (signMask (j .setting .format) (j .c .mask))) (sym e)
+          (like-sign (j .setting .format) (v .setting .format) (j .setting .mode) (turned (j .setting .operation) sb) _ _ (j .c .mask) (v .c .mask) (mod-lt (sb + j .setting .operation) (omega arith)) (eq-eqb (turned (j .setting .operation) sb) sa (sym e)) (s .1)))
           (P .sums)
 
-      go : (t : Bool) → eqb sa (turned (j .operation) sb) ≡ t → (not t || meets sa (signMask (j .format) (j .c))) ≡ true
-      go true q = meets-true sa (signMask (j .format) (j .c)) .1 (of-c (eqb-true sa (turned (j .operation) sb) q))
+      go : (t : Bool) → eqb sa (turned (j .setting .operation) sb) ≡ t → (not t || meets sa (signMask (j .setting .format) (j .c .mask))) ≡ true
+      go true q = meets-true sa (signMask (j .setting .format) (j .c .mask)) .1 (of-c (eqb-true sa (turned (j .setting .operation) sb) q))
       go false q = refl
 
 or-true : (t : Bool) → (t || true) ≡ true

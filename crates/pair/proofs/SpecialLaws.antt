@@ -52,45 +52,44 @@ any-none n test e f = rw (e, f)
 
 module _ (j : Job) (valid : Valid j) where
   -- two words and their rounded result
-  three : (a b : ℕ) → a < 2 ^ wordBits (j .format) → b < 2 ^ wordBits (j .format) → Words j a b (result (j .format) (j .operation) (j .mode) a b)
-  three a b ha hb = record { a-word = ha; b-word = hb; c-word = result-lt (j .format) (valid .format) (j .operation) (j .mode) a b }
+  three : (a b : ℕ) → a < 2 ^ wordBits (j .setting .format) → b < 2 ^ wordBits (j .setting .format) → Words (j .setting .format) a b (result (j .setting .format) (j .setting .operation) (j .setting .mode) a b)
+  three a b ha hb = record { a-word = ha; b-word = hb; c-word = result-lt (j .setting .format) (valid .setting .format) (j .setting .operation) (j .setting .mode) a b }
 
   -- the reply about them is their rounded result
-  pub result-replied : (a b : ℕ) → a < 2 ^ wordBits (j .format) → b < 2 ^ wordBits (j .format)
-      → resultReply (j .format) (j .operation) (j .mode) a b ≡ Word (result (j .format) (j .operation) (j .mode) a b)
-  result-replied a b ha hb = result-word (j .format) (j .operation) (j .mode) a b (words-fit j valid a b ha hb) (valid .mode)
+  pub result-replied : (a b : ℕ) → a < 2 ^ wordBits (j .setting .format) → b < 2 ^ wordBits (j .setting .format)
+      → resultReply (j .setting .format) (j .setting .operation) (j .setting .mode) a b ≡ Word (result (j .setting .format) (j .setting .operation) (j .setting .mode) a b)
+  result-replied a b ha hb = result-word (j .setting .format) (j .setting .operation) (j .setting .mode) a b (words-fit (j .setting) (valid .setting) a b ha hb) (valid .setting .mode)
 
-  pub together-fits : (a b : ℕ) → a < 2 ^ wordBits (j .format) → b < 2 ^ wordBits (j .format)
-      → together j a b ≡ true ↔ Fits j a b (result (j .format) (j .operation) (j .mode) a b)
+  pub together-fits : (a b : ℕ) → a < 2 ^ wordBits (j .setting .format) → b < 2 ^ wordBits (j .setting .format)
+      → together j a b ≡ true ↔ Fits j a b (result (j .setting .format) (j .setting .operation) (j .setting .mode) a b)
   unfolding together
-  together-fits a b ha hb = fits-true j a b (result (j .format) (j .operation) (j .mode) a b) (three a b ha hb)
+  together-fits a b ha hb = fits-true j a b (result (j .setting .format) (j .setting .operation) (j .setting .mode) a b) (three a b ha hb)
 
   -- of operands with a fitting case, one of them infinite or a NaN, others of their kinds that meet the masks fit together
-  alike-together : {a a' b b' c : ℕ} → Fits j a b c → (biased (j .format) a .0 ≡ allOnes (j .format)) ⊎ (biased (j .format) b .0 ≡ allOnes (j .format))
-      → Alike (j .format) a a' → Alike (j .format) b b' → a' < 2 ^ wordBits (j .format) → b' < 2 ^ wordBits (j .format)
-      → Meets a' (j .a) → Meets b' (j .b) → together j a' b' ≡ true
+  alike-together : {a a' b b' c : ℕ} → Fits j a b c → (biased (j .setting .format) a .0 ≡ allOnes (j .setting .format)) ⊎ (biased (j .setting .format) b .0 ≡ allOnes (j .setting .format))
+      → Alike (j .setting .format) a a' → Alike (j .setting .format) b b' → a' < 2 ^ wordBits (j .setting .format) → b' < 2 ^ wordBits (j .setting .format)
+      → Meets a' (j .a .mask) → Meets b' (j .b .mask) → together j a' b' ≡ true
   alike-together {a} {a'} {b} {b'} {c} h special la lb ha hb ma mb =
       together-fits a' b' ha hb .1 record {
-        a-word = ha;
-        b-word = hb;
-        c-word = result-lt (j .format) (valid .format) (j .operation) (j .mode) a' b';
-        a-meets = ma;
-        b-meets = mb;
-        c-meets = rw same at (h .c-meets);
-        sum = refl;
-        row = rw row at (h .row);
+        right = record { a-word = ha; b-word = hb; c-word = result-lt (j .setting .format) (valid .setting .format) (j .setting .operation) (j .setting .mode) a' b'; sum = refl };
+        satisfies = record {
+          a-allowed = record { mask = ma };
+          b-allowed = record { mask = mb };
+          c-allowed = record { mask = rw same at (h .satisfies .c-allowed .mask) };
+          row = rw row at (h .satisfies .row);
+        };
       }
     where
-      same : c ≡ result (j .format) (j .operation) (j .mode) a' b'
-      same = h .sum ∙ alike-result (j .format) (j .operation) (j .mode) la lb special
+      same : c ≡ result (j .setting .format) (j .setting .operation) (j .setting .mode) a' b'
+      same = h .right .sum ∙ alike-result (j .setting .format) (j .setting .operation) (j .setting .mode) la lb special
 
-      alike-special : (biased (j .format) a .0 ≡ allOnes (j .format)) ⊎ (biased (j .format) b .0 ≡ allOnes (j .format))
-          → (biased (j .format) a' .0 ≡ allOnes (j .format)) ⊎ (biased (j .format) b' .0 ≡ allOnes (j .format))
+      alike-special : (biased (j .setting .format) a .0 ≡ allOnes (j .setting .format)) ⊎ (biased (j .setting .format) b .0 ≡ allOnes (j .setting .format))
+          → (biased (j .setting .format) a' .0 ≡ allOnes (j .setting .format)) ⊎ (biased (j .setting .format) b' .0 ≡ allOnes (j .setting .format))
       alike-special (inl e) = inl (sym (la .like-exponent) ∙ e)
       alike-special (inr e) = inr (sym (lb .like-exponent) ∙ e)
 
-      row : rowOf (j .format) (j .operation) a b ≡ rowOf (j .format) (j .operation) a' b'
-      row = special-row (j .format) (j .operation) a b special ∙ sym (special-row (j .format) (j .operation) a' b' (alike-special special))
+      row : rowOf (j .setting .format) (j .setting .operation) a b ≡ rowOf (j .setting .format) (j .setting .operation) a' b'
+      row = special-row (j .setting .format) (j .setting .operation) a b special ∙ sym (special-row (j .setting .format) (j .setting .operation) a' b' (alike-special special))
 
 -- ---- the pair
 
@@ -98,58 +97,58 @@ module _ (j : Job) (ea eb : ℕ) (asked : Asked j ea eb) where
   pub admitted-sound : admitted j ea eb ≡ true → PairFits j ea eb
   unfolding admitted partnered
   admitted-sound e =
-      let k = any-some 4 (λ k. partnered j (representative (j .format) (j .a) ea k) eb) .0 e in
-      let l = any-some 4 (λ l. together j (representative (j .format) (j .a) ea (k .at)) (representative (j .format) (j .b) eb l)) .0 (k .holds) in
-      let a = representative (j .format) (j .a) ea (k .at) in
-      let b = representative (j .format) (j .b) eb (l .at) in
+      let k = any-some 4 (λ k. partnered j (representative (j .setting .format) (j .a .mask) ea k) eb) .0 e in
+      let l = any-some 4 (λ l. together j (representative (j .setting .format) (j .a .mask) ea (k .at)) (representative (j .setting .format) (j .b .mask) eb l)) .0 (k .holds) in
+      let a = representative (j .setting .format) (j .a .mask) ea (k .at) in
+      let b = representative (j .setting .format) (j .b .mask) eb (l .at) in
       record {
         a = a;
         b = b;
-        c = result (j .format) (j .operation) (j .mode) a b;
+        c = result (j .setting .format) (j .setting .operation) (j .setting .mode) a b;
         fits =
             together-fits j (asked .valid) a b
-            (representative-lt (j .format) (j .a) (asked .valid .a) ea (k .at) (asked .a-lt) (k .below))
-            (representative-lt (j .format) (j .b) (asked .valid .b) eb (l .at) (asked .b-lt) (l .below)) .0 (l .holds);
-        a-exponent = representative-biased (j .format) (j .a) (asked .valid .a) ea (k .at) (asked .a-lt) (k .below);
-        b-exponent = representative-biased (j .format) (j .b) (asked .valid .b) eb (l .at) (asked .b-lt) (l .below);
+            (representative-lt (j .setting .format) (j .a .mask) (asked .valid .a .mask) ea (k .at) (asked .a-lt) (k .below))
+            (representative-lt (j .setting .format) (j .b .mask) (asked .valid .b .mask) eb (l .at) (asked .b-lt) (l .below)) .0 (l .holds);
+        a-exponent = representative-biased (j .setting .format) (j .a .mask) (asked .valid .a .mask) ea (k .at) (asked .a-lt) (k .below);
+        b-exponent = representative-biased (j .setting .format) (j .b .mask) (asked .valid .b .mask) eb (l .at) (asked .b-lt) (l .below);
       }
 
   -- the exponent fields of a case with these fields
   fields-special : (p : PairFits j ea eb) → Special j ea eb
-      → (biased (j .format) (p .a) .0 ≡ allOnes (j .format)) ⊎ (biased (j .format) (p .b) .0 ≡ allOnes (j .format))
+      → (biased (j .setting .format) (p .a) .0 ≡ allOnes (j .setting .format)) ⊎ (biased (j .setting .format) (p .b) .0 ≡ allOnes (j .setting .format))
   fields-special p (inl e) = inl (p .a-exponent ∙ e)
   fields-special p (inr e) = inr (p .b-exponent ∙ e)
 
   pub admitted-complete : Special j ea eb → PairFits j ea eb → admitted j ea eb ≡ true
   unfolding admitted partnered
   admitted-complete special p =
-      any-some 4 (λ k. partnered j (representative (j .format) (j .a) ea k) eb) .1 record {
-        at = standsFor (j .format) (p .a);
-        below = stands-lt (j .format) (p .a);
+      any-some 4 (λ k. partnered j (representative (j .setting .format) (j .a .mask) ea k) eb) .1 record {
+        at = standsFor (j .setting .format) (p .a);
+        below = stands-lt (j .setting .format) (p .a);
         holds =
-            any-some 4 (λ l. together j (representative (j .format) (j .a) ea (standsFor (j .format) (p .a))) (representative (j .format) (j .b) eb l)) .1 record {
-              at = standsFor (j .format) (p .b);
-              below = stands-lt (j .format) (p .b);
+            any-some 4 (λ l. together j (representative (j .setting .format) (j .a .mask) ea (standsFor (j .setting .format) (p .a))) (representative (j .setting .format) (j .b .mask) eb l)) .1 record {
+              at = standsFor (j .setting .format) (p .b);
+              below = stands-lt (j .setting .format) (p .b);
               holds = rw (← (p .a-exponent), ← (p .b-exponent)) both;
             };
       }
     where
       a' : ℕ
-      a' = representative (j .format) (j .a) (biased (j .format) (p .a) .0) (standsFor (j .format) (p .a))
+      a' = representative (j .setting .format) (j .a .mask) (biased (j .setting .format) (p .a) .0) (standsFor (j .setting .format) (p .a))
 
       b' : ℕ
-      b' = representative (j .format) (j .b) (biased (j .format) (p .b) .0) (standsFor (j .format) (p .b))
+      b' = representative (j .setting .format) (j .b .mask) (biased (j .setting .format) (p .b) .0) (standsFor (j .setting .format) (p .b))
 
       both : together j a' b' ≡ true
       both =
           alike-together j (asked .valid) (p .fits) (fields-special p special)
-          (representative-alike (j .format) (j .a) (asked .valid .a) (p .a) (p .fits .a-meets))
-          (representative-alike (j .format) (j .b) (asked .valid .b) (p .b) (p .fits .b-meets))
-          (stands-word (j .format) (j .a) (asked .valid .a) (p .a) (p .fits .a-meets))
-          (stands-word (j .format) (j .b) (asked .valid .b) (p .b) (p .fits .b-meets))
-          (representative-meets (j .format) (j .a) (asked .valid .a) (p .a) (p .fits .a-meets))
-          (representative-meets (j .format) (j .b) (asked .valid .b) (p .b) (p .fits .b-meets))
+          (representative-alike (j .setting .format) (j .a .mask) (asked .valid .a .mask) (p .a) (p .fits .satisfies .a-allowed .mask))
+          (representative-alike (j .setting .format) (j .b .mask) (asked .valid .b .mask) (p .b) (p .fits .satisfies .b-allowed .mask))
+          (stands-word (j .setting .format) (j .a .mask) (asked .valid .a .mask) (p .a) (p .fits .satisfies .a-allowed .mask))
+          (stands-word (j .setting .format) (j .b .mask) (asked .valid .b .mask) (p .b) (p .fits .satisfies .b-allowed .mask))
+          (representative-meets (j .setting .format) (j .a .mask) (asked .valid .a .mask) (p .a) (p .fits .satisfies .a-allowed .mask))
+          (representative-meets (j .setting .format) (j .b .mask) (asked .valid .b .mask) (p .b) (p .fits .satisfies .b-allowed .mask))
 
   -- with no row a carry mask that fixes a bit is not met
   pub special-carries : Special j ea eb → PairFits j ea eb → j .carries .care ≡ 0
-  special-carries special p = rw (special-row (j .format) (j .operation) (p .a) (p .b) (fields-special p special)) at (p .fits .row)
+  special-carries special p = rw (special-row (j .setting .format) (j .setting .operation) (p .a) (p .b) (fields-special p special)) at (p .fits .satisfies .row)

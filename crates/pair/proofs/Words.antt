@@ -71,20 +71,20 @@ module _ (F : Format) (operation mode a b : ℕ) (na : biased F a .0 ≡ allOnes
 pub record Summing (j : Job) (ea eb sa sb : ℕ) : Type 0 where
   pub sa-lt : sa < 2
   pub sb-lt : sb < 2
-  pub a-sign : Meets sa (signMask (j .format) (j .a))
-  pub b-sign : Meets sb (signMask (j .format) (j .b))
+  pub a-sign : Meets sa (signMask (j .setting .format) (j .a .mask))
+  pub b-sign : Meets sb (signMask (j .setting .format) (j .b .mask))
   pub sums : ((unitAt eb .0 ≤ unitAt ea .0)
-      × Summed (j .format) (j .mode) sa ea (turned (j .operation) sb) eb (fractionMask (j .format) (j .a)) (fractionMask (j .format) (j .b)) (j .carries) (j .c))
+      × Summed (j .setting .format) (j .setting .mode) sa ea (turned (j .setting .operation) sb) eb (fractionMask (j .setting .format) (j .a .mask)) (fractionMask (j .setting .format) (j .b .mask)) (j .carries) (j .c .mask))
       ⊎ ((unitAt ea .0 ≤ unitAt eb .0)
-      × Summed (j .format) (j .mode) (turned (j .operation) sb) eb sa ea (fractionMask (j .format) (j .b)) (fractionMask (j .format) (j .a)) (j .carries) (j .c))
+      × Summed (j .setting .format) (j .setting .mode) (turned (j .setting .operation) sb) eb sa ea (fractionMask (j .setting .format) (j .b .mask)) (fractionMask (j .setting .format) (j .a .mask)) (j .carries) (j .c .mask))
 
 module _ (j : Job) (valid : Valid j) where
   F : Format
-  F = j .format
+  F = j .setting .format
 
   -- a fitting case poses its numbers
-  words-summing : (a b c : ℕ) → Fits j a b c → biased (j .format) a .0 < allOnes (j .format) → biased (j .format) b .0 < allOnes (j .format)
-      → Summing j (biased (j .format) a .0) (biased (j .format) b .0) (sign (j .format) a) (sign (j .format) b)
+  words-summing : (a b c : ℕ) → Fits j a b c → biased (j .setting .format) a .0 < allOnes (j .setting .format) → biased (j .setting .format) b .0 < allOnes (j .setting .format)
+      → Summing j (biased (j .setting .format) a .0) (biased (j .setting .format) b .0) (sign (j .setting .format) a) (sign (j .setting .format) b)
   unfolding F
   words-summing a b c h fa fb = record {
     sa-lt = mod-lt (a / 2 ^ (F .w + F .f)) (omega arith);
@@ -94,17 +94,17 @@ module _ (j : Job) (valid : Valid j) where
     sums = go (decLt (magnitude x) (magnitude y));
   }
     where
-      ma : Meets (sign F a) (signMask F (j .a)) × Meets (biased F a .0) (exponentMask F (j .a)) × Meets (fraction F a) (fractionMask F (j .a))
-      ma = meets-fields (F .w) (F .f) (j .a) (valid .a) a .0 (h .a-meets)
+      ma : Meets (sign F a) (signMask F (j .a .mask)) × Meets (biased F a .0) (exponentMask F (j .a .mask)) × Meets (fraction F a) (fractionMask F (j .a .mask))
+      ma = meets-fields (F .w) (F .f) (j .a .mask) (valid .a .mask) a .0 (h .satisfies .a-allowed .mask)
 
-      mb : Meets (sign F b) (signMask F (j .b)) × Meets (biased F b .0) (exponentMask F (j .b)) × Meets (fraction F b) (fractionMask F (j .b))
-      mb = meets-fields (F .w) (F .f) (j .b) (valid .b) b .0 (h .b-meets)
+      mb : Meets (sign F b) (signMask F (j .b .mask)) × Meets (biased F b .0) (exponentMask F (j .b .mask)) × Meets (fraction F b) (fractionMask F (j .b .mask))
+      mb = meets-fields (F .w) (F .f) (j .b .mask) (valid .b .mask) b .0 (h .satisfies .b-allowed .mask)
 
       x : record-of.Finite
       x = number (F .f) (sign F a) (biased F a .0) (fraction F a)
 
       y : record-of.Finite
-      y = number (F .f) (turned (j .operation) (sign F b)) (biased F b .0) (fraction F b)
+      y = number (F .f) (turned (j .setting .operation) (sign F b)) (biased F b .0) (fraction F b)
 
       ta : fraction F a < 2 ^ F .f
       ta = mod-lt a (pow-pos (F .f))
@@ -116,7 +116,7 @@ module _ (j : Job) (valid : Valid j) where
       cx = number-canonical F (sign F a) (biased F a .0) (fraction F a) (mod-lt (a / 2 ^ (F .w + F .f)) (omega arith)) fa ta
 
       cy : Canonical F y
-      cy = number-canonical F (turned (j .operation) (sign F b)) (biased F b .0) (fraction F b) (mod-lt (sign F b + j .operation) (omega arith)) fb tb
+      cy = number-canonical F (turned (j .setting .operation) (sign F b)) (biased F b .0) (fraction F b) (mod-lt (sign F b + j .setting .operation) (omega arith)) fb tb
 
       na : biased F a .0 ≡ allOnes F → ⊥
       na e = omega arith
@@ -124,17 +124,17 @@ module _ (j : Job) (valid : Valid j) where
       nb : biased F b .0 ≡ allOnes F → ⊥
       nb e = omega arith
 
-      sum : Meets (finiteSum F (j .mode) x y) (j .c)
-      sum = subst (λ (n : ℕ). Meets n (j .c)) (h .sum ∙ result-numbers F (j .operation) (j .mode) a b na nb) (h .c-meets)
+      sum : Meets (finiteSum F (j .setting .mode) x y) (j .c .mask)
+      sum = subst (λ (n : ℕ). Meets n (j .c .mask)) (h .right .sum ∙ result-numbers F (j .setting .operation) (j .setting .mode) a b na nb) (h .satisfies .c-allowed .mask)
 
       carries : Meets (finiteRow F x y) (j .carries)
-      carries = subst (λ (r : row.Row). RowMeets r (j .carries)) (row-numbers F (j .operation) (j .mode) a b na nb) (h .row)
+      carries = subst (λ (r : row.Row). RowMeets r (j .carries)) (row-numbers F (j .setting .operation) (j .setting .mode) a b na nb) (h .satisfies .row)
 
       go : Dec (magnitude x < magnitude y)
           → ((unitAt (biased F b .0) .0 ≤ unitAt (biased F a .0) .0)
-          × Summed F (j .mode) (sign F a) (biased F a .0) (turned (j .operation) (sign F b)) (biased F b .0) (fractionMask F (j .a)) (fractionMask F (j .b)) (j .carries) (j .c))
+          × Summed F (j .setting .mode) (sign F a) (biased F a .0) (turned (j .setting .operation) (sign F b)) (biased F b .0) (fractionMask F (j .a .mask)) (fractionMask F (j .b .mask)) (j .carries) (j .c .mask))
           ⊎ ((unitAt (biased F a .0) .0 ≤ unitAt (biased F b .0) .0)
-          × Summed F (j .mode) (turned (j .operation) (sign F b)) (biased F b .0) (sign F a) (biased F a .0) (fractionMask F (j .b)) (fractionMask F (j .a)) (j .carries) (j .c))
+          × Summed F (j .setting .mode) (turned (j .setting .operation) (sign F b)) (biased F b .0) (sign F a) (biased F a .0) (fractionMask F (j .b .mask)) (fractionMask F (j .a .mask)) (j .carries) (j .c .mask))
       go (no l) =
           let le : magnitude y ≤ magnitude x = omega arith in
           inl (
@@ -163,48 +163,56 @@ module _ (j : Job) (valid : Valid j) where
               q-meets = ma .2;
               ordered = λ u. le-of-lt l;
               row-meets = subst (λ (n : ℕ). Meets n (j .carries)) (finite-row-comm F x y cx cy) carries;
-              sum-meets = subst (λ (n : ℕ). Meets n (j .c)) (finite-sum-comm F (j .mode) x y) sum;
+              sum-meets = subst (λ (n : ℕ). Meets n (j .c .mask)) (finite-sum-comm F (j .setting .mode) x y) sum;
             },
           )
 
-  module _ (ea eb : ℕ) (fa : ea < allOnes (j .format)) (fb : eb < allOnes (j .format)) where
-    pub fits-summing : (P : PairFits j ea eb) → Summing j ea eb (sign (j .format) (P .a)) (sign (j .format) (P .b))
+  module _ (ea eb : ℕ) (fa : ea < allOnes (j .setting .format)) (fb : eb < allOnes (j .setting .format)) where
+    pub fits-summing : (P : PairFits j ea eb) → Summing j ea eb (sign (j .setting .format) (P .a)) (sign (j .setting .format) (P .b))
     unfolding F
     fits-summing P =
         rw (P .a-exponent, P .b-exponent) at
         (words-summing (P .a) (P .b) (P .c) (P .fits) (rw (P .a-exponent) fa) (rw (P .b-exponent) fb))
 
-    module _ (ma : Meets ea (exponentMask (j .format) (j .a))) (mb : Meets eb (exponentMask (j .format) (j .b))) where
+    module _ (ma : Meets ea (exponentMask (j .setting .format) (j .a .mask))) (mb : Meets eb (exponentMask (j .setting .format) (j .b .mask))) where
       -- two words from their fields
-      fits-from : (sa sb ta tb : ℕ) → sa < 2 → sb < 2 → ta < 2 ^ j .format .f → tb < 2 ^ j .format .f
-          → Meets sa (signMask (j .format) (j .a)) → Meets sb (signMask (j .format) (j .b))
-          → Meets ta (fractionMask (j .format) (j .a)) → Meets tb (fractionMask (j .format) (j .b))
-          → Meets (finiteRow (j .format) (number (j .format .f) sa ea ta) (number (j .format .f) (turned (j .operation) sb) eb tb)) (j .carries)
-          → Meets (finiteSum (j .format) (j .mode) (number (j .format .f) sa ea ta) (number (j .format .f) (turned (j .operation) sb) eb tb)) (j .c)
+      fits-from : (sa sb ta tb : ℕ) → sa < 2 → sb < 2 → ta < 2 ^ j .setting .format .f → tb < 2 ^ j .setting .format .f
+          → Meets sa (signMask (j .setting .format) (j .a .mask)) → Meets sb (signMask (j .setting .format) (j .b .mask))
+          → Meets ta (fractionMask (j .setting .format) (j .a .mask)) → Meets tb (fractionMask (j .setting .format) (j .b .mask))
+          → Meets (finiteRow (j .setting .format) (number (j .setting .format .f) sa ea ta) (number (j .setting .format .f) (turned (j .setting .operation) sb) eb tb)) (j .carries)
+          → Meets (finiteSum (j .setting .format) (j .setting .mode) (number (j .setting .format .f) sa ea ta) (number (j .setting .format .f) (turned (j .setting .operation) sb) eb tb)) (j .c .mask)
           → PairFits j ea eb
       unfolding F
       fits-from sa sb ta tb hsa hsb hta htb msa msb mta mtb rm sm = record {
         a = a;
         b = b;
-        c = result F (j .operation) (j .mode) a b;
+        c = result F (j .setting .operation) (j .setting .mode) a b;
         fits = record {
-          a-word = signed-lt F sa (ea * 2 ^ F .f + ta) hsa (together-lt F ea ta ea-lt hta);
-          b-word = signed-lt F sb (eb * 2 ^ F .f + tb) hsb (together-lt F eb tb eb-lt htb);
-          c-word = result-lt F (valid .format) (j .operation) (j .mode) a b;
-          a-meets = meets-fields (F .w) (F .f) (j .a) (valid .a) a .1 (
-            subst (λ (n : ℕ). Meets n (signMask F (j .a))) (sym a-sign) msa,
-            subst (λ (n : ℕ). Meets n (exponentMask F (j .a))) (sym a-exponent) ma,
-            subst (λ (n : ℕ). Meets n (fractionMask F (j .a))) (sym a-fraction) mta,
-          );
-          b-meets = meets-fields (F .w) (F .f) (j .b) (valid .b) b .1 (
-            subst (λ (n : ℕ). Meets n (signMask F (j .b))) (sym b-sign) msb,
-            subst (λ (n : ℕ). Meets n (exponentMask F (j .b))) (sym b-exponent) mb,
-            subst (λ (n : ℕ). Meets n (fractionMask F (j .b))) (sym b-fraction) mtb,
-          );
-          c-meets = subst (λ (n : ℕ). Meets n (j .c)) (sym (result-numbers F (j .operation) (j .mode) a b na nb ∙ ap₂ (finiteSum F (j .mode)) x-is y-is)) sm;
-          sum = refl;
-          row = subst (λ (r : row.Row). RowMeets r (j .carries))
-              (sym (row-numbers F (j .operation) (j .mode) a b na nb ∙ ap₂ (λ (x y : record-of.Finite). Carries (finiteRow F x y)) x-is y-is)) rm;
+          right = record {
+            a-word = signed-lt F sa (ea * 2 ^ F .f + ta) hsa (together-lt F ea ta ea-lt hta);
+            b-word = signed-lt F sb (eb * 2 ^ F .f + tb) hsb (together-lt F eb tb eb-lt htb);
+            c-word = result-lt F (valid .setting .format) (j .setting .operation) (j .setting .mode) a b;
+            sum = refl;
+          };
+          satisfies = record {
+            a-allowed = record {
+              mask = meets-fields (F .w) (F .f) (j .a .mask) (valid .a .mask) a .1 (
+                subst (λ (n : ℕ). Meets n (signMask F (j .a .mask))) (sym a-sign) msa,
+                subst (λ (n : ℕ). Meets n (exponentMask F (j .a .mask))) (sym a-exponent) ma,
+                subst (λ (n : ℕ). Meets n (fractionMask F (j .a .mask))) (sym a-fraction) mta,
+              );
+            };
+            b-allowed = record {
+              mask = meets-fields (F .w) (F .f) (j .b .mask) (valid .b .mask) b .1 (
+                subst (λ (n : ℕ). Meets n (signMask F (j .b .mask))) (sym b-sign) msb,
+                subst (λ (n : ℕ). Meets n (exponentMask F (j .b .mask))) (sym b-exponent) mb,
+                subst (λ (n : ℕ). Meets n (fractionMask F (j .b .mask))) (sym b-fraction) mtb,
+              );
+            };
+            c-allowed = record { mask = subst (λ (n : ℕ). Meets n (j .c .mask)) (sym (result-numbers F (j .setting .operation) (j .setting .mode) a b na nb ∙ ap₂ (finiteSum F (j .setting .mode)) x-is y-is)) sm };
+            row = subst (λ (r : row.Row). RowMeets r (j .carries))
+                (sym (row-numbers F (j .setting .operation) (j .setting .mode) a b na nb ∙ ap₂ (λ (x y : record-of.Finite). Carries (finiteRow F x y)) x-is y-is)) rm;
+          };
         };
         a-exponent = a-exponent;
         b-exponent = b-exponent;
@@ -249,27 +257,27 @@ module _ (j : Job) (valid : Valid j) where
           x-is : number (F .f) (sign F a) (biased F a .0) (fraction F a) ≡ number (F .f) sa ea ta
           x-is = ap₂ (λ (s e : ℕ). number (F .f) s e (fraction F a)) a-sign a-exponent ∙ ap (number (F .f) sa ea) a-fraction
 
-          y-is : number (F .f) (turned (j .operation) (sign F b)) (biased F b .0) (fraction F b) ≡ number (F .f) (turned (j .operation) sb) eb tb
+          y-is : number (F .f) (turned (j .setting .operation) (sign F b)) (biased F b .0) (fraction F b) ≡ number (F .f) (turned (j .setting .operation) sb) eb tb
           y-is =
-              ap₂ (λ (s e : ℕ). number (F .f) (turned (j .operation) s) e (fraction F b)) b-sign b-exponent
-              ∙ ap (number (F .f) (turned (j .operation) sb) eb) b-fraction
+              ap₂ (λ (s e : ℕ). number (F .f) (turned (j .setting .operation) s) e (fraction F b)) b-sign b-exponent
+              ∙ ap (number (F .f) (turned (j .setting .operation) sb) eb) b-fraction
 
       pub summing-fits : (sa sb : ℕ) → Summing j ea eb sa sb → PairFits j ea eb
       unfolding F
       summing-fits sa sb Q = ⊎-elim first-larger second-larger (Q .sums)
         where
           t : ℕ
-          t = turned (j .operation) sb
+          t = turned (j .setting .operation) sb
 
           ht : t < 2
-          ht = mod-lt (sb + j .operation) (omega arith)
+          ht = mod-lt (sb + j .setting .operation) (omega arith)
 
-          first-larger : (unitAt eb .0 ≤ unitAt ea .0) × Summed F (j .mode) sa ea t eb (fractionMask F (j .a)) (fractionMask F (j .b)) (j .carries) (j .c) → PairFits j ea eb
+          first-larger : (unitAt eb .0 ≤ unitAt ea .0) × Summed F (j .setting .mode) sa ea t eb (fractionMask F (j .a .mask)) (fractionMask F (j .b .mask)) (j .carries) (j .c .mask) → PairFits j ea eb
           first-larger S =
               fits-from sa sb (S .1 .p) (S .1 .q) (Q .sa-lt) (Q .sb-lt) (S .1 .p-lt) (S .1 .q-lt) (Q .a-sign) (Q .b-sign) (S .1 .p-meets) (S .1 .q-meets) (S .1 .row-meets)
               (S .1 .sum-meets)
 
-          second-larger : (unitAt ea .0 ≤ unitAt eb .0) × Summed F (j .mode) t eb sa ea (fractionMask F (j .b)) (fractionMask F (j .a)) (j .carries) (j .c) → PairFits j ea eb
+          second-larger : (unitAt ea .0 ≤ unitAt eb .0) × Summed F (j .setting .mode) t eb sa ea (fractionMask F (j .b .mask)) (fractionMask F (j .a .mask)) (j .carries) (j .c .mask) → PairFits j ea eb
           second-larger S =
               let y = number (F .f) t eb (S .1 .p) in
               let x = number (F .f) sa ea (S .1 .q) in
@@ -277,4 +285,4 @@ module _ (j : Job) (valid : Valid j) where
               let cx = number-canonical F sa ea (S .1 .q) (Q .sa-lt) fa (S .1 .q-lt) in
               fits-from sa sb (S .1 .q) (S .1 .p) (Q .sa-lt) (Q .sb-lt) (S .1 .q-lt) (S .1 .p-lt) (Q .a-sign) (Q .b-sign) (S .1 .q-meets) (S .1 .p-meets)
               (subst (λ (n : ℕ). Meets n (j .carries)) (finite-row-comm F y x cy cx) (S .1 .row-meets))
-              (subst (λ (n : ℕ). Meets n (j .c)) (finite-sum-comm F (j .mode) y x) (S .1 .sum-meets))
+              (subst (λ (n : ℕ). Meets n (j .c .mask)) (finite-sum-comm F (j .setting .mode) y x) (S .1 .sum-meets))

@@ -23,10 +23,10 @@ fractionMask F m = low (F .f) m
 -- a valid job, and two exponent fields that meet their masks
 pub record Asked (j : Job) (ea eb : ℕ) : Type 0 where
   pub valid : Valid j
-  pub a-lt : ea < 2 ^ j .format .w
-  pub b-lt : eb < 2 ^ j .format .w
-  pub a-exponent : Meets ea (exponentMask (j .format) (j .a))
-  pub b-exponent : Meets eb (exponentMask (j .format) (j .b))
+  pub a-lt : ea < 2 ^ j .setting .format .w
+  pub b-lt : eb < 2 ^ j .setting .format .w
+  pub a-exponent : Meets ea (exponentMask (j .setting .format) (j .a .mask))
+  pub b-exponent : Meets eb (exponentMask (j .setting .format) (j .b .mask))
 
 -- some case whose operands have the exponent fields ea and eb fits
 pub record PairFits (j : Job) (ea eb : ℕ) : Type 0 where
@@ -34,5 +34,5 @@ pub record PairFits (j : Job) (ea eb : ℕ) : Type 0 where
   pub b : ℕ
   pub c : ℕ
   pub fits : Fits j a b c
-  pub a-exponent : biased (j .format) a .0 ≡ ea
-  pub b-exponent : biased (j .format) b .0 ≡ eb
+  pub a-exponent : biased (j .setting .format) a .0 ≡ ea
+  pub b-exponent : biased (j .setting .format) b .0 ≡ eb

@@ -10,7 +10,9 @@ use Rattle.format.specs.declared.Format.{Format}
 use Rattle.mask.specs.declared.Mask.{Mask}
 use Rattle.mask.specs.Mask.{Meets, WellFormed}
 use Rattle.job.specs.declared.Job.{Job}
+use Rattle.job.specs.declared.Role.the-variants.{C}
 use Rattle.job.specs.Job.{Valid}
+use Rattle.job.specs.Role.{withWanted, withMask}
 use Rattle.adder.specs.Word.{allOnes}
 use Rattle.pair.specs.Asked.{signMask, exponentMask, fractionMask}
 use Rattle.pair.specs.Pair.{SomeSigns}
@@ -49,7 +51,7 @@ withExponent F c n = record {
 
 -- the job that asks for another mask of c's exponent field
 abbrev pub asking : Job → Mask → Job
-asking j n = record { format = j .format; operation = j .operation; mode = j .mode; a = j .a; b = j .b; c = withExponent (j .format) (j .c) n; carries = j .carries }
+asking j n = withWanted C j (withMask (j .c) (withExponent (j .setting .format) (j .c .mask) n))
 
 -- the mask of one exponent field
 abbrev pub onlyField : Format → ℕ → Mask
@@ -57,14 +59,14 @@ onlyField F i = record { care = allOnes F; value = i }
 
 -- the pair that stands for the class k admits a case, where n is asked of c's exponent field
 abbrev pub ClassAdmits : Job → ℕ → Mask → Type 0
-ClassAdmits j k n = SomeSigns (asking j n) (aField (j .format .f) k) (bField (j .format .f) k)
+ClassAdmits j k n = SomeSigns (asking j n) (aField (j .setting .format .f) k) (bField (j .setting .format .f) k)
 
 -- what a question about a class states
 pub record ClassAsked (j : Job) (k : ℕ) (n : Mask) : Type 0 where
   pub valid : Valid j
-  pub wide : j .format .f + 9 ≤ allOnes (j .format)
-  pub class-lt : k < 2 * (j .format .f + 5)
-  pub formed : WellFormed (j .format .w) n
+  pub wide : j .setting .format .f + 9 ≤ allOnes (j .setting .format)
+  pub class-lt : k < 2 * (j .setting .format .f + 5)
+  pub formed : WellFormed (j .setting .format .w) n
 
 -- no word past the largest finite number meets c: those have the fraction 0 or all ones
 pub record NeverPast (F : Format) (c : Mask) : Type 0 where

@@ -34,7 +34,7 @@ alignedOf F like carries m e n g = record {
 -- the operand of sign s, exponent field e and fraction mask m is the larger, the other has g and n: its unit is not the smaller one,
 -- and aligned significands make a word and carries that meet the job's masks
 abbrev pub Larger : Job → Bool → ℕ → ℕ → Mask → ℕ → Mask → Type 0
-Larger j like s e m g n = (unitAt g .0 ≤ unitAt e .0) × Admits (j .format) (j .mode) s (unitAt e) (alignedOf (j .format) like (j .carries) m e n g) (j .c)
+Larger j like s e m g n = (unitAt g .0 ≤ unitAt e .0) × Admits (j .setting .format) (j .setting .mode) s (unitAt e) (alignedOf (j .setting .format) like (j .carries) m e n g) (j .c .mask)
 
 -- the sign of b in the effective addition
 abbrev pub turned : ℕ → ℕ → ℕ
@@ -42,16 +42,16 @@ turned operation s = (s + operation) % 2
 
 -- the signs meet their masks, and a is the larger operand or b is
 pub record Posed (j : Job) (ea eb sa sb : ℕ) : Type 0 where
-  pub a-sign : Meets sa (signMask (j .format) (j .a))
-  pub b-sign : Meets sb (signMask (j .format) (j .b))
-  pub sums : Larger j (eqb sa (turned (j .operation) sb)) sa ea (fractionMask (j .format) (j .a)) eb (fractionMask (j .format) (j .b))
-      ⊎ Larger j (eqb (turned (j .operation) sb) sa) (turned (j .operation) sb) eb (fractionMask (j .format) (j .b)) ea (fractionMask (j .format) (j .a))
+  pub a-sign : Meets sa (signMask (j .setting .format) (j .a .mask))
+  pub b-sign : Meets sb (signMask (j .setting .format) (j .b .mask))
+  pub sums : Larger j (eqb sa (turned (j .setting .operation) sb)) sa ea (fractionMask (j .setting .format) (j .a .mask)) eb (fractionMask (j .setting .format) (j .b .mask))
+      ⊎ Larger j (eqb (turned (j .setting .operation) sb) sa) (turned (j .setting .operation) sb) eb (fractionMask (j .setting .format) (j .b .mask)) ea (fractionMask (j .setting .format) (j .a .mask))
 
 -- a valid job, and two exponent fields of finite operands
 pub record FinitePair (j : Job) (ea eb : ℕ) : Type 0 where
   pub valid : Valid j
-  pub a-finite : ea < allOnes (j .format)
-  pub b-finite : eb < allOnes (j .format)
+  pub a-finite : ea < allOnes (j .setting .format)
+  pub b-finite : eb < allOnes (j .setting .format)
 
 -- some two signs pose a case
 pub record SomeSigns (j : Job) (ea eb : ℕ) : Type 0 where
@@ -64,7 +64,7 @@ pub record SomeSigns (j : Job) (ea eb : ℕ) : Type 0 where
 -- a valid job, and two exponent fields of finite operands that meet their masks
 pub record Finites (j : Job) (ea eb : ℕ) : Type 0 where
   pub valid : Valid j
-  pub a-finite : ea < allOnes (j .format)
-  pub b-finite : eb < allOnes (j .format)
-  pub a-exponent : Meets ea (exponentMask (j .format) (j .a))
-  pub b-exponent : Meets eb (exponentMask (j .format) (j .b))
+  pub a-finite : ea < allOnes (j .setting .format)
+  pub b-finite : eb < allOnes (j .setting .format)
+  pub a-exponent : Meets ea (exponentMask (j .setting .format) (j .a .mask))
+  pub b-exponent : Meets eb (exponentMask (j .setting .format) (j .b .mask))

@@ -11,8 +11,8 @@ use Rattle.pair.specs.Pair.{turned}
 -- the signs sa and sb meet their masks, and where they are like in the effective addition, sa meets c's
 unfoldable pub signLeft : Job → ℕ → ℕ → Bool
 signLeft j sa sb =
-    meets sa (signMask (j .format) (j .a)) && meets sb (signMask (j .format) (j .b))
-    && (not (eqb sa (turned (j .operation) sb)) || meets sa (signMask (j .format) (j .c)))
+    meets sa (signMask (j .setting .format) (j .a .mask)) && meets sb (signMask (j .setting .format) (j .b .mask))
+    && (not (eqb sa (turned (j .setting .operation) sb)) || meets sa (signMask (j .setting .format) (j .c .mask)))
 
 -- some two signs
 unfoldable pub signsLeft : Job → Bool

@@ -18,7 +18,7 @@ use Rattle.pair.specs.Asked.{fractionMask}
 
 -- "With an infinite or NaN operand": one of the exponent fields is all ones ("The carry row")
 abbrev pub Special : Job → ℕ → ℕ → Type 0
-Special j ea eb = (ea ≡ allOnes (j .format)) ⊎ (eb ≡ allOnes (j .format))
+Special j ea eb = (ea ≡ allOnes (j .setting .format)) ⊎ (eb ≡ allOnes (j .setting .format))
 
 -- "from the top, one sign bit, w exponent bits and f fraction bits" ("Numbers of a format")
 abbrev pub wordOf : Format → ℕ → ℕ → ℕ → ℕ
@@ -35,7 +35,7 @@ representative F m e k = wordOf F (k / 2) e (extreme (F .f) (fractionMask F m) (
 
 -- whether a and b with their rounded result are a case that fits ("As c follows from a and b")
 unfoldable pub together : Job → ℕ → ℕ → Bool
-together j a b = fits j a b (result (j .format) (j .operation) (j .mode) a b)
+together j a b = fits j a b (result (j .setting .format) (j .setting .operation) (j .setting .mode) a b)
 
 -- whether a test holds of some number below n
 unfoldable pub any : ℕ → (ℕ → Bool) → Bool
@@ -44,8 +44,8 @@ any (suc n) test = any n test || test n
 
 -- whether a fits together with a word that stands for those with the exponent field eb
 unfoldable pub partnered : Job → ℕ → ℕ → Bool
-partnered j a eb = any 4 (λ k. together j a (representative (j .format) (j .b) eb k))
+partnered j a eb = any 4 (λ k. together j a (representative (j .setting .format) (j .b .mask) eb k))
 
 -- whether some two words that stand for those with the exponent fields ea and eb fit together
 unfoldable pub admitted : Job → ℕ → ℕ → Bool
-admitted j ea eb = any 4 (λ k. partnered j (representative (j .format) (j .a) ea k) eb)
+admitted j ea eb = any 4 (λ k. partnered j (representative (j .setting .format) (j .a .mask) ea k) eb)

@@ -6,7 +6,10 @@ use crate::special::word_of;
 use bits::power;
 use format::Format;
 use job::Job;
+use job::Role;
 use job::job_cause;
+use job::words::with_mask;
+use job::words::with_wanted;
 use mask::Mask;
 use mask::mask_cause;
 ghost use mathlib.Core.Bool.{true};
@@ -47,12 +50,11 @@ fn with_exponent(format: Format, c: Mask, n: Mask) -> Mask
 
 // The job that asks for another mask of c's exponent field.
 fn asking(job: Job, n: Mask) -> Job
-    requires { ⌜ Supported (job .format) × WellFormed (wordBits (job .format)) (job .c) × WellFormed (job .format .w) n ⌝ }
+    requires { ⌜ Supported (job .setting .format) × WellFormed (wordBits (job .setting .format)) (job .c .mask) × WellFormed (job .setting .format .w) n ⌝ }
     ensures { λ r. ⌜ r ≡ asking job n ⌝ }
 {
-    let mut with = job;
-    with.c = with_exponent(job.format, job.c, n);
-    with
+    let asked = with_exponent(job.setting.format, job.c.mask, n);
+    with_wanted(job, Role::C, with_mask(job.c, asked))
 }
 
 // Whether a question about a class may be put.
@@ -62,10 +64,11 @@ fn asked(job: Job, k: u64, n: Mask) -> bool
     if job_cause(job) != 0 {
         return false;
     }
-    if mask_cause(job.format.w, n) != 0 {
+    if mask_cause(job.setting.format.w, n) != 0 {
         return false;
     }
-    (job.format.f + 9 <= power(job.format.w) - 1) & (k < 2 * (job.format.f + 5))
+    (job.setting.format.f + 9 <= power(job.setting.format.w) - 1)
+        & (k < 2 * (job.setting.format.f + 5))
 }
 
 // Whether the pair that stands for the class k admits a case, where n is asked of c's exponent field; false where the job is not valid, its
@@ -78,7 +81,7 @@ pub fn class_admits(job: Job, k: u64, n: Mask) -> bool
     }
     some_signs(
         asking(job, n),
-        a_field(job.format.f, k),
-        b_field(job.format.f, k),
+        a_field(job.setting.format.f, k),
+        b_field(job.setting.format.f, k),
     )
 }

@@ -32,7 +32,7 @@ fn unit_at(e: u64) -> Unit
 // Whether two operands, the one with the exponent field e and the fraction mask m the larger, sum as the job asks; `sign` is the
 // larger one's.
 fn larger(job: Job, like: bool, sign: u64, e: u64, m: Mask, g: u64, n: Mask) -> bool
-    requires { ⌜ Valid job × (sign < 2) × (e < allOnes (job .format)) × (g < allOnes (job .format)) × WellFormed (job .format .f) m × WellFormed (job .format .f) n ⌝ }
+    requires { ⌜ Valid job × (sign < 2) × (e < allOnes (job .setting .format)) × (g < allOnes (job .setting .format)) × WellFormed (job .setting .format .f) m × WellFormed (job .setting .format .f) n ⌝ }
     ensures { λ r. ⌜ (r ≡ true → Larger job like sign e m g n) × (Larger job like sign e m g n → r ≡ true) ⌝ }
 {
     let u = unit_at(e);
@@ -40,9 +40,9 @@ fn larger(job: Job, like: bool, sign: u64, e: u64, m: Mask, g: u64, n: Mask) -> 
     if u.0 < v.0 {
         return false;
     }
-    let p = job.format.f + 1;
-    let head = tail_mask(p, significand_mask(job.format.f, m, e), 0);
-    let tail = tail_mask(p, significand_mask(job.format.f, n, g), u.0 - v.0);
+    let p = job.setting.format.f + 1;
+    let head = tail_mask(p, significand_mask(job.setting.format.f, m, e), 0);
+    let tail = tail_mask(p, significand_mask(job.setting.format.f, n, g), u.0 - v.0);
     let carries = job.carries;
     let aligned = Aligned {
         like,
@@ -50,7 +50,14 @@ fn larger(job: Job, like: bool, sign: u64, e: u64, m: Mask, g: u64, n: Mask) -> 
         tail,
         carries,
     };
-    admits(job.format, job.mode, sign, u, aligned, job.c)
+    admits(
+        job.setting.format,
+        job.setting.mode,
+        sign,
+        u,
+        aligned,
+        job.c.mask,
+    )
 }
 
 // Whether a case with these signs and exponent fields fits.
@@ -58,15 +65,15 @@ fn signs_admit(job: Job, sa: u64, ea: u64, sb: u64, eb: u64) -> bool
     requires { ⌜ FinitePair job ea eb × (sa < 2) × (sb < 2) ⌝ }
     ensures { λ r. ⌜ (r ≡ true → Posed job ea eb sa sb) × (Posed job ea eb sa sb → r ≡ true) ⌝ }
 {
-    if !meets(sign_mask(job.format, job.a), sa) {
+    if !meets(sign_mask(job.setting.format, job.a.mask), sa) {
         return false;
     }
-    if !meets(sign_mask(job.format, job.b), sb) {
+    if !meets(sign_mask(job.setting.format, job.b.mask), sb) {
         return false;
     }
-    let m = fraction_mask(job.format, job.a);
-    let n = fraction_mask(job.format, job.b);
-    let sign = (sb + job.operation) % 2;
+    let m = fraction_mask(job.setting.format, job.a.mask);
+    let n = fraction_mask(job.setting.format, job.b.mask);
+    let sign = (sb + job.setting.operation) % 2;
     if larger(job, sa == sign, sa, ea, m, eb, n) {
         return true;
     }

@@ -24,11 +24,11 @@ fn asked(job: Job, ea: u64, eb: u64) -> bool
     if job_cause(job) != 0 {
         return false;
     }
-    let end = power(job.format.w);
+    let end = power(job.setting.format.w);
     (ea < end)
         & (eb < end)
-        & meets(exponent_mask(job.format, job.a), ea)
-        & meets(exponent_mask(job.format, job.b), eb)
+        & meets(exponent_mask(job.setting.format, job.a.mask), ea)
+        & meets(exponent_mask(job.setting.format, job.b.mask), eb)
 }
 
 // Whether a case whose operands have these exponent fields fits; false where the job is not valid or a field does not meet its mask.
@@ -39,7 +39,7 @@ pub fn pair_admits(job: Job, ea: u64, eb: u64) -> bool
     if !asked(job, ea, eb) {
         return false;
     }
-    let ones = power(job.format.w) - 1;
+    let ones = power(job.setting.format.w) - 1;
     if ea == ones {
         return special_pair(job, ea, eb);
     }

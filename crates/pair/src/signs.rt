@@ -13,10 +13,10 @@ fn sign_left(job: Job, sa: u64, sb: u64) -> bool
     requires { ⌜ Valid job × (sa < 2) × (sb < 2) ⌝ }
     ensures { λ r. ⌜ r ≡ signLeft job sa sb ⌝ }
 {
-    let like = sa == (sb + job.operation) % 2;
-    meets(sign_mask(job.format, job.a), sa)
-        & meets(sign_mask(job.format, job.b), sb)
-        & (!like | meets(sign_mask(job.format, job.c), sa))
+    let like = sa == (sb + job.setting.operation) % 2;
+    meets(sign_mask(job.setting.format, job.a.mask), sa)
+        & meets(sign_mask(job.setting.format, job.b.mask), sb)
+        & (!like | meets(sign_mask(job.setting.format, job.c.mask), sa))
 }
 
 // Whether some two signs are left for finite operands; true where the job is not valid.

@@ -51,7 +51,7 @@ fn representative(format: Format, m: Mask, e: u64, k: u64) -> u64
 
 // Whether a valid job's case of three words is confirmed.
 fn confirmed(job: Job, a: u64, b: u64, c: u64) -> bool
-    requires { ⌜ Valid job × (a < 2 ^ wordBits (job .format)) × (b < 2 ^ wordBits (job .format)) × (c < 2 ^ wordBits (job .format)) ⌝ }
+    requires { ⌜ Valid job × (a < 2 ^ wordBits (job .setting .format)) × (b < 2 ^ wordBits (job .setting .format)) × (c < 2 ^ wordBits (job .setting .format)) ⌝ }
     ensures { λ r. ⌜ r ≡ fits job a b c ⌝ }
 {
     match confirm(job, a, b, c) {
@@ -63,11 +63,17 @@ fn confirmed(job: Job, a: u64, b: u64, c: u64) -> bool
 
 // Whether a and b fit with their rounded result; the operands' masks are looked at first because that is cheap.
 fn together(job: Job, a: u64, b: u64) -> bool
-    requires { ⌜ Valid job × (a < 2 ^ wordBits (job .format)) × (b < 2 ^ wordBits (job .format)) ⌝ }
+    requires { ⌜ Valid job × (a < 2 ^ wordBits (job .setting .format)) × (b < 2 ^ wordBits (job .setting .format)) ⌝ }
     ensures { λ r. ⌜ r ≡ together job a b ⌝ }
 {
-    if meets(job.a, a) & meets(job.b, b) {
-        match rounded_result(job.format, job.operation, job.mode, a, b) {
+    if meets(job.a.mask, a) & meets(job.b.mask, b) {
+        match rounded_result(
+            job.setting.format,
+            job.setting.operation,
+            job.setting.mode,
+            a,
+            b,
+        ) {
             Reply::Word(c) => confirmed(job, a, b, c),
             Reply::Refused(_) => false,
         }
@@ -78,12 +84,16 @@ fn together(job: Job, a: u64, b: u64) -> bool
 
 // Whether a fits together with one of the words that stand for b.
 fn partnered(job: Job, a: u64, eb: u64) -> bool
-    requires { ⌜ Valid job × (a < 2 ^ wordBits (job .format)) × (eb < 2 ^ job .format .w) ⌝ }
+    requires { ⌜ Valid job × (a < 2 ^ wordBits (job .setting .format)) × (eb < 2 ^ job .setting .format .w) ⌝ }
     ensures { λ r. ⌜ r ≡ partnered job a eb ⌝ }
 {
     let mut k = 0;
     while k < 4 {
-        if together(job, a, representative(job.format, job.b, eb, k)) {
+        if together(
+            job,
+            a,
+            representative(job.setting.format, job.b.mask, eb, k),
+        ) {
             return true;
         }
         k += 1;
@@ -102,7 +112,11 @@ pub(crate) fn special_pair(job: Job, ea: u64, eb: u64) -> bool
     }
     let mut k = 0;
     while k < 4 {
-        if partnered(job, representative(job.format, job.a, ea, k), eb) {
+        if partnered(
+            job,
+            representative(job.setting.format, job.a.mask, ea, k),
+            eb,
+        ) {
             return true;
         }
         k += 1;

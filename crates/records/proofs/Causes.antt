@@ -43,14 +43,14 @@ mask-fits F h width m le w =
 
 pub entry-fits : (e : Entry) → Request (e .job) (e .r1) (e .r2) → AllFit shapes (fields e)
 entry-fits e v =
-    let F : Format = e .job .format in
-    let h : Supported F = v .valid .format in
+    let F : Format = e .job .setting .format in
+    let h : Supported F = v .valid .setting .format in
     let W : ℕ = wordBits F in
-    all.more (mask-fits F h W (e .job .a) (omega arith) (v .valid .a))
-    (all.more (mask-fits F h W (e .job .b) (omega arith) (v .valid .b))
-    (all.more (mask-fits F h W (e .job .c) (omega arith) (v .valid .c))
+    all.more (mask-fits F h W (e .job .a .mask) (omega arith) (v .valid .a .mask))
+    (all.more (mask-fits F h W (e .job .b .mask) (omega arith) (v .valid .b .mask))
+    (all.more (mask-fits F h W (e .job .c .mask) (omega arith) (v .valid .c .mask))
     (all.more (mask-fits F h (precision F) (e .job .carries) (omega arith) (v .valid .carries))
-    (all.more (field.more {k = 1} {n = e .job .mode} (omega (arith, v .valid .mode)) field.none)
+    (all.more (field.more {k = 1} {n = e .job .setting .mode} (omega (arith, v .valid .setting .mode)) field.none)
     (all.more (field.more (word-fits F h W (e .r1) (omega arith) (v .first-word)) (field.more (word-fits F h W (e .r2) (omega arith) (v .second-word)) field.none)) all.none)))))
 
 -- the length by the map is the record's length, 45 at most

@@ -6,7 +6,7 @@ use Prim.Native.Nat.{ℕ}
 use Rattle.format.specs.Format.{formatCause, operationCause, modeCause, wordCause}
 use Rattle.mask.specs.declared.Mask.{Mask}
 use Rattle.mask.specs.Mask.{maskCause}
-use Rattle.job.specs.Job.{masksCause, jobCause, requestCause}
+use Rattle.job.specs.Job.{settingCause, masksCause, jobCause, requestCause}
 use Rattle.records.specs.Number.{littleEndian}
 use Rattle.records.specs.Fields.{fieldBytes, isDefault, piece, mapBit, mapOf, body}
 use Rattle.records.specs.Record.{recordBytes}
@@ -19,12 +19,10 @@ abbrev entry : Mask → Entry
 entry carries =
     record {
       job = record {
-        format = record { w = 3; f = 4 };
-        operation = 0;
-        mode = 0;
-        a = record { care = 0xf7; value = 0x45 };
-        b = record { care = 0xef; value = 0x2b };
-        c = record { care = 0xe6; value = 0x44 };
+        setting = record { format = record { w = 3; f = 4 }; operation = 0; mode = 0 };
+        a = record { mask = record { care = 0xf7; value = 0x45 } };
+        b = record { mask = record { care = 0xef; value = 0x2b } };
+        c = record { mask = record { care = 0xe6; value = 0x44 } };
         carries = carries;
       };
       r1 = 0;
@@ -45,7 +43,7 @@ unfolding fileBytes recordBytes mapOf mapBit body piece isDefault fieldBytes lit
 example-bytes = refl
 
 writable : Writable jobs
-unfolding requestCause jobCause masksCause formatCause operationCause modeCause wordCause maskCause
+unfolding requestCause jobCause settingCause masksCause formatCause operationCause modeCause wordCause maskCause
 writable = more refl (more refl none)
 
 pub example-read : Reads file jobs

@@ -31,7 +31,7 @@ module _ (e : Entry) (t : List ℕ) (ok : recordCause e ≡ 0) where
 
   same-entry : entryIn (recordBytes e ++ t) ≡ e
   unfolding recordBytes
-  same-entry = ap (entryOf (e .job .format) (e .job .operation)) same-fields
+  same-entry = ap (entryOf (e .job .setting .format) (e .job .setting .operation)) same-fields
 
   no-cause : readCause (recordBytes e ++ t) ≡ 0
   unfolding recordBytes

@@ -34,8 +34,8 @@ maskNumbers m = m .care ∷ m .value ∷ []
 -- the numbers of an entry's fields, "in bit order"
 abbrev pub fields : Entry → List (List ℕ)
 fields e =
-    maskNumbers (e .job .a) ∷ maskNumbers (e .job .b) ∷ maskNumbers (e .job .c) ∷ maskNumbers (e .job .carries)
-    ∷ (e .job .mode ∷ []) ∷ (e .r1 ∷ e .r2 ∷ []) ∷ []
+    maskNumbers (e .job .a .mask) ∷ maskNumbers (e .job .b .mask) ∷ maskNumbers (e .job .c .mask) ∷ maskNumbers (e .job .carries)
+    ∷ (e .job .setting .mode ∷ []) ∷ (e .r1 ∷ e .r2 ∷ []) ∷ []
 
 -- the mask of a field's two numbers
 abbrev pub maskOf : List ℕ → Mask
@@ -46,12 +46,10 @@ abbrev pub entryOf : Format → ℕ → List (List ℕ) → Entry
 entryOf format operation fs =
     record {
       job = record {
-        format = format;
-        operation = operation;
-        mode = getD (getD fs 4 []) 0 0;
-        a = maskOf (getD fs 0 []);
-        b = maskOf (getD fs 1 []);
-        c = maskOf (getD fs 2 []);
+        setting = record { format = format; operation = operation; mode = getD (getD fs 4 []) 0 0 };
+        a = record { mask = maskOf (getD fs 0 []) };
+        b = record { mask = maskOf (getD fs 1 []) };
+        c = record { mask = maskOf (getD fs 2 []) };
         carries = maskOf (getD fs 3 []);
       };
       r1 = getD (getD fs 5 []) 0 0;
@@ -67,7 +65,7 @@ recordCause e = requestCause (e .job) (e .r1) (e .r2)
 -- "A record begins with a map byte"; "Then w, f and the operation, a byte each. Then, in bit order, only the fields whose bit stands."
 unfoldable pub recordBytes : Entry → List ℕ
 recordBytes e =
-    mapOf (fields e) ∷ e .job .format .w ∷ e .job .format .f ∷ e .job .operation ∷ body shapes (fields e)
+    mapOf (fields e) ∷ e .job .setting .format .w ∷ e .job .setting .format .f ∷ e .job .setting .operation ∷ body shapes (fields e)
 
 -- ---- reading
 

@@ -13,6 +13,8 @@ use format::cause;
 use format::first;
 use format::unless;
 use job::Job;
+use job::Setting;
+use job::Wanted;
 use job::request_cause;
 use mask::Mask;
 use number::put_number;
@@ -64,11 +66,11 @@ pub fn entry_cause(entry: Entry) -> u64
 fn map_of(entry: Entry) -> u64
     ensures { λ r. ⌜ r ≡ mapOf (fields entry) ⌝ }
 {
-    let a = stands(entry.job.a.care, entry.job.a.value);
-    let b = stands(entry.job.b.care, entry.job.b.value);
-    let c = stands(entry.job.c.care, entry.job.c.value);
+    let a = stands(entry.job.a.mask.care, entry.job.a.mask.value);
+    let b = stands(entry.job.b.mask.care, entry.job.b.mask.value);
+    let c = stands(entry.job.c.mask.care, entry.job.c.mask.value);
     let carries = stands(entry.job.carries.care, entry.job.carries.value);
-    let mode = stands(entry.job.mode, 0);
+    let mode = stands(entry.job.setting.mode, 0);
     let random = stands(entry.r1, entry.r2);
     a + 2 * b + 4 * c + 8 * carries + 16 * mode + 32 * random
 }
@@ -96,13 +98,16 @@ fn decode(s: &[u8], map: u64, format: Format, operation: u64) -> Entry
     let carries = mask_in(s, map, 3);
     let mode = mode_in(s, map);
     let random = words_in(s, map, 5);
-    let job = Job {
+    let setting = Setting {
         format,
         operation,
         mode,
-        a,
-        b,
-        c,
+    };
+    let job = Job {
+        setting,
+        a: Wanted { mask: a },
+        b: Wanted { mask: b },
+        c: Wanted { mask: c },
         carries,
     };
     Entry {
@@ -184,16 +189,16 @@ fn put_fields(buffer: &mut [u8], at: usize, entry: Entry)
     requires { ⌜ at + length (body shapes (fields entry)) ≤ length (now buffer) ⌝ }
     ensures { λ _. ⌜ now (buffer .exit) ≡ put (now (buffer .entry)) at (body shapes (fields entry)) ⌝ }
 {
-    let b_at = put_words(buffer, at, entry.job.a.care, entry.job.a.value);
-    let c_at = put_words(buffer, b_at, entry.job.b.care, entry.job.b.value);
-    let carries_at = put_words(buffer, c_at, entry.job.c.care, entry.job.c.value);
+    let b_at = put_words(buffer, at, entry.job.a.mask.care, entry.job.a.mask.value);
+    let c_at = put_words(buffer, b_at, entry.job.b.mask.care, entry.job.b.mask.value);
+    let carries_at = put_words(buffer, c_at, entry.job.c.mask.care, entry.job.c.mask.value);
     let mode_at = put_words(
         buffer,
         carries_at,
         entry.job.carries.care,
         entry.job.carries.value,
     );
-    let random_at = put_mode(buffer, mode_at, entry.job.mode);
+    let random_at = put_mode(buffer, mode_at, entry.job.setting.mode);
     put_words(buffer, random_at, entry.r1, entry.r2);
 }
 
@@ -202,8 +207,8 @@ fn put_record(buffer: &mut [u8], map: u64, entry: Entry)
     requires { ⌜ (recordCause entry ≡ 0) × (map ≡ mapOf (fields entry)) × (length (recordBytes entry) ≤ length (now buffer)) ⌝ }
     ensures { λ _. ⌜ now (buffer .exit) ≡ recordBytes entry ++ drop (length (recordBytes entry)) (now (buffer .entry)) ⌝ }
 {
-    let format = entry.job.format;
-    put_header(buffer, map, format, entry.job.operation);
+    let format = entry.job.setting.format;
+    put_header(buffer, map, format, entry.job.setting.operation);
     put_fields(buffer, HEADER, entry);
 }
 

@@ -2,6 +2,8 @@
 use crate::reading;
 use format::Format;
 use job::Job;
+use job::Setting;
+use job::Wanted;
 use libc::STDOUT_FILENO;
 use mask::Mask;
 use records::Entry;
@@ -90,13 +92,17 @@ pub fn example() {
 
 // One mask for a, b and c, and another for the carries.
 fn entry(format: Format, operation: u64, mode: u64, mask: Mask, carries: Mask, r1: u64) -> Entry {
-    let job = Job {
+    let setting = Setting {
         format,
         operation,
         mode,
-        a: mask,
-        b: mask,
-        c: mask,
+    };
+    let wanted = Wanted { mask };
+    let job = Job {
+        setting,
+        a: wanted,
+        b: wanted,
+        c: wanted,
         carries,
     };
     Entry { job, r1, r2: 0 }

@@ -3,45 +3,45 @@ use mathlib.Core.Path.{_≡_, refl, subst}
 use Prim.Native.Nat.{ℕ}
 use native.Mathlib.Omega.{arith}
 use Rattle.format.specs.Format.{wordBits}
-use Rattle.columns.specs.Choice.{Closest, ClosestPair}
-use Rattle.columns.proofs.Closest.{closest-cong}
-use Rattle.columns.proofs.Pair.{First, pair-of}
-use Rattle.fixing.specs.Walk.{Has}
+use Rattle.choice.specs.Choice.{Closest, ClosestPair}
+use Rattle.choice.proofs.Closest.{closest-cong}
+use Rattle.choice.proofs.Pair.{First, pair-of}
+use Rattle.choice.specs.Walk.{Has}
 use Rattle.job.specs.declared.Job.{Job}
+use Rattle.job.specs.declared.Role.{Role}
+use Rattle.job.specs.declared.Role.the-variants.{A, B}
 use Rattle.fit.specs.Fit.{Fits, Fitting}
-use Rattle.search.specs.declared.Role.{Role}
-use Rattle.search.specs.declared.Role.the-variants.{A, B}
 use Rattle.search.specs.Left.{Ready}
-use Rattle.search.specs.Walk.{NoneBelow, Open, Case, CaseFits, operandOf, Settled}
+use Rattle.search.specs.Walk.{NoneBelow, Open, Case, CaseFits, memberOf, Settled}
 use Rattle.search.proofs.Roles.{none-back}
 
 -- before a walk every bit is open
-pub all-open : (j : Job) (role : Role) (width : ℕ) → Ready j → width ≡ wordBits (j .format) → Open j role width
+pub all-open : (j : Job) (role : Role) (width : ℕ) → Ready j → width ≡ wordBits (j .setting .format) → Open j role width
 all-open j role width ready e = record { ready = ready; most = omega arith; settled = λ i l h. absurd (omega arith) }
 
 -- and no case that the first walk leaves has a row that none had
 pub settled-none : (j : Job) (word : ℕ) (t : Job) (n : ℕ) → Settled j A word t → NoneBelow j n → NoneBelow t n
-settled-none j word t n q = none-back j t n (q .format) (λ p f. q .settles .same p .0 f .0)
+settled-none j word t n q = none-back j t n (q .setting) (λ p f. q .settles .same p .0 f .0)
 
 module _ (j : Job) (r1 r2 : ℕ) (t u : Job) (qa : Settled j A r1 t) (qb : Settled t B r2 u) where
-  a-closest : Closest (First (Fitting j)) r1 (t .a .value)
+  a-closest : Closest (First (Fitting j)) r1 (t .a .mask .value)
   a-closest =
-      closest-cong (Has Case (operandOf A) (CaseFits j)) (First (Fitting j))
+      closest-cong (Has Case (memberOf A) (CaseFits j)) (First (Fitting j))
       (λ v p. subst (First (Fitting j)) (p .is) (p .case .1, (p .case .2, p .fits)))
       (λ v p. record { case = (v, p .0, p .1 .0); fits = p .1 .1; is = refl })
-      r1 (t .a .value) (qa .settles .closest)
+      r1 (t .a .mask .value) (qa .settles .closest)
 
-  b-closest : Closest (Fitting j (t .a .value)) r2 (u .b .value)
-  b-closest = closest-cong (Has Case (operandOf B) (CaseFits t)) (Fitting j (t .a .value)) to from r2 (u .b .value) (qb .settles .closest)
+  b-closest : Closest (Fitting j (t .a .mask .value)) r2 (u .b .mask .value)
+  b-closest = closest-cong (Has Case (memberOf B) (CaseFits t)) (Fitting j (t .a .mask .value)) to from r2 (u .b .mask .value) (qb .settles .closest)
     where
-      to : (v : ℕ) → Has Case (operandOf B) (CaseFits t) v → Fitting j (t .a .value) v
+      to : (v : ℕ) → Has Case (memberOf B) (CaseFits t) v → Fitting j (t .a .mask .value) v
       to v p =
           let c = p .case in
           let f = qa .settles .same c .0 (p .fits) in
-          (c .2, subst (λ (b : ℕ). Fits j (t .a .value) b (c .2)) (p .is) (subst (λ (a : ℕ). Fits j a (c .1) (c .2)) (f .1) (f .0)))
+          (c .2, subst (λ (b : ℕ). Fits j (t .a .mask .value) b (c .2)) (p .is) (subst (λ (a : ℕ). Fits j a (c .1) (c .2)) (f .1) (f .0)))
 
-      from : (v : ℕ) → Fitting j (t .a .value) v → Has Case (operandOf B) (CaseFits t) v
-      from v p = record { case = (t .a .value, v, p .0); fits = qa .settles .same (t .a .value, v, p .0) .1 (p .1, refl); is = refl }
+      from : (v : ℕ) → Fitting j (t .a .mask .value) v → Has Case (memberOf B) (CaseFits t) v
+      from v p = record { case = (t .a .mask .value, v, p .0); fits = qa .settles .same (t .a .mask .value, v, p .0) .1 (p .1, refl); is = refl }
 
-  pub walks-choose : ClosestPair (Fitting j) r1 r2 (t .a .value) (u .b .value)
-  walks-choose = pair-of (Fitting j) r1 r2 (t .a .value) (u .b .value) a-closest b-closest
+  pub walks-choose : ClosestPair (Fitting j) r1 r2 (t .a .mask .value) (u .b .mask .value)
+  walks-choose = pair-of (Fitting j) r1 r2 (t .a .mask .value) (u .b .mask .value) a-closest b-closest

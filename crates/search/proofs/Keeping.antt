@@ -49,14 +49,14 @@ module _ (j : Job) (k : ℕ) where
           kept n (⊎-elim (λ b. inl (sym (other 63 (λ e. omega arith)) ∙ b)) (λ b. inr (sym (other n ne) ∙ b)) known)
 
   -- only the mark that the class was asked about
-  pub marked : j .format .f ≤ 23 → Refuses j k (2 ^ 62)
+  pub marked : j .setting .format .f ≤ 23 → Refuses j k (2 ^ 62)
   marked most i known l = absurd (⊎-elim (none 63 (λ e. omega arith)) (none i (λ e. omega arith)) known)
     where
       none : (n : ℕ) → (62 ≡ n → ⊥) → bit (2 ^ 62) n ≡ 1 → ⊥
       none n ne e = let z = bit-pow-other 62 n ne in omega arith
 
   -- the class admits nothing
-  pub closed : Valid j → j .format .f + 9 ≤ allOnes (j .format) → (ClassAdmits j k anyField → ⊥) → (word : ℕ) → Refuses j k word
+  pub closed : Valid j → j .setting .format .f + 9 ≤ allOnes (j .setting .format) → (ClassAdmits j k anyField → ⊥) → (word : ℕ) → Refuses j k word
   closed valid wide never word i known l admits = never (class-less j k i valid (omega arith) admits)
 
   pub closed-none : (word u : ℕ) → Refuses j k word → bit word 63 ≡ 1 → NoField j k u
@@ -64,16 +64,16 @@ module _ (j : Job) (k : ℕ) where
 
 -- ---- the questions
 module _ (j : Job) (k u : ℕ) (class : ClassOf j k u) where
-  pub only-asked : (i : ℕ) → i ≤ j .format .f + 6 → ClassAsked j k (onlyField (j .format) i)
-  only-asked i l = record { valid = class .valid; wide = class .wide; class-lt = class .class-lt; formed = only-formed (j .format) i (omega (arith, class .wide)) }
+  pub only-asked : (i : ℕ) → i ≤ j .setting .format .f + 6 → ClassAsked j k (onlyField (j .setting .format) i)
+  only-asked i l = record { valid = class .valid; wide = class .wide; class-lt = class .class-lt; formed = only-formed (j .setting .format) i (omega (arith, class .wide)) }
 
   pub any-asked : ClassAsked j k anyField
-  any-asked = record { valid = class .valid; wide = class .wide; class-lt = class .class-lt; formed = any-formed (j .format) }
+  any-asked = record { valid = class .valid; wide = class .wide; class-lt = class .class-lt; formed = any-formed (j .setting .format) }
 
 -- the mask that the code forms
-pub only-is : (j : Job) (p i : ℕ) → Valid j → p ≡ 2 ^ j .format .w % 2 ^ 64 → _≡_ {A = Mask} (record { care = p - 1; value = i }) (onlyField (j .format) i)
+pub only-is : (j : Job) (p i : ℕ) → Valid j → p ≡ 2 ^ j .setting .format .w % 2 ^ 64 → _≡_ {A = Mask} (record { care = p - 1; value = i }) (onlyField (j .setting .format) i)
 only-is j p i valid e =
-    ap (λ (n : ℕ). record { care = n - 1; value = i }) (e ∙ power-exact (j .format .w) (omega (arith, valid .format .w-most)))
+    ap (λ (n : ℕ). record { care = n - 1; value = i }) (e ∙ power-exact (j .setting .format .w) (omega (arith, valid .setting .format .w-most)))
 
 -- ---- the table
 replicated : (k : ℕ) → _≡_ {A = ℕ} (getD (replicate 128 0) k 0) 0
@@ -90,14 +90,14 @@ kept-fresh j = record {
   far = λ o E ho hE is. absurd (omega (arith, replicated (farPlace j o E)));
 }
 
-pub kept-set : (j : Job) (t : List ℕ) (k word : ℕ) → j .format .f ≤ 23 → k < 2 * (j .format .f + 5) → Kept j t → Refuses j k word → Kept j (set t k word)
+pub kept-set : (j : Job) (t : List ℕ) (k word : ℕ) → j .setting .format .f ≤ 23 → k < 2 * (j .setting .format .f + 5) → Kept j t → Refuses j k word → Kept j (set t k word)
 kept-set j t k word most l kept new = record {
   size = length-set t k word ∙ kept .size;
   answers = λ n h. go n h (ℕ-discrete n k);
   far = λ o E ho hE is. kept .far o E ho hE (sym (getD-set-other t k (farPlace j o E) word 0 (λ e. omega arith)) ∙ is);
 }
   where
-    go : (n : ℕ) → n < 2 * (j .format .f + 5) → Dec (n ≡ k) → Refuses j n (getD (set t k word) n 0)
+    go : (n : ℕ) → n < 2 * (j .setting .format .f + 5) → Dec (n ≡ k) → Refuses j n (getD (set t k word) n 0)
     go n h (yes e) =
         subst (λ (m : ℕ). Refuses j m (getD (set t k word) m 0)) (sym e) (subst (Refuses j k) (sym (getD-set-same t k word 0 (omega (arith, kept .size)))) new)
     go n h (no ne) = subst (Refuses j n) (sym (getD-set-other t k n word 0 ne)) (kept .answers n h)
@@ -118,14 +118,14 @@ module _ (j : Job) (t : List ℕ) (ea eb place : ℕ) (far : FarPair j ea eb pla
   far-known is p =
       kept .far (far .order) (far .larger) order-lt (far .below) (subst (λ (k : ℕ). getD t k 0 ≡ 1) (far .at) is) (far .smaller) (far .some) (far .far) (ordered p)
 
-  pub far-kept : j .format .f ≤ 23 → NoneFar j (far .order) (far .larger) → Kept j (set t place 1)
+  pub far-kept : j .setting .format .f ≤ 23 → NoneFar j (far .order) (far .larger) → Kept j (set t place 1)
   far-kept most none = record {
     size = length-set t place 1 ∙ kept .size;
     answers = λ n h. subst (Refuses j n) (sym (getD-set-other t place n 1 0 (λ e. omega (arith, far .at)))) (kept .answers n h);
     far = λ o E ho hE is. go o E ho hE is (ℕ-discrete (farPlace j o E) place);
   }
     where
-      go : (o E : ℕ) → o < 2 → E < allOnes (j .format) → getD (set t place 1) (farPlace j o E) 0 ≡ 1 → Dec (farPlace j o E ≡ place) → NoneFar j o E
+      go : (o E : ℕ) → o < 2 → E < allOnes (j .setting .format) → getD (set t place 1) (farPlace j o E) 0 ≡ 1 → Dec (farPlace j o E ≡ place) → NoneFar j o E
       go o E ho hE is (yes e) =
           let one : far .order ≡ o = omega (arith, far .at, far .below, order-lt) in
           let two : far .larger ≡ E = omega (arith, far .at, far .below, order-lt) in
@@ -134,16 +134,16 @@ module _ (j : Job) (t : List ℕ) (ea eb place : ℕ) (far : FarPair j ea eb pla
 
 -- a pair that is refused refuses all of its kind
 module _ (j : Job) (ea eb place : ℕ) (far : FarPair j ea eb place) (asked : Asked j ea eb) (none : PairFits j ea eb → ⊥) where
-  finites : (d e : ℕ) → d < allOnes (j .format) → e < allOnes (j .format) → Asked j d e → Finites j d e
+  finites : (d e : ℕ) → d < allOnes (j .setting .format) → e < allOnes (j .setting .format) → Asked j d e → Finites j d e
   finites d e hd he a = record { valid = a .valid; a-finite = hd; b-finite = he; a-exponent = a .a-exponent; b-exponent = a .b-exponent }
 
   pub none-far : NoneFar j (far .order) (far .larger)
   none-far e some gap = ⊎-elim first second (far .fields)
     where
-      low : e < allOnes (j .format)
+      low : e < allOnes (j .setting .format)
       low = omega (arith, far .below)
 
-      own : far .smaller < allOnes (j .format)
+      own : far .smaller < allOnes (j .setting .format)
       own = omega (arith, far .below, far .far)
 
       first : (far .order ≡ 0) × (far .larger ≡ ea) × (far .smaller ≡ eb) → Ordered j (far .order) (far .larger) e → ⊥
@@ -159,14 +159,14 @@ module _ (j : Job) (ea eb place : ℕ) (far : FarPair j ea eb place) (asked : As
           none (rw (l, s) at (far-b j (far .larger) (far .smaller) e (far .some) some (far .far) gap (finites e (far .larger) low (far .below) (pair-asked j e (far .larger) (asked .valid) q)) (finites (far .smaller) (far .larger) own (far .below) mine) q))
 
 -- ---- the pairs that classes answer for
-pub end-short : (j : Job) (ones : ℕ) → ones ≡ allOnes (j .format) → j .format .f + 9 ≤ ones → ClassEnd j (ones - 2)
+pub end-short : (j : Job) (ones : ℕ) → ones ≡ allOnes (j .setting .format) → j .setting .format .f + 9 ≤ ones → ClassEnd j (ones - 2)
 end-short j ones is wide E e l h = (record { wide = omega arith; normal = l; within = inl (omega arith) }, omega arith)
 
-pub end-long : (j : Job) (ones : ℕ) → ones ≡ allOnes (j .format) → j .format .f + 9 ≤ ones → NeverPast (j .format) (j .c) → ClassEnd j ones
+pub end-long : (j : Job) (ones : ℕ) → ones ≡ allOnes (j .setting .format) → j .setting .format .f + 9 ≤ ones → NeverPast (j .setting .format) (j .c .mask) → ClassEnd j ones
 end-long j ones is wide never E e l h = (record { wide = omega arith; normal = l; within = inr never }, omega arith)
 
 -- ---- a pair
-module _ (j : Job) (ea eb E e : ℕ) (valid : Valid j) (first : eb ≤ ea → (E ≡ ea) × (e ≡ eb)) (second : ea < eb → (E ≡ eb) × (e ≡ ea)) (wide : j .format .f + 9 ≤ allOnes (j .format)) (below : E < allOnes (j .format)) where
+module _ (j : Job) (ea eb E e : ℕ) (valid : Valid j) (first : eb ≤ ea → (E ≡ ea) × (e ≡ eb)) (second : ea < eb → (E ≡ eb) × (e ≡ ea)) (wide : j .setting .format .f + 9 ≤ allOnes (j .setting .format)) (below : E < allOnes (j .setting .format)) where
   order : ((E ≡ ea) × (e ≡ eb) × (eb ≤ ea)) ⊎ ((E ≡ eb) × (e ≡ ea) × (ea < eb))
   order = go (decLe eb ea)
     where
@@ -174,20 +174,20 @@ module _ (j : Job) (ea eb E e : ℕ) (valid : Valid j) (first : eb ≤ ea → (E
       go (yes l) = let f = first l in inl (f .0, f .1, l)
       go (no l) = let g : ea < eb = omega arith in let s = second g in inr (s .0, s .1, g)
 
-  pub class-small : classOf (j .format .f) ea eb < 2 * (j .format .f + 5)
+  pub class-small : classOf (j .setting .format .f) ea eb < 2 * (j .setting .format .f + 5)
   class-small = go (decLe eb ea)
     where
-      go : Dec (eb ≤ ea) → classOf (j .format .f) ea eb < 2 * (j .format .f + 5)
-      go (yes l) = rw (le-leb eb ea l) (omega (arith, low-le (j .format .f) ea eb l))
-      go (no l) = rw (lt-leb eb ea (omega arith)) (omega (arith, low-le (j .format .f) eb ea (omega arith)))
+      go : Dec (eb ≤ ea) → classOf (j .setting .format .f) ea eb < 2 * (j .setting .format .f + 5)
+      go (yes l) = rw (le-leb eb ea l) (omega (arith, low-le (j .setting .format .f) ea eb l))
+      go (no l) = rw (lt-leb eb ea (omega arith)) (omega (arith, low-le (j .setting .format .f) eb ea (omega arith)))
 
-  pub pair-class : ClassOf j (classOf (j .format .f) ea eb) (E - 1)
+  pub pair-class : ClassOf j (classOf (j .setting .format .f) ea eb) (E - 1)
   pair-class =
-      let most = pow-mono {i = j .format .w} {j = 8} (valid .format .w-most) in
+      let most = pow-mono {i = j .setting .format .w} {j = 8} (valid .setting .format .w-most) in
       record { valid = valid; wide = wide; class-lt = class-small; unit-lt = omega arith }
 
   -- a class that admits nothing there has no pair that does
-  pub pair-never : Classed (j .format) (j .c) E e → NoField j (classOf (j .format .f) ea eb) (E - 1) → PairFits j ea eb → ⊥
+  pub pair-never : Classed (j .setting .format) (j .c .mask) E e → NoField j (classOf (j .setting .format .f) ea eb) (E - 1) → PairFits j ea eb → ⊥
   pair-never classed none p =
       let asked = pair-asked j ea eb valid p in
       let fin : Finites j ea eb = record {

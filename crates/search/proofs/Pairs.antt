@@ -32,19 +32,19 @@ field-meets F m x e h met is = subst (λ (u : ℕ). Meets u (exponentMask F m)) 
 pub pair-asked : (j : Job) (ea eb : ℕ) → Valid j → PairFits j ea eb → Asked j ea eb
 pair-asked j ea eb v p = record {
   valid = v;
-  a-lt = subst (λ (u : ℕ). u < 2 ^ j .format .w) (p .a-exponent) (field-lt (j .format) (p .a));
-  b-lt = subst (λ (u : ℕ). u < 2 ^ j .format .w) (p .b-exponent) (field-lt (j .format) (p .b));
-  a-exponent = field-meets (j .format) (j .a) (p .a) ea (v .a) (p .fits .a-meets) (p .a-exponent);
-  b-exponent = field-meets (j .format) (j .b) (p .b) eb (v .b) (p .fits .b-meets) (p .b-exponent);
+  a-lt = subst (λ (u : ℕ). u < 2 ^ j .setting .format .w) (p .a-exponent) (field-lt (j .setting .format) (p .a));
+  b-lt = subst (λ (u : ℕ). u < 2 ^ j .setting .format .w) (p .b-exponent) (field-lt (j .setting .format) (p .b));
+  a-exponent = field-meets (j .setting .format) (j .a .mask) (p .a) ea (v .a .mask) (p .fits .satisfies .a-allowed .mask) (p .a-exponent);
+  b-exponent = field-meets (j .setting .format) (j .b .mask) (p .b) eb (v .b .mask) (p .fits .satisfies .b-allowed .mask) (p .b-exponent);
 }
 
 pub pair-left : (j : Job) (ea eb : ℕ) → PairFits j ea eb → Left j
 pair-left j ea eb p = record { a = p .a; b = p .b; c = p .c; fits = p .fits }
 
 -- no pair admits a case, so none is left
-pub none-left : (j : Job) → ((ea eb : ℕ) → ea < 2 ^ j .format .w → eb < 2 ^ j .format .w → PairFits j ea eb → ⊥) → Left j → ⊥
+pub none-left : (j : Job) → ((ea eb : ℕ) → ea < 2 ^ j .setting .format .w → eb < 2 ^ j .setting .format .w → PairFits j ea eb → ⊥) → Left j → ⊥
 none-left j none p =
-    none (biased (j .format) (p .a) .0) (biased (j .format) (p .b) .0) (field-lt (j .format) (p .a)) (field-lt (j .format) (p .b))
+    none (biased (j .setting .format) (p .a) .0) (biased (j .setting .format) (p .b) .0) (field-lt (j .setting .format) (p .a)) (field-lt (j .setting .format) (p .b))
     (record { a = p .a; b = p .b; c = p .c; fits = p .fits; a-exponent = refl; b-exponent = refl })
 
 -- the test of an exponent field against its mask
@@ -55,9 +55,9 @@ tested F m e is q =
     (λ h. law .0 (sym same ∙ h), λ h. same ∙ law .1 h)
 
 -- the number of exponent fields is that of the format
-pub count-is : (j : Job) (count : ℕ) → Valid j → count ≡ 2 ^ j .format .w % 2 ^ 64 → count ≡ 2 ^ j .format .w
-count-is j count v e = e ∙ mod-eq-of-lt (pow-lt {i = j .format .w} {j = 64} (omega (arith, v .format .w-most)))
+pub count-is : (j : Job) (count : ℕ) → Valid j → count ≡ 2 ^ j .setting .format .w % 2 ^ 64 → count ≡ 2 ^ j .setting .format .w
+count-is j count v e = e ∙ mod-eq-of-lt (pow-lt {i = j .setting .format .w} {j = 64} (omega (arith, v .setting .format .w-most)))
 
 -- no row that is a pair's has a case left
-pub row-none : (j : Job) (row : ℕ) → FirstRow j row → 2 ^ j .format .w ≤ row → Left j → ⊥
+pub row-none : (j : Job) (row : ℕ) → FirstRow j row → 2 ^ j .setting .format .w ≤ row → Left j → ⊥
 row-none j row first past = none-left j (λ d e hd he p. first .none d e (omega arith) p)

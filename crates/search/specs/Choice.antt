@@ -1,7 +1,7 @@
 -- The operands that two random words choose (document 01, "Masks and choice": "the smallest a exclusive-or the first word, .. and then the
 -- smallest b exclusive-or the second"). Assumes nothing.
 use Prim.Native.Nat.{ℕ}
-use Rattle.columns.specs.Choice.{ClosestPair}
+use Rattle.choice.specs.Choice.{ClosestPair}
 use Rattle.job.specs.declared.Job.{Job}
 use Rattle.fit.specs.Fit.{Fitting}
 use Rattle.search.specs.declared.Choice.{Choice}

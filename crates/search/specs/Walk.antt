@@ -3,19 +3,19 @@
 use mathlib.Core.Path.{_≡_}
 use Prim.Native.Nat.{ℕ, _^_, _≤_, _<_}
 use Rattle.format.specs.Format.{wordBits}
-use Rattle.fixing.specs.Walk.{FixedFrom, Settles}
+use Rattle.choice.specs.Walk.{FixedFrom, Settles}
 use Rattle.job.specs.declared.Job.{Job}
+use Rattle.job.specs.declared.Role.{Role}
+use Rattle.job.specs.Role.{member, wanted}
 use Rattle.fit.specs.Fit.{Fits}
 use Rattle.pair.specs.Asked.{PairFits}
-use Rattle.search.specs.declared.Role.{Role}
-use Rattle.search.specs.Role.{operand, maskOf}
 use Rattle.search.specs.Left.{Left, Ready}
 
--- a case is left, and the operand's bits from position k on are fixed
+-- a case is left, and the word's bits from position k on are fixed
 pub record Open (j : Job) (role : Role) (k : ℕ) : Type 0 where
   pub ready : Ready j
-  pub most : k ≤ wordBits (j .format)
-  pub settled : FixedFrom (wordBits (j .format)) (maskOf role j) k
+  pub most : k ≤ wordBits (j .setting .format)
+  pub settled : FixedFrom (wordBits (j .setting .format)) (wanted role j .mask) k
 
 -- no pair of exponent fields of which a's is below n admits a case
 abbrev pub NoneBelow : Job → ℕ → Type 0
@@ -24,25 +24,25 @@ NoneBelow j n = (d e : ℕ) → d < n → PairFits j d e → ⊥
 -- r is the first exponent field of a that a case left has, or one past them all
 pub record FirstRow (j : Job) (r : ℕ) : Type 0 where
   pub none : NoneBelow j r
-  pub left : r < 2 ^ j .format .w → Left j
+  pub left : r < 2 ^ j .setting .format .w → Left j
 
 -- and no case left has an exponent field of a below n
 pub record Started (j : Job) (role : Role) (k n : ℕ) : Type 0 where
   pub top : Open j role k
   pub none : NoneBelow j n
 
--- the three words of a case as one, which fit, and of which an operand is settled
+-- the three words of a case as one, which fit, and of which one is settled
 abbrev pub Case : Type 0
 Case = ℕ × ℕ × ℕ
 
 abbrev pub CaseFits : Job → Case → Type 0
 CaseFits j p = Fits j (p .0) (p .1) (p .2)
 
-abbrev pub operandOf : Role → Case → ℕ
-operandOf role p = operand role (p .0) (p .1)
+abbrev pub memberOf : Role → Case → ℕ
+memberOf role p = member role (p .0) (p .1) (p .2)
 
--- t is j with the operand settled to its closest value
+-- t is j with the word settled to its closest value
 pub record Settled (j : Job) (role : Role) (word : ℕ) (t : Job) : Type 0 where
   pub ready : Ready t
-  pub format : t .format ≡ j .format
-  pub settles : Settles Case (operandOf role) (CaseFits j) word (CaseFits t) (maskOf role t .value)
+  pub setting : t .setting ≡ j .setting
+  pub settles : Settles Case (memberOf role) (CaseFits j) word (CaseFits t) (wanted role t .mask .value)

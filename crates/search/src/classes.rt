@@ -59,8 +59,8 @@ fn class_of(f: u64, ea: u64, eb: u64) -> u64
 
 // One field of c is asked about, unless its answer is known or c's mask does not let it through.
 fn try_field(job: Job, k: u64, u: u64, i: u64, refused: u64) -> Known
-    requires { ⌜ ClassOf job k u × Refuses job k refused × (i ≤ job .format .f + 6) ⌝ }
-    ensures { λ r. ⌜ Refuses job k (r .refused) × (r .possible ≡ false → Meets (fieldAt (job .format .f) u i) (exponentMask (job .format) (job .c)) → Never job k i) ⌝ }
+    requires { ⌜ ClassOf job k u × Refuses job k refused × (i ≤ job .setting .format .f + 6) ⌝ }
+    ensures { λ r. ⌜ Refuses job k (r .refused) × (r .possible ≡ false → Meets (fieldAt (job .setting .format .f) u i) (exponentMask (job .setting .format) (job .c .mask)) → Never job k i) ⌝ }
 {
     let same = Known {
         possible: false,
@@ -70,13 +70,13 @@ fn try_field(job: Job, k: u64, u: u64, i: u64, refused: u64) -> Known
         return same;
     }
     if !meets(
-        exponent_mask(job.format, job.c),
-        field_at(job.format.f, u, i),
+        exponent_mask(job.setting.format, job.c.mask),
+        field_at(job.setting.format.f, u, i),
     ) {
         return same;
     }
     let only = Mask {
-        care: power(job.format.w) - 1,
+        care: power(job.setting.format.w) - 1,
         value: i,
     };
     if class_admits(job, k, only) {
@@ -112,9 +112,9 @@ fn try_fields(job: Job, k: u64, u: u64, known: u64) -> Known
     requires { ⌜ ClassOf job k u × Refuses job k known ⌝ }
     ensures { λ r. ⌜ Refuses job k (r .refused) × (r .possible ≡ false → NoField job k u) ⌝ }
 {
-    let least = least_field(job.format.f, k);
+    let least = least_field(job.setting.format.f, k);
     let mut refused = known;
-    let mut n = job.format.f + 7;
+    let mut n = job.setting.format.f + 7;
     while least < n {
         n -= 1;
         let tried = try_field(job, k, u, n, refused);
@@ -166,15 +166,15 @@ pub(crate) fn class_end(job: Job) -> u64
     requires { ⌜ Valid job ⌝ }
     ensures { λ r. ⌜ ClassEnd job r ⌝ }
 {
-    let ones = power(job.format.w) - 1;
-    if ones < job.format.f + 9 {
+    let ones = power(job.setting.format.w) - 1;
+    if ones < job.setting.format.f + 9 {
         return 0;
     }
-    let fraction = low(job.c, job.format.f);
+    let fraction = low(job.c.mask, job.setting.format.f);
     if meets(fraction, 0) {
         return ones - 2;
     }
-    if meets(fraction, power(job.format.f) - 1) {
+    if meets(fraction, power(job.setting.format.f) - 1) {
         return ones - 2;
     }
     ones
@@ -230,19 +230,19 @@ fn place_of(ones: u64, f: u64, order: u64, most: u64, least: u64) -> u64
 
 // The place of a pair with a far gap, or 0.
 fn far_place(job: Job, ea: u64, eb: u64) -> u64
-    requires { ⌜ Valid job × (ea < 2 ^ job .format .w) × (eb < 2 ^ job .format .w) ⌝ }
+    requires { ⌜ Valid job × (ea < 2 ^ job .setting .format .w) × (eb < 2 ^ job .setting .format .w) ⌝ }
     ensures { λ r. ⌜ (r ≡ 0) ⊎ FarPair job ea eb r ⌝ }
 {
-    let ones = power(job.format.w) - 1;
+    let ones = power(job.setting.format.w) - 1;
     if eb <= ea {
-        return place_of(ones, job.format.f, 0, ea, eb);
+        return place_of(ones, job.setting.format.f, 0, ea, eb);
     }
-    place_of(ones, job.format.f, 1, eb, ea)
+    place_of(ones, job.setting.format.f, 1, eb, ea)
 }
 
 // Whether a pair is open still: pairs with a far gap and the same larger field have one answer.
 fn far_open(job: Job, ea: u64, eb: u64, table: &[u64; 128]) -> bool
-    requires { ⌜ Valid job × (ea < 2 ^ job .format .w) × (eb < 2 ^ job .format .w) × Kept job (now table) ⌝ }
+    requires { ⌜ Valid job × (ea < 2 ^ job .setting .format .w) × (eb < 2 ^ job .setting .format .w) × Kept job (now table) ⌝ }
     ensures { λ r. ⌜ (r ≡ false → PairFits job ea eb → ⊥) ⌝ }
 {
     let place = far_place(job, ea, eb);
@@ -268,15 +268,15 @@ pub(crate) fn keep_refused(job: Job, ea: u64, eb: u64, table: &mut [u64; 128])
 
 // Whether a pair may admit a case, as far as its class tells.
 pub(crate) fn may_admit(job: Job, ea: u64, eb: u64, end: u64, table: &mut [u64; 128]) -> bool
-    requires { ⌜ Valid job × (ea < 2 ^ job .format .w) × (eb < 2 ^ job .format .w) × ClassEnd job end × Kept job (now table) ⌝ }
+    requires { ⌜ Valid job × (ea < 2 ^ job .setting .format .w) × (eb < 2 ^ job .setting .format .w) × ClassEnd job end × Kept job (now table) ⌝ }
     ensures { λ r. ⌜ Kept job (now (table .exit)) × (r ≡ false → PairFits job ea eb → ⊥) ⌝ }
 {
     let most = larger(ea, eb);
-    if !normal(job.format.f, most, smaller(ea, eb)) {
+    if !normal(job.setting.format.f, most, smaller(ea, eb)) {
         return true;
     }
     if end <= most {
         return far_open(job, ea, eb, table);
     }
-    class_may(job, class_of(job.format.f, ea, eb), most - 1, table)
+    class_may(job, class_of(job.setting.format.f, ea, eb), most - 1, table)
 }

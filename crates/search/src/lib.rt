@@ -7,6 +7,7 @@ use classes::class_end;
 use classes::keep_refused;
 use classes::may_admit;
 use job::Job;
+use job::Role;
 use job::job_cause;
 use mask::meets;
 use pair::fields::exponent_mask;
@@ -24,12 +25,6 @@ ghost use Rattle.search.specs.Left.{Ready};
 ghost use Rattle.search.specs.Walk.{NoneBelow, FirstRow};
 ghost use Rattle.search.specs.Choice.{Chosen};
 
-// Which operand is chosen.
-pub enum Role {
-    A,
-    B,
-}
-
 // The operands of a case.
 pub struct Pair {
     pub a: u64,
@@ -45,10 +40,10 @@ pub enum Choice {
 // Whether some case whose operands have these exponent fields fits; the question is put only where b's meets its mask and the class of the
 // pair leaves it open.
 fn admits(job: Job, ea: u64, eb: u64, end: u64, table: &mut [u64; 128]) -> bool
-    requires { ⌜ Valid job × (ea < 2 ^ job .format .w) × (eb < 2 ^ job .format .w) × Meets ea (exponentMask (job .format) (job .a)) × ClassEnd job end × Kept job (now table) ⌝ }
+    requires { ⌜ Valid job × (ea < 2 ^ job .setting .format .w) × (eb < 2 ^ job .setting .format .w) × Meets ea (exponentMask (job .setting .format) (job .a .mask)) × ClassEnd job end × Kept job (now table) ⌝ }
     ensures { λ r. ⌜ Kept job (now (table .exit)) × ((r ≡ true) ↔ PairFits job ea eb) ⌝ }
 {
-    if !meets(exponent_mask(job.format, job.b), eb) {
+    if !meets(exponent_mask(job.setting.format, job.b.mask), eb) {
         return false;
     }
     if !may_admit(job, ea, eb, end, table) {
@@ -71,16 +66,16 @@ fn first_field(job: Job, ea: u64) -> u64
     if signs_left(job) {
         return first;
     }
-    let ones = power(job.format.w) - 1;
+    let ones = power(job.setting.format.w) - 1;
     if ea < ones { ones } else { first }
 }
 
 // Where a row of pairs begins: at its first pair, or past its last one where the exponent field of a does not meet its mask.
 fn row_start(job: Job, ea: u64, count: u64) -> u64
     requires { ⌜ Valid job ⌝ }
-    ensures { λ r. ⌜ ((e : ℕ) → e < r → PairFits job ea e → ⊥) × (r < count → Meets ea (exponentMask (job .format) (job .a))) ⌝ }
+    ensures { λ r. ⌜ ((e : ℕ) → e < r → PairFits job ea e → ⊥) × (r < count → Meets ea (exponentMask (job .setting .format) (job .a .mask))) ⌝ }
 {
-    if meets(exponent_mask(job.format, job.a), ea) {
+    if meets(exponent_mask(job.setting.format, job.a.mask), ea) {
         first_field(job, ea)
     } else {
         count
@@ -93,7 +88,7 @@ pub(crate) fn first_row(job: Job, start: u64) -> u64
     requires { ⌜ Valid job × NoneBelow job start ⌝ }
     ensures { λ r. ⌜ FirstRow job r ⌝ }
 {
-    let count = power(job.format.w);
+    let count = power(job.setting.format.w);
     let end = class_end(job);
     let mut table = [0; 128];
     let mut ea = start;
@@ -117,7 +112,7 @@ pub fn case_left(job: Job) -> bool
     if job_cause(job) != 0 {
         return false;
     }
-    first_row(job, 0) < power(job.format.w)
+    first_row(job, 0) < power(job.setting.format.w)
 }
 
 // The operands that the random words choose: each bit of a, from the top, follows the first, and then each bit of b the second.
@@ -128,13 +123,13 @@ pub fn choose(job: Job, r1: u64, r2: u64) -> Choice
         return Choice::Nothing;
     }
     let row = first_row(job, 0);
-    if row < power(job.format.w) {
-        let width = job.format.w + job.format.f + 1;
+    if row < power(job.setting.format.w) {
+        let width = job.setting.format.w + job.setting.format.f + 1;
         let with_a = walk::settle(job, Role::A, r1, width, row);
         let with_b = walk::settle(with_a, Role::B, r2, width, row);
         return Choice::Operands(Pair {
-            a: with_a.a.value,
-            b: with_b.b.value,
+            a: with_a.a.mask.value,
+            b: with_b.b.mask.value,
         });
     }
     Choice::Nothing

@@ -1,4 +1,6 @@
+pub mod Fields
 pub mod Magnitudes
+pub mod Largest
 pub mod Gap
 pub mod Rounding
 pub mod Integers

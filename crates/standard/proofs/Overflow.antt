@@ -1,56 +1,46 @@
 -- Where the rounded magnitude passes the largest finite number, in each direction: the standard's own bounds. Assumes nothing.
 use mathlib.Core.Path.{_≡_, sym, ap, _∙_}
 use mathlib.Core.Logic.{_↔_}
-use Prim.Native.Nat.{ℕ, suc, _+_, _-_, _*_, _%_, _^_, _≤_, _<_}
-use native.Mathlib.Nat.{mul-assoc, suc-mul}
+use Prim.Native.Nat.{ℕ, _+_, _-_, _*_, _%_, _^_, _≤_, _<_}
+use native.Mathlib.Nat.{mul-assoc}
 use native.Mathlib.Decide.{decLt}
 use native.Mathlib.Omega.{arith}
-use lib.Pow.{pow-pos, pow-add}
+use lib.Pow.{pow-add}
 use Rattle.format.specs.declared.Format.{Format}
-use Rattle.format.specs.Format.{Supported, precision}
+use Rattle.format.specs.Format.{Supported}
 use Rattle.adder.specs.declared.Direction.{Direction}
 use Rattle.adder.specs.declared.Direction.the-variants.{Nearest, TowardZero, Away}
 use Rattle.adder.specs.Word.{allOnes}
 use Rattle.adder.specs.Rounding.{magnitudeWord, infinityWord}
-use Rattle.adder.proofs.Bounds.{four-exponents, infinity-pos}
-use Rattle.standard.specs.Representable.{magnitudeOf, largest, afterLargest, roundedMagnitude}
+use Rattle.adder.proofs.Bounds.{infinity-pos}
+use Rattle.standard.specs.Representable.{Representable, largest, afterLargest, roundedMagnitude}
 use Rattle.standard.specs.Rounds.{distance}
-use Rattle.standard.proofs.Magnitudes.{magnitude-kept, magnitude-representable, word-order, word-order-le, word-by-magnitude}
+use Rattle.standard.proofs.Magnitudes.{magnitude-representable, word-order, word-order-le, word-by-magnitude}
+use Rattle.standard.proofs.Largest.{largest-word, after-largest-word}
 use Rattle.standard.proofs.Rounding.{rounded-toward-zero, rounded-away, rounded-nearest, significand-parity, tie-even}
 
 module _ (F : Format) (ok : Supported F) where
-  -- infinity's word is where p + 1 bits would begin at the largest exponent
-  infinity-kept : infinityWord F ≡ (allOnes F - 2) * 2 ^ F .f + 2 ^ precision F
-  infinity-kept =
-      let e : allOnes F ≡ suc (suc (allOnes F - 2)) = omega (arith, four-exponents F ok) in
-      ap (λ (n : ℕ). n * 2 ^ F .f) e ∙ omega (arith, suc-mul (suc (allOnes F - 2)) (2 ^ F .f), suc-mul (allOnes F - 2) (2 ^ F .f), pow-add 2 (F .f) 1)
+  largest-representable : Representable F (largest F)
+  largest-representable = rw (largest-word F ok) (magnitude-representable F (infinityWord F - 1))
 
-  -- p ones at that exponent, and the next power of two
-  pub largest-is : largest F ≡ (2 ^ precision F - 1) * 2 ^ (allOnes F - 2)
-  largest-is =
-      let p = pow-add 2 (F .f) 1 in
-      let pos = pow-pos (F .f) in
-      let e : infinityWord F - 1 ≡ (allOnes F - 2) * 2 ^ F .f + (2 ^ precision F - 1) = omega (arith, infinity-kept) in
-      ap (magnitudeOf F) e ∙ magnitude-kept F (allOnes F - 2) (2 ^ precision F - 1) (omega arith) (λ h. absurd (omega arith))
-
-  pub after-largest-is : afterLargest F ≡ 2 ^ precision F * 2 ^ (allOnes F - 2)
-  after-largest-is =
-      let p = pow-add 2 (F .f) 1 in
-      let pos = pow-pos (F .f) in
-      ap (magnitudeOf F) infinity-kept ∙ magnitude-kept F (allOnes F - 2) (2 ^ precision F) (omega arith) (λ h. absurd (omega arith))
+  after-representable : Representable F (afterLargest F)
+  after-representable = rw (after-largest-word F ok) (magnitude-representable F (infinityWord F))
 
   adjacent : largest F < afterLargest F
-  adjacent = word-order F (infinityWord F - 1) (infinityWord F) .0 (omega (arith, infinity-pos F ok))
+  adjacent =
+      rw (largest-word F ok, after-largest-word F ok) (word-order F (infinityWord F - 1) (infinityWord F) .0 (omega (arith, infinity-pos F ok)))
 
   -- what passes the largest reaches the next
   passes : (d : Direction) (X : ℕ) → largest F < roundedMagnitude F d X → afterLargest F ≤ roundedMagnitude F d X
-  passes d X h = word-order-le F (infinityWord F) (magnitudeWord F d X) .0 (omega (arith, word-order F (infinityWord F - 1) (magnitudeWord F d X) .1 h))
+  passes d X h =
+      let l = word-order F (infinityWord F - 1) (magnitudeWord F d X) .1 (rw (largest-word F ok) at h) in
+      rw (after-largest-word F ok) (word-order-le F (infinityWord F) (magnitudeWord F d X) .0 (omega arith))
 
   pub overflow-toward-zero : (X : ℕ) → (largest F < roundedMagnitude F TowardZero X) ↔ (afterLargest F ≤ X)
   overflow-toward-zero X =
       let g = rounded-toward-zero F X in (
         λ h. omega (arith, passes TowardZero X h, g .not-above),
-        λ h. omega (arith, adjacent, g .greatest (afterLargest F) (magnitude-representable F (infinityWord F)) h),
+        λ h. omega (arith, adjacent, g .greatest (afterLargest F) after-representable h),
       )
 
   pub overflow-away : (X : ℕ) → (largest F < roundedMagnitude F Away X) ↔ (largest F < X)
@@ -58,7 +48,7 @@ module _ (F : Format) (ok : Supported F) where
     where
       to : Dec (largest F < X) → largest F < roundedMagnitude F Away X → largest F < X
       to (yes l) h = l
-      to (no l) h = absurd (omega (arith, rounded-away F X .least (largest F) (magnitude-representable F (infinityWord F - 1)) (omega arith)))
+      to (no l) h = absurd (omega (arith, rounded-away F X .least (largest F) largest-representable (omega arith)))
 
   -- the word of the largest is odd
   infinity-even : infinityWord F % 2 ≡ 0
@@ -72,8 +62,8 @@ module _ (F : Format) (ok : Supported F) where
   module _ (X : ℕ) where
     not-tied : largest F ≡ roundedMagnitude F Nearest X → distance (afterLargest F) X ≡ distance (roundedMagnitude F Nearest X) X → ⊥
     not-tied e d =
-        let even = tie-even F ok X (afterLargest F) (magnitude-representable F (infinityWord F)) (λ q. omega (arith, adjacent)) d in
-        let w = word-by-magnitude F (infinityWord F - 1) (magnitudeWord F Nearest X) e in
+        let even = tie-even F ok X (afterLargest F) after-representable (λ q. omega (arith, adjacent)) d in
+        let w = word-by-magnitude F (infinityWord F - 1) (magnitudeWord F Nearest X) (sym (largest-word F ok) ∙ e) in
         let l = sym (significand-parity F ok (magnitudeWord F Nearest X)) ∙ even in
         last (infinityWord F) (magnitudeWord F Nearest X) (infinity-pos F ok) infinity-even l w
       where
@@ -83,7 +73,7 @@ module _ (F : Format) (ok : Supported F) where
     pub overflow-nearest : (largest F < roundedMagnitude F Nearest X) ↔ (largest F + afterLargest F ≤ 2 * X)
     overflow-nearest = (
       λ h. to (largest F) (afterLargest F) (roundedMagnitude F Nearest X) adjacent (passes Nearest X h)
-          (rounded-nearest F X .closest (largest F) (magnitude-representable F (infinityWord F - 1))),
+          (rounded-nearest F X .closest (largest F) largest-representable),
       λ h. back (decLt (largest F) (roundedMagnitude F Nearest X)) h,
     )
       where
@@ -98,5 +88,5 @@ module _ (F : Format) (ok : Supported F) where
         back (no l) h =
             let t =
             tied (largest F) (afterLargest F) (roundedMagnitude F Nearest X) adjacent (omega arith) h
-            (rounded-nearest F X .closest (afterLargest F) (magnitude-representable F (infinityWord F))) in
+            (rounded-nearest F X .closest (afterLargest F) after-representable) in
             absurd (not-tied (t .0) (t .1))

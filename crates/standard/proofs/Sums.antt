@@ -12,17 +12,19 @@ use lib.IntN.{ℤ, pos, negℤ, natAbs, _+ℤ_, negℤ-+ℤ, negℤ-negℤ, +ℤ
 use Rattle.format.specs.declared.Format.{Format}
 use Rattle.format.specs.Format.{Supported}
 use Rattle.adder.specs.declared.Finite.{Finite}
-use Rattle.adder.specs.Word.{sign, significand, signed}
+use Rattle.adder.specs.Word.{sign, significand}
 use Rattle.adder.specs.Operand.{finiteOf, magnitude}
-use Rattle.adder.specs.Rounding.{direction, overflowWord, rounded}
+use Rattle.adder.specs.Rounding.{direction, rounded}
 use Rattle.adder.specs.Result.{effective, cancelledSign, result}
 use Rattle.adder.specs.Exact.{exactMagnitude, exactSign}
 use Rattle.adder.proofs.Fields.{effective-sign, effective-biased, effective-fraction}
 use Rattle.adder.proofs.RoundedFields.{rounded-sign}
 use Rattle.adder.proofs.ExactSum.{exact-sign-lt, result-exact}
 use Rattle.standard.specs.Representable.{roundedMagnitude, largest}
+use Rattle.standard.specs.Fields.{effectiveSign}
 use Rattle.standard.specs.Number.{signedNumber, number, FiniteWord}
-use Rattle.standard.specs.Sum.{exactNumber, signOf, overflowed, RoundedWord, SignOfSum}
+use Rattle.standard.specs.Sum.{exactNumber, signOf, Overflow, RoundedWord, SignOfSum}
+use Rattle.standard.proofs.Fields.{overflow-fields}
 use Rattle.standard.proofs.Rounding.{zero-representable, representable-rounds-to-itself}
 use Rattle.standard.proofs.Integers.{minus-above, signed-magnitude, other}
 use Rattle.standard.proofs.Signed.{rounds-to}
@@ -95,21 +97,6 @@ exact-effective F zero a b h = ap (λ (k : ℤ). number F a +ℤ k) (effective-n
 exact-effective F (suc zero) a b h = ap (λ (k : ℤ). number F a +ℤ k) (effective-number F 1 b ∙ turn-sign (sign F b) (magnitude (finiteOf F b)) (sign-lt F b))
 exact-effective F (suc (suc operation)) a b h = absurd (omega arith)
 
--- what an overflow gives in each mode, by its direction
-overflow-mode : (F : Format) (mode s : ℕ) → mode < 4 → s < 2 → signed F s (overflowWord F (direction mode s)) ≡ overflowed F mode s
-unfolding overflowWord direction
-overflow-mode F zero s hm hs = refl
-overflow-mode F (suc zero) zero hm hs = refl
-overflow-mode F (suc zero) (suc zero) hm hs = refl
-overflow-mode F (suc (suc zero)) zero hm hs = refl
-overflow-mode F (suc (suc zero)) (suc zero) hm hs = refl
-overflow-mode F (suc (suc (suc zero))) zero hm hs = refl
-overflow-mode F (suc (suc (suc zero))) (suc zero) hm hs = refl
-overflow-mode F (suc (suc (suc (suc m)))) s hm hs = absurd (omega arith)
-overflow-mode F (suc zero) (suc (suc s)) hm hs = absurd (omega arith)
-overflow-mode F (suc (suc zero)) (suc (suc s)) hm hs = absurd (omega arith)
-overflow-mode F (suc (suc (suc zero))) (suc (suc s)) hm hs = absurd (omega arith)
-
 -- a number that is not 0 has its sign
 sign-of : (s X : ℕ) → s < 2 → 0 < X → signOf (signedNumber s X) ≡ s
 sign-of zero X hs h = refl
@@ -135,7 +122,7 @@ rounded-word F ok mode s X hm hs =
           (d .0, ap₂ signedNumber (rounded-sign F ok mode s X hs) (d .1));
       past = λ h.
           let l : largest F < R = omega arith in
-          rounded-past-largest F ok mode s X hs l ∙ overflow-mode F mode s hm hs ∙ ap (overflowed F mode) (sym (sign-of s X hs (past-pos F mode s X l)));
+          subst₂ (Overflow F mode) (sym (sign-of s X hs (past-pos F mode s X l))) (sym (rounded-past-largest F ok mode s X hs l)) (overflow-fields F ok mode s hm hs);
     }
 
 -- the sign of an exact result whose operands have unlike signs and cancel
@@ -188,11 +175,14 @@ module _ (F : Format) (ok : Supported F) (operation mode a b : ℕ) (ho : operat
       let none : exactNumber F operation a b ≡ pos 0 → X ≡ 0 = λ z. sym (signed-magnitude s X) ∙ ap natAbs (exact-is ∙ z) in
       record {
         not-zero = λ ne. c ∙ sym (sign-of s X exact-lt (pos-of s X (λ z. ne (sym exact-is ∙ z)))) ∙ ap signOf exact-is;
-        like = λ e. c ∙ like-sign mode x y e;
-        unlike-down = λ ne z m. c ∙ cancelled mode x y ne (none z) ∙ cancelled-down mode m;
-        unlike-not-down = λ ne z m. c ∙ cancelled mode x y ne (none z) ∙ cancelled-not-down mode m;
+        like = λ e. c ∙ like-sign mode x y (e ∙ sym effective-is);
+        unlike-down = λ ne z m. c ∙ cancelled mode x y (λ e. ne (e ∙ effective-is)) (none z) ∙ cancelled-down mode m;
+        unlike-not-down = λ ne z m. c ∙ cancelled mode x y (λ e. ne (e ∙ effective-is)) (none z) ∙ cancelled-not-down mode m;
       }
     where
+      effective-is : sign F (effective F operation b) ≡ effectiveSign F operation b
+      effective-is = effective-sign F operation b
+
       pos-of : (s X : ℕ) → (signedNumber s X ≡ pos 0 → ⊥) → 0 < X
       pos-of s zero ne = absurd (ne (signed-zero s 0 refl))
       pos-of s (suc X) ne = omega arith

@@ -14,12 +14,14 @@ use Rattle.adder.specs.declared.Direction.the-variants.{Nearest, TowardZero}
 use Rattle.adder.specs.Word.{sign}
 use Rattle.adder.specs.Operand.{finiteOf, magnitude}
 use Rattle.adder.specs.Rounding.{magnitudeWord}
-use Rattle.adder.specs.Result.{effective, result}
+use Rattle.adder.specs.Result.{result}
 use Rattle.adder.proofs.ResultLaws.{result-lt}
 use Rattle.standard.specs.Representable.{Representable, magnitudeOf, EvenWord, largest, roundedMagnitude}
 use Rattle.standard.specs.Rounds.{GreatestNotAbove, LeastNotBelow, Closest, distance}
 use Rattle.standard.specs.Number.{signedNumber, FiniteWord, OfFormat, apart, TiesToEven, RoundsTo}
 use Rattle.standard.specs.Sum.{exactNumber, signOf, RoundedWord, SignOfSum}
+use Rattle.standard.specs.Fields.{effectiveSign}
+use Rattle.standard.proofs.Fields.{overflow-unique}
 use Rattle.standard.proofs.Magnitudes.{magnitude-representable, word-order}
 use Rattle.standard.proofs.Rounding.{rounded-toward-zero, rounded-nearest, zero-representable, significand-parity, tie-even}
 use Rattle.standard.proofs.Integers.{signed-magnitude, signed-same, like-apart, unlike-apart, by-sign}
@@ -133,14 +135,15 @@ rounds-unique F ok (suc zero) z r q g h =
     let X = natAbs z in
     toward-zero-only F s X r (subst (λ (n : ℤ). RoundsTo F 1 n r) e g) ∙ sym (toward-zero-only F s X q (subst (λ (n : ℤ). RoundsTo F 1 n q) e h))
 rounds-unique F ok (suc (suc zero)) z r q g h = least-unique g h
-rounds-unique F ok (suc (suc (suc m))) z r q g h = greatest-unique g h
+rounds-unique F ok (suc (suc (suc zero))) z r q g h = greatest-unique g h
+rounds-unique F ok (suc (suc (suc (suc m)))) z r q g h = absurd g
 
 -- ---- and one word
 module _ (F : Format) (ok : Supported F) (operation mode a b c d : ℕ) where
   sign-unique : SignOfSum F operation mode a b c → SignOfSum F operation mode a b d → sign F c ≡ sign F d
-  sign-unique g h = go (ℤ-discrete (exactNumber F operation a b) (pos 0)) (ℕ-discrete (sign F a) (sign F (effective F operation b))) (ℕ-discrete mode 3)
+  sign-unique g h = go (ℤ-discrete (exactNumber F operation a b) (pos 0)) (ℕ-discrete (sign F a) (effectiveSign F operation b)) (ℕ-discrete mode 3)
     where
-      go : Dec (exactNumber F operation a b ≡ pos 0) → Dec (sign F a ≡ sign F (effective F operation b)) → Dec (mode ≡ 3) → sign F c ≡ sign F d
+      go : Dec (exactNumber F operation a b ≡ pos 0) → Dec (sign F a ≡ effectiveSign F operation b) → Dec (mode ≡ 3) → sign F c ≡ sign F d
       go (no n) l m = g .not-zero n ∙ sym (h .not-zero n)
       go (yes z) (yes l) m = g .like l ∙ sym (h .like l)
       go (yes z) (no l) (yes m) = g .unlike-down l z m ∙ sym (h .unlike-down l z m)
@@ -154,7 +157,8 @@ module _ (F : Format) (ok : Supported F) (operation mode a b c d : ℕ) where
       same = rounds-unique F ok mode (exactNumber F operation a b) (g .r) (h .r) (g .rounds) (h .rounds)
 
       go : Dec (largest F < natAbs (g .r)) → c ≡ d
-      go (yes l) = g .past l ∙ sym (h .past (subst (λ (n : ℤ). largest F < natAbs n) same l))
+      go (yes l) =
+          overflow-unique F mode (signOf (exactNumber F operation a b)) hc hd (g .past l) (h .past (subst (λ (n : ℤ). largest F < natAbs n) same l))
       go (no l) =
           let p = g .within (omega arith) in
           let q = h .within (subst (λ (n : ℤ). natAbs n ≤ largest F) same (omega arith)) in

@@ -21,6 +21,7 @@ use Rattle.adder.proofs.RoundedFields.{rounded-sign, rounded-word-biased, round
 use Rattle.standard.specs.Representable.{Representable, magnitudeOf, largest, roundedMagnitude}
 use Rattle.standard.specs.Number.{FiniteWord}
 use Rattle.standard.proofs.Magnitudes.{magnitude-fields, magnitude-representable, word-order, word-order-le, word-by-magnitude}
+use Rattle.standard.proofs.Largest.{largest-word}
 use Rattle.standard.proofs.Rounding.{representable-rounds-to-itself}
 
 module _ (F : Format) where
@@ -66,7 +67,7 @@ module _ (F : Format) (ok : Supported F) where
   within-largest m =
       let pos = infinity-pos F ok in
       let o = word-order-le F m (infinityWord F - 1) in
-      (λ h. o .0 (omega arith), λ h. let l = o .1 h in omega arith)
+      rw (largest-word F ok) (λ h. o .0 (omega arith), λ h. let l = o .1 h in omega arith)
 
   -- they are the representable numbers up to the largest
   pub finite-representable : (n : ℕ) → (Representable F n × (n ≤ largest F)) ↔ ((m : ℕ) × (m < infinityWord F) × (magnitudeOf F m ≡ n))

@@ -1,3 +1,4 @@
+pub mod Fields
 pub mod Representable
 pub mod Rounds
 pub mod Number

@@ -1,11 +1,11 @@
 -- Signed numbers as integers, and what each mode asks of the rounded one (IEEE 754, "Rounding-direction attributes"; document 01,
 -- "The rounded result"). Assumes nothing.
 use mathlib.Core.Path.{_≡_}
-use Prim.Native.Nat.{ℕ, zero, suc, _≤_}
+use Prim.Native.Nat.{ℕ, zero, suc, _-_, _^_, _≤_}
 use lib.IntN.{ℤ, pos, negℤ, natAbs, _-ℤ_}
 use lib.Signed.{_≤ℤ_}
 use Rattle.format.specs.declared.Format.{Format}
-use Rattle.adder.specs.Word.{biased, sign, allOnes}
+use Rattle.adder.specs.Word.{biased, sign}
 use Rattle.adder.specs.Operand.{finiteOf, magnitude}
 use Rattle.standard.specs.Representable.{Representable, magnitudeOf, EvenWord}
 use Rattle.standard.specs.Rounds.{GreatestNotAbove, LeastNotBelow, Closest}
@@ -19,9 +19,9 @@ signedNumber (suc s) X = negℤ (pos X)
 abbrev pub number : Format → ℕ → ℤ
 number F x = signedNumber (sign F x) (magnitude (finiteOf F x))
 
--- a word that is neither infinity nor a NaN
+-- a word that is neither infinity nor a NaN: e is not all ones
 abbrev pub FiniteWord : Format → ℕ → Type 0
-FiniteWord F x = biased F x .0 ≡ allOnes F → ⊥
+FiniteWord F x = biased F x .0 ≡ 2 ^ F .w - 1 → ⊥
 
 -- the numbers of the format, of either sign
 abbrev pub OfFormat : Format → ℤ → Type 0
@@ -43,9 +43,10 @@ pub record TiesToEven (F : Format) (z r : ℤ) : Type 0 where
   pub tie : (n : ℤ) → OfFormat F n → (n ≡ r → ⊥) → apart n z ≡ apart r z → EvenNumber F r
 
 -- modes 0 nearest with ties to even, 1 toward zero: closest to z and no greater in magnitude, 2 up: the least not below z, 3 down: the
--- greatest not above z
+-- greatest not above z; no other number is a mode
 abbrev pub RoundsTo : Format → ℕ → ℤ → ℤ → Type 0
 RoundsTo F zero z r = TiesToEven F z r
 RoundsTo F (suc zero) z r = Closest apart (λ n. OfFormat F n × (natAbs n ≤ natAbs z)) z r
 RoundsTo F (suc (suc zero)) z r = LeastNotBelow _≤ℤ_ (OfFormat F) z r
-RoundsTo F (suc (suc (suc m))) z r = GreatestNotAbove _≤ℤ_ (OfFormat F) z r
+RoundsTo F (suc (suc (suc zero))) z r = GreatestNotAbove _≤ℤ_ (OfFormat F) z r
+RoundsTo F (suc (suc (suc (suc m)))) z r = ⊥

@@ -6,7 +6,7 @@ use Rattle.format.specs.declared.Format.{Format}
 use Rattle.format.specs.Format.{precision}
 use Rattle.adder.specs.declared.Direction.{Direction}
 use Rattle.adder.specs.Word.{significand}
-use Rattle.adder.specs.Rounding.{magnitudeWord, infinityWord}
+use Rattle.adder.specs.Rounding.{magnitudeWord}
 
 -- n has p significant bits at most: it is a significand of p bits, times a power of two
 pub record Representable (F : Format) (n : ℕ) : Type 0 where
@@ -23,13 +23,13 @@ magnitudeOf F m = significand (F .f) (m / 2 ^ F .f) (m % 2 ^ F .f) * 2 ^ (m / 2 
 abbrev pub EvenWord : Format → ℕ → Type 0
 EvenWord F m = significand (F .f) (m / 2 ^ F .f) (m % 2 ^ F .f) % 2 ≡ 0
 
--- the largest finite number: its word is the one before infinity's
+-- the largest finite number: p ones at the largest exponent, that of e = 2^w - 2
 abbrev pub largest : Format → ℕ
-largest F = magnitudeOf F (infinityWord F - 1)
+largest F = (2 ^ precision F - 1) * 2 ^ (2 ^ F .w - 3)
 
--- the number that would come next
+-- the number that would come next, a power of two
 abbrev pub afterLargest : Format → ℕ
-afterLargest F = magnitudeOf F (infinityWord F)
+afterLargest F = 2 ^ precision F * 2 ^ (2 ^ F .w - 3)
 
 -- X rounded in a direction, as if exponents went on upward
 abbrev pub roundedMagnitude : Format → Direction → ℕ → ℕ

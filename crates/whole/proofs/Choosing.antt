@@ -10,10 +10,10 @@ use lib.Bits.{bitXor}
 use Rattle.bits.specs.Bit.{bit}
 use Rattle.bits.proofs.Laws.{by-bits, bit-lt}
 use Rattle.columns.specs.Carry.{carry}
-use Rattle.columns.specs.Choice.{Closest, Farther}
+use Rattle.choice.specs.Choice.{Closest, Farther}
 use Rattle.columns.proofs.Carry.{carries-bit, carries-lt}
-use Rattle.columns.proofs.Closest.{farther}
-use Rattle.fixing.specs.Walk.{Has}
+use Rattle.choice.proofs.Closest.{farther}
+use Rattle.choice.specs.Walk.{Has}
 use Rattle.whole.specs.declared.Masks.{Masks}
 use Rattle.whole.specs.declared.Words.{Words}
 use Rattle.whole.specs.declared.Case.{Case}

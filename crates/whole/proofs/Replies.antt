@@ -6,8 +6,8 @@ use Prim.Native.Nat.{ℕ, _<_, _≤_}
 use native.Mathlib.Omega.{arith}
 use lib.Bits.{bitXor}
 use Rattle.format.specs.Cause as cause
-use Rattle.columns.proofs.Closest.{farther, farther-both, closest-self}
-use Rattle.fixing.specs.Walk.{Has}
+use Rattle.choice.proofs.Closest.{farther, farther-both, closest-self}
+use Rattle.choice.specs.Walk.{Has}
 use Rattle.whole.specs.declared.Masks.{Masks}
 use Rattle.whole.specs.declared.Words.{Words}
 use Rattle.whole.specs.declared.Job.{Job}

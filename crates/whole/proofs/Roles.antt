@@ -3,7 +3,7 @@ use mathlib.Core.Path.{_≡_, refl, sym, subst}
 use Prim.Native.Nat.{ℕ, _^_, _<_}
 use Rattle.mask.specs.declared.Mask.{Mask}
 use Rattle.mask.specs.Mask.{WellFormed, Meets}
-use Rattle.fixing.proofs.Walk.{Replaced}
+use Rattle.choice.proofs.Walk.{Replaced}
 use Rattle.whole.specs.declared.Masks.{Masks}
 use Rattle.whole.specs.declared.Case.{Case}
 use Rattle.whole.specs.declared.Role.{Role}

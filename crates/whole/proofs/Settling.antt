@@ -1,4 +1,4 @@
--- The bit walk over whole-number masks, once over the three roles, by the laws of `fixing`. Assumes nothing.
+-- The bit walk over whole-number masks, once over the three roles, by the laws of `choice`. Assumes nothing.
 use mathlib.Core.Path.{_≡_, refl, sym, ap, _∙_, subst}
 use Prim.Native.Nat.{ℕ, _-_, _<_}
 use native.Mathlib.Omega.{arith}
@@ -6,8 +6,8 @@ use Rattle.bits.specs.Bit.{bit}
 use Rattle.bits.proofs.Laws.{bit-lt}
 use Rattle.mask.specs.declared.Mask.{Mask}
 use Rattle.mask.specs.Mask.{fix}
-use Rattle.fixing.specs.Walk.{FixedFrom}
-use Rattle.fixing.proofs.Walk.{Walked, Replaced, walk-done, walk-formed, walk-top, walk-tried, walk-left, walk-other}
+use Rattle.choice.specs.Walk.{FixedFrom}
+use Rattle.choice.proofs.Walk.{Walked, Replaced, walk-done, walk-formed, walk-top, walk-tried, walk-left, walk-other}
 use Rattle.whole.specs.declared.Masks.{Masks}
 use Rattle.whole.specs.declared.Case.{Case}
 use Rattle.whole.specs.declared.Role.{Role}

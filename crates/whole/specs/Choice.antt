@@ -2,7 +2,7 @@
 -- the second, then z with the third). Assumes nothing.
 use mathlib.Core.Path.{_≡_}
 use Prim.Native.Nat.{ℕ}
-use Rattle.columns.specs.Choice.{Farther}
+use Rattle.choice.specs.Choice.{Farther}
 use Rattle.whole.specs.declared.Masks.{Masks}
 use Rattle.whole.specs.declared.Words.{Words}
 use Rattle.whole.specs.declared.Case.{Case}

@@ -3,7 +3,7 @@
 use Prim.Native.Nat.{ℕ, _+_, _%_, _≤_}
 use lib.Bits.{bitXor}
 use Rattle.format.specs.Limits.{leastLength, mostLength}
-use Rattle.fixing.specs.Walk.{FixedFrom, Settles}
+use Rattle.choice.specs.Walk.{FixedFrom, Settles}
 use Rattle.whole.specs.declared.Masks.{Masks}
 use Rattle.whole.specs.declared.Case.{Case}
 use Rattle.whole.specs.declared.Role.{Role}

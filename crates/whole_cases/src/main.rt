@@ -1,8 +1,4 @@
-// The whole-number generator on document 01's case 11, on sampled jobs of the lengths 1, 2 and 3 beside a search through all cases, on
-// fixed jobs of the lengths 31 and 32, and on one job for each refusal.
-mod brute;
-mod sample;
-
+// The whole-number generator on document 01's case 11, on fixed jobs of the lengths 31 and 32, and on one job for each refusal.
 use libc::STDOUT_FILENO;
 use mask::Mask;
 use whole::Case;
@@ -10,7 +6,6 @@ use whole::Job;
 use whole::Masks;
 use whole::Reply;
 use whole::Words;
-ghost use Prim.Native.Nat.{_≤_};
 
 fn free() -> Mask {
     Mask { care: 0, value: 0 }
@@ -54,21 +49,6 @@ fn show(reply: Reply) {
             io::write_all(STDOUT_FILENO, b"\n");
         }
     }
-}
-
-fn show_sampled(n: u64)
-    requires { ⌜ n ≤ 3 ⌝ }
-{
-    let t = sample::sampled(n, 5000);
-    io::write_all(STDOUT_FILENO, b"length ");
-    io::print_decimal(STDOUT_FILENO, n);
-    io::write_all(STDOUT_FILENO, b": ");
-    io::print_decimal(STDOUT_FILENO, t.found);
-    io::write_all(STDOUT_FILENO, b" found, ");
-    io::print_decimal(STDOUT_FILENO, t.none);
-    io::write_all(STDOUT_FILENO, b" none, ");
-    io::print_decimal(STDOUT_FILENO, t.differ);
-    io::write_all(STDOUT_FILENO, b" differ\n");
 }
 
 // Document 01, case 11.
@@ -138,9 +118,6 @@ fn show_refused() {
 
 fn main() {
     show_case_11();
-    show_sampled(1);
-    show_sampled(2);
-    show_sampled(3);
     show_long();
     show_refused();
     io::write_all(STDOUT_FILENO, b"end\n");

@@ -27,17 +27,17 @@ enum-told c = search needs
 returns : tie.Need-returns
 returns c =
     let s = c .before .before .before .before .before in
-    let j = s .args .job in
-    let r = row-row (j .format) (j .operation) (s .args .a) (s .args .b) (words-fit j (s .pre .0) (s .args .a) (s .args .b) (s .pre .1) (s .pre .2)) in
+    let S = s .args .setting in
+    let r = row-row (S .format) (S .operation) (s .args .a) (s .args .b) (words-fit S (s .pre .0) (s .args .a) (s .args .b) (s .pre .1) (s .pre .2)) in
     let e = sym (c .before .before .row .given .1) ∙ c .before .before .before .before .carry-row .ensures ∙ r in
-    let w : c .before .before .row .given .0 .0 ≡ rowOf (j .format) (j .operation) (s .args .a) (s .args .b) = cc in
-    c .row-meets .ensures ∙ ap (λ (n : row.Row). rowMeets n (j .carries)) w
+    let w : c .before .before .row .given .0 .0 ≡ rowOf (S .format) (S .operation) (s .args .a) (s .args .b) = cc in
+    c .row-meets .ensures ∙ ap (λ (n : row.Row). rowMeets n (s .args .carries)) w
 
 returns-2 : tie.Need-returns-2
 returns-2 c =
     let s = c .before .before .before in
-    let j = s .args .job in
-    let r = row-row (j .format) (j .operation) (s .args .a) (s .args .b) (words-fit j (s .pre .0) (s .args .a) (s .args .b) (s .pre .1) (s .pre .2)) in
+    let S = s .args .setting in
+    let r = row-row (S .format) (S .operation) (s .args .a) (s .args .b) (words-fit S (s .pre .0) (s .args .a) (s .args .b) (s .pre .1) (s .pre .2)) in
     let e = sym (c .enum-told .given .1) ∙ c .before .before .carry-row .ensures ∙ r in
     let z : _≡_ {A = ℕ} 0 1 = cc in
     absurd (omega arith)

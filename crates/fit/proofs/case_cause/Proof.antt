@@ -18,18 +18,18 @@ returns : tie.Need-returns
 unfolding caseCause
 returns c =
     let s = c .before .before in
-    let F = s .args .job .format in
+    let F = s .args .job .setting .format in
     sym (first-some (c .before .job-cause .result) (first (wordCause (wordBits F) (s .args .a)) (first (wordCause (wordBits F) (s .args .b)) (wordCause (wordBits F) (s .args .c)))) (c .if1 .taken))
     ∙ ap (λ (n : ℕ). first n (first (wordCause (wordBits F) (s .args .a)) (first (wordCause (wordBits F) (s .args .b)) (wordCause (wordBits F) (s .args .c))))) (c .before .job-cause .ensures)
 
 add-width : tie.Need-add-width
 add-width c =
-    let ok = job-none (c .before .before .before .args .job) .0 (sym (c .before .before .job-cause .ensures) ∙ c .before .if1 .left) .format in
+    let ok = job-none (c .before .before .before .args .job) .0 (sym (c .before .before .job-cause .ensures) ∙ c .before .if1 .left) .setting .format in
     omega (arith, ok .w-most, ok .f-most)
 
 add-width-2 : tie.Need-add-width-2
 add-width-2 c =
-    let ok = job-none (c .before .before .before .args .job) .0 (sym (c .before .before .job-cause .ensures) ∙ c .before .if1 .left) .format in
+    let ok = job-none (c .before .before .before .args .job) .0 (sym (c .before .before .job-cause .ensures) ∙ c .before .if1 .left) .setting .format in
     omega (arith, ok .w-most, ok .f-most)
 
 word-cause-requires : tie.Need-word-cause-requires

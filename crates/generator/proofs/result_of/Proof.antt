@@ -24,9 +24,9 @@ returns c =
     let s = c .before .before .before .before in
     let a = s .args in
     let j = a .job in
-    let r = result-word (j .format) (j .operation) (j .mode) (a .a) (a .b) (request-fit j (a .a) (a .b) (s .pre)) (s .pre .valid .mode) in
+    let r = result-word (j .setting .format) (j .setting .operation) (j .setting .mode) (a .a) (a .b) (request-fit j (a .a) (a .b) (s .pre)) (s .pre .valid .setting .mode) in
     let e = sym (c .before .word .given .1) ∙ c .before .before .before .rounded-result .ensures ∙ r in
-    let w : c .before .word .given .0 .0 ≡ result (j .format) (j .operation) (j .mode) (a .a) (a .b) = cc in
+    let w : c .before .word .given .0 .0 ≡ result (j .setting .format) (j .setting .operation) (j .setting .mode) (a .a) (a .b) = cc in
     w
 
 returns-2 : tie.Need-returns-2
@@ -34,7 +34,7 @@ returns-2 c =
     let s = c .before .before .before in
     let a = s .args in
     let j = a .job in
-    let r = result-word (j .format) (j .operation) (j .mode) (a .a) (a .b) (request-fit j (a .a) (a .b) (s .pre)) (s .pre .valid .mode) in
+    let r = result-word (j .setting .format) (j .setting .operation) (j .setting .mode) (a .a) (a .b) (request-fit j (a .a) (a .b) (s .pre)) (s .pre .valid .setting .mode) in
     let e = sym (c .enum-told .given .1) ∙ c .before .before .rounded-result .ensures ∙ r in
     let z : _≡_ {A = ℕ} 0 1 = cc in
     absurd (omega arith)

@@ -24,9 +24,9 @@ returns c =
     let s = c .before .before .before .before in
     let a = s .args in
     let j = a .job in
-    let r = row-row (j .format) (j .operation) (a .a) (a .b) (request-fit j (a .a) (a .b) (s .pre)) in
+    let r = row-row (j .setting .format) (j .setting .operation) (a .a) (a .b) (request-fit j (a .a) (a .b) (s .pre)) in
     let e = sym (c .before .row .given .1) ∙ c .before .before .before .carry-row .ensures ∙ r in
-    let w : c .before .row .given .0 .0 ≡ rowOf (j .format) (j .operation) (a .a) (a .b) = cc in
+    let w : c .before .row .given .0 .0 ≡ rowOf (j .setting .format) (j .setting .operation) (a .a) (a .b) = cc in
     w
 
 returns-2 : tie.Need-returns-2
@@ -34,7 +34,7 @@ returns-2 c =
     let s = c .before .before .before in
     let a = s .args in
     let j = a .job in
-    let r = row-row (j .format) (j .operation) (a .a) (a .b) (request-fit j (a .a) (a .b) (s .pre)) in
+    let r = row-row (j .setting .format) (j .setting .operation) (a .a) (a .b) (request-fit j (a .a) (a .b) (s .pre)) in
     let e = sym (c .enum-told .given .1) ∙ c .before .before .carry-row .ensures ∙ r in
     let z : _≡_ {A = ℕ} 0 1 = cc in
     absurd (omega arith)

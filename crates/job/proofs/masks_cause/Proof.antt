@@ -1,8 +1,8 @@
 -- `job::masks_cause` meets its contract. Assumes nothing.
-use borrow.Author.Needs.{needs}
 use mathlib.Core.Path.{ap₂, _∙_}
 use Rattle.format.specs.Cause.{first}
 use Rattle.job.specs.Job.{masksCause}
+use borrow.Author.Needs.{needs}
 use Rattle.job.proofs.masks_cause.Statement.{statement}
 use Rattle.job.proofs.masks_cause.Tie as tie
 
@@ -39,12 +39,13 @@ first-requires-3 c κs = search needs
 returns : tie.Need-returns
 unfolding masksCause
 returns c =
-    let b = c .before .before .before in
+    let m = c .before .before .before in
+    let n = m .before .before in
     c .first3 .ensures
-    ∙ ap₂ first (b .before .before .before .mask-cause .ensures)
+    ∙ ap₂ first (n .before .mask-cause .ensures)
     (c .before .first2 .ensures
-    ∙ ap₂ first (b .before .before .mask-cause2 .ensures)
-    (c .before .before .first .ensures ∙ ap₂ first (b .before .mask-cause3 .ensures) (b .mask-cause4 .ensures)))
+    ∙ ap₂ first (n .mask-cause2 .ensures)
+    (c .before .before .first .ensures ∙ ap₂ first (m .before .mask-cause3 .ensures) (m .mask-cause4 .ensures)))
 
 pub masks-cause-spec : {M : Type 1} → statement M
 masks-cause-spec =

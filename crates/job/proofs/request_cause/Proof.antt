@@ -18,20 +18,20 @@ returns : tie.Need-returns
 unfolding requestCause
 returns c =
     let a = c .before .before .args in
-    let width = wordBits (a .job .format) in
+    let width = wordBits (a .job .setting .format) in
     let rest = first (wordCause width (a .r1)) (wordCause width (a .r2)) in
     sym (first-some (c .before .job-cause .result) rest (c .if1 .taken)) ∙ ap (λ (n : ℕ). first n rest) (c .before .job-cause .ensures)
 
 add-width : tie.Need-add-width
 add-width c =
     let i = c .before in
-    let ok = job-none (i .before .before .args .job) .0 (sym (i .before .job-cause .ensures) ∙ i .if1 .left) .format in
+    let ok = job-none (i .before .before .args .job) .0 (sym (i .before .job-cause .ensures) ∙ i .if1 .left) .setting .format in
     record { fits = omega (arith, ok .w-most, ok .f-most) }
 
 add-width-2 : tie.Need-add-width-2
 add-width-2 c =
     let i = c .before in
-    let ok = job-none (i .before .before .args .job) .0 (sym (i .before .job-cause .ensures) ∙ i .if1 .left) .format in
+    let ok = job-none (i .before .before .args .job) .0 (sym (i .before .job-cause .ensures) ∙ i .if1 .left) .setting .format in
     record { fits = omega (arith, ok .w-most, ok .f-most) }
 
 word-cause-requires : tie.Need-word-cause-requires

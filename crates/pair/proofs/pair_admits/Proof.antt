@@ -35,13 +35,13 @@ sub-ones : tie.Need-sub-ones
 sub-ones c =
     let s = c .before .before .before in
     let A = c .before .before .asked .ensures .0 (not-false (c .before .before .asked .result) (c .before .if1 .left)) in
-    rw (c .power .ensures ∙ power-exact (s .args .job .format .w) (omega (arith, A .valid .format .w-most))) (pow-pos (s .args .job .format .w))
+    rw (c .power .ensures ∙ power-exact (s .args .job .setting .format .w) (omega (arith, A .valid .setting .format .w-most))) (pow-pos (s .args .job .setting .format .w))
 
 special-pair-requires : tie.Need-special-pair-requires
 special-pair-requires c κs =
     let s = c .before .before .before .before in
     let A = c .before .before .before .asked .ensures .0 (not-false (c .before .before .before .asked .result) (c .before .before .if1 .left)) in
-    (A, inl (c .if2 .taken ∙ ones (s .args .job .format) (A .valid .format) (c .before .power .result) (c .before .power .ensures)))
+    (A, inl (c .if2 .taken ∙ ones (s .args .job .setting .format) (A .valid .setting .format) (c .before .power .result) (c .before .power .ensures)))
 
 returns-2 : tie.Need-returns-2
 returns-2 c = search needs
@@ -50,7 +50,7 @@ special-pair-requires-2 : tie.Need-special-pair-requires-2
 special-pair-requires-2 c κs =
     let s = c .before .before .before .before .before in
     let A = c .before .before .before .before .asked .ensures .0 (not-false (c .before .before .before .before .asked .result) (c .before .before .before .if1 .left)) in
-    (A, inr (c .if3 .taken ∙ ones (s .args .job .format) (A .valid .format) (c .before .before .power .result) (c .before .before .power .ensures)))
+    (A, inr (c .if3 .taken ∙ ones (s .args .job .setting .format) (A .valid .setting .format) (c .before .before .power .result) (c .before .before .power .ensures)))
 
 returns-3 : tie.Need-returns-3
 returns-3 c = search needs
@@ -59,7 +59,7 @@ finite-pair-requires : tie.Need-finite-pair-requires
 finite-pair-requires c κs =
     let s = c .before .before .before .before .before in
     let A = c .before .before .before .before .asked .ensures .0 (not-false (c .before .before .before .before .asked .result) (c .before .before .before .if1 .left)) in
-    let o = ones (s .args .job .format) (A .valid .format) (c .before .before .power .result) (c .before .before .power .ensures) in
+    let o = ones (s .args .job .setting .format) (A .valid .setting .format) (c .before .before .power .result) (c .before .before .power .ensures) in
     let a-lt = A .a-lt in
     let b-lt = A .b-lt in
     let na = c .before .if2 .left in

@@ -26,12 +26,10 @@ returns c =
     let a = c .before .before .before .before .before .before .before .args in
     λ i. record {
       job = record {
-        format = a .format;
-        operation = a .operation;
-        mode = c .before .mode-in .ensures i;
-        a = c .before .before .before .before .before .mask-in .ensures i;
-        b = c .before .before .before .before .mask-in2 .ensures i;
-        c = c .before .before .before .mask-in3 .ensures i;
+        setting = record { format = a .format; operation = a .operation; mode = c .before .mode-in .ensures i };
+        a = record { mask = c .before .before .before .before .before .mask-in .ensures i };
+        b = record { mask = c .before .before .before .before .mask-in2 .ensures i };
+        c = record { mask = c .before .before .before .mask-in3 .ensures i };
         carries = c .before .before .mask-in4 .ensures i;
       };
       r1 = c .words-in .ensures .0 i;

@@ -71,7 +71,7 @@ returns c =
       c .before .before .before .before .stands2 .ensures .0,
       c .before .before .before .stands3 .ensures .0,
       c .before .before .stands4 .ensures .0,
-      c .before .stands5 .ensures .0 ∙ mode-bit (e .job .mode),
+      c .before .stands5 .ensures .0 ∙ mode-bit (e .job .setting .mode),
       c .stands6 .ensures .0,
     )
 

@@ -22,7 +22,7 @@ put-header-requires c κs =
     let k = c .before .before .before in
     let e = k .args .entry in
     let v = request-none (e .job) (e .r1) (e .r2) .0 (k .pre .0) in
-    omega (arith, k .pre .1, k .pre .2, map-lt (fields (k .args .entry)), v .valid .format .w-most, v .valid .format .f-most, v .valid .operation)
+    omega (arith, k .pre .1, k .pre .2, map-lt (fields (k .args .entry)), v .valid .setting .format .w-most, v .valid .setting .format .f-most, v .valid .setting .operation)
 
 put-fields-requires : tie.Need-put-fields-requires
 unfolding recordBytes
@@ -43,8 +43,8 @@ returns c =
     let bs : List ℕ = body shapes (fields e) in
     let long : 4 + length bs ≡ length (recordBytes e) = omega arith in
     c .before .before .put-fields .ensures ∙ ap (λ (t : List ℕ). put t 4 bs) (h .put-header .ensures)
-    ∙ ap (λ (m : ℕ). put (m ∷ e .job .format .w ∷ e .job .format .f ∷ e .job .operation ∷ drop 4 s) 4 bs) (k .pre .1)
-    ∙ put-after (mapOf (fields e)) (e .job .format .w) (e .job .format .f) (e .job .operation) bs s
+    ∙ ap (λ (m : ℕ). put (m ∷ e .job .setting .format .w ∷ e .job .setting .format .f ∷ e .job .setting .operation ∷ drop 4 s) 4 bs) (k .pre .1)
+    ∙ put-after (mapOf (fields e)) (e .job .setting .format .w) (e .job .setting .format .f) (e .job .setting .operation) bs s
     ∙ ap (λ (n : ℕ). recordBytes e ++ drop n s) long
 
 pub put-record-spec : {M : Type 1} → statement M

@@ -21,7 +21,7 @@ asked-at c =
       a-lt = s .pre .1;
       b-lt = s .pre .2;
       a-exponent = s .pre .3;
-      b-exponent = tested (a .job .format) (a .job .b) (a .eb) (b .before .exponent-mask .ensures) (b .meets .ensures) .0 (not-false (b .meets .result) (i .if1 .left));
+      b-exponent = tested (a .job .setting .format) (a .job .b .mask) (a .eb) (b .before .exponent-mask .ensures) (b .meets .ensures) .0 (not-false (b .meets .result) (i .if1 .left));
     }
 
 exponent-mask-requires : tie.Need-exponent-mask-requires
@@ -40,7 +40,7 @@ returns c =
         λ e. absurd (false≢true e),
         λ p.
             absurd (false≢true (sym (not-true (m .meets .result) (c .if1 .taken))
-            ∙ tested (a .job .format) (a .job .b) (a .eb) (m .before .exponent-mask .ensures) (m .meets .ensures) .1 (pair-asked (a .job) (a .ea) (a .eb) (s .pre .0) p .b-exponent))),
+            ∙ tested (a .job .setting .format) (a .job .b .mask) (a .eb) (m .before .exponent-mask .ensures) (m .meets .ensures) .1 (pair-asked (a .job) (a .ea) (a .eb) (s .pre .0) p .b-exponent))),
       ),
     )
 

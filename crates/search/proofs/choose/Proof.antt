@@ -2,7 +2,8 @@
 use mathlib.Core.Path.{refl, sym, ap, _∙_}
 use native.Mathlib.Omega.{arith}
 use Rattle.format.specs.Format.{wordBits}
-use Rattle.search.specs.declared.Role.the-variants.{A, B}
+use Rattle.job.specs.declared.Setting.{Setting}
+use Rattle.job.specs.declared.Role.the-variants.{A, B}
 use Rattle.search.proofs.Choosing.{all-open, settled-none, walks-choose}
 use Rattle.search.specs.Left.{Ready}
 use Rattle.search.proofs.Pairs.{count-is, row-none}
@@ -27,13 +28,13 @@ power-requires c κs = search needs
 add-width : tie.Need-add-width
 add-width c =
     let i = c .before .before .before .before in
-    let ok = job-none (i .before .before .args .job) .0 (sym (i .before .job-cause .ensures) ∙ i .if1 .left) .format in
+    let ok = job-none (i .before .before .args .job) .0 (sym (i .before .job-cause .ensures) ∙ i .if1 .left) .setting .format in
     record { fits = omega (arith, ok .w-most, ok .f-most) }
 
 add-width-2 : tie.Need-add-width-2
 add-width-2 c =
     let i = c .before .before .before .before in
-    let ok = job-none (i .before .before .args .job) .0 (sym (i .before .job-cause .ensures) ∙ i .if1 .left) .format in
+    let ok = job-none (i .before .before .args .job) .0 (sym (i .before .job-cause .ensures) ∙ i .if1 .left) .setting .format in
     record { fits = omega (arith, ok .w-most, ok .f-most) }
 
 settle-requires : tie.Need-settle-requires
@@ -45,7 +46,7 @@ settle-requires c κs =
     let valid = job-none job .0 (sym (i .before .job-cause .ensures) ∙ i .if1 .left) in
     let is = count-is job (p .power .result) valid (p .power .ensures) in
     let ready : Ready job = record { valid = valid; left = r .first-row .ensures .left (omega (arith, is, c .before .if2 .taken)) } in
-    record { top = all-open job A (wordBits (job .format)) ready refl; none = r .first-row .ensures .none }
+    record { top = all-open job A (wordBits (job .setting .format)) ready refl; none = r .first-row .ensures .none }
 
 settle-requires-2 : tie.Need-settle-requires-2
 settle-requires-2 c κs =
@@ -53,7 +54,7 @@ settle-requires-2 c κs =
     let a = r .before .before .before .args in
     let q = c .settle .ensures in
     record {
-      top = all-open (c .settle .result) B (wordBits (a .job .format)) (q .ready) (ap wordBits (sym (q .format)));
+      top = all-open (c .settle .result) B (wordBits (a .job .setting .format)) (q .ready) (ap (λ (S : Setting). wordBits (S .format)) (sym (q .setting)));
       none = settled-none (a .job) (a .r1) (c .settle .result) (r .first-row .result) q (r .first-row .ensures .none);
     }
 

@@ -21,11 +21,11 @@ power-requires : tie.Need-power-requires
 power-requires c κs = search needs
 
 -- the number of exponent fields
-count : (c : tie.After-power) → c .power .result ≡ 2 ^ c .before .before .before .args .job .format .w
+count : (c : tie.After-power) → c .power .result ≡ 2 ^ c .before .before .before .args .job .setting .format .w
 count c = let s = c .before .before .before in count-is (s .args .job) (c .power .result) (s .pre) (c .power .ensures)
 
 sub-ones : tie.Need-sub-ones
-sub-ones c = omega (arith, count c, pow-pos (c .before .before .before .args .job .format .w))
+sub-ones c = omega (arith, count c, pow-pos (c .before .before .before .args .job .setting .format .w))
 
 returns-2 : tie.Need-returns-2
 returns-2 c e h p =

@@ -16,7 +16,7 @@ use Rattle.search.proofs.first_row.Statement.{statement}
 use Rattle.search.proofs.first_row.Tie as tie
 
 abbrev Inv-loop : tie.InvT-loop
-Inv-loop job start count end table₀ ea eb₀ table eb = Kept job table × (eb < count → Meets ea (exponentMask (job .format) (job .a))) × ((e : ℕ) → e < eb → PairFits job ea e → ⊥)
+Inv-loop job start count end table₀ ea eb₀ table eb = Kept job table × (eb < count → Meets ea (exponentMask (job .setting .format) (job .a .mask))) × ((e : ℕ) → e < eb → PairFits job ea e → ⊥)
 
 abbrev μ-loop : tie.MeasureT-loop
 μ-loop job start count end table₀ ea eb₀ table eb = count - eb

@@ -22,7 +22,7 @@ returns c =
     let t = c .before in
     let m = t .before in
     let a = m .before .before .args in
-    (c .first-field .ensures, λ h. tested (a .job .format) (a .job .a) (a .ea) (m .before .exponent-mask .ensures) (m .meets .ensures) .0 (t .if1 .taken))
+    (c .first-field .ensures, λ h. tested (a .job .setting .format) (a .job .a .mask) (a .ea) (m .before .exponent-mask .ensures) (m .meets .ensures) .0 (t .if1 .taken))
 
 returns-2 : tie.Need-returns-2
 returns-2 c =
@@ -30,7 +30,7 @@ returns-2 c =
     let st = m .before .before in
     let a = st .args in (
       λ e h p. false≢true (sym (c .if1 .left)
-          ∙ tested (a .job .format) (a .job .a) (a .ea) (m .before .exponent-mask .ensures) (m .meets .ensures) .1 (pair-asked (a .job) (a .ea) e (st .pre) p .a-exponent)),
+          ∙ tested (a .job .setting .format) (a .job .a .mask) (a .ea) (m .before .exponent-mask .ensures) (m .meets .ensures) .1 (pair-asked (a .job) (a .ea) e (st .pre) p .a-exponent)),
       λ h. absurd (omega arith),
     )
 

@@ -6,10 +6,13 @@ use native.Mathlib.Decide.{decLe}
 use native.Mathlib.Omega.{arith}
 use borrow.Author.Tests.{not-true, not-false, le-leb, lt-leb}
 use Rattle.job.specs.declared.Job.{Job}
+use Rattle.job.specs.declared.Role.the-variants.{C}
 use Rattle.job.specs.Job.{Valid}
+use Rattle.job.specs.Role.{withMask}
+use Rattle.job.proofs.Roles.{valid-with}
 use Rattle.mask.specs.declared.Mask.{Mask}
 use Rattle.pair.specs.Pair.{FinitePair}
-use Rattle.pair.specs.Class.{aField, bField, asking, ClassAsked}
+use Rattle.pair.specs.Class.{aField, bField, withExponent, asking, ClassAsked}
 use Rattle.pair.proofs.ClassMasks.{asking-formed}
 use borrow.Author.Needs.{needs}
 use Rattle.pair.proofs.class.class_admits.Statement.{statement}
@@ -33,13 +36,13 @@ b-small f k h = go (decLe k (f + 4))
 asking-valid : (j : Job) (n : Mask) (k : ℕ) → ClassAsked j k n → Valid (asking j n)
 asking-valid j n k A =
     let v = A .valid in
-    record { format = v .format; operation = v .operation; mode = v .mode; a = v .a; b = v .b; c = asking-formed (j .format) (j .c) n (v .c) (A .formed); carries = v .carries }
+    valid-with C j (withMask (j .c) (withExponent (j .setting .format) (j .c .mask) n)) v (record { mask = asking-formed (j .setting .format) (j .c .mask) n (v .c .mask) (A .formed) })
 
-finite : (j : Job) (n : Mask) (k : ℕ) → ClassAsked j k n → FinitePair (asking j n) (aField (j .format .f) k) (bField (j .format .f) k)
+finite : (j : Job) (n : Mask) (k : ℕ) → ClassAsked j k n → FinitePair (asking j n) (aField (j .setting .format .f) k) (bField (j .setting .format .f) k)
 finite j n k A = record {
   valid = asking-valid j n k A;
-  a-finite = omega (arith, a-small (j .format .f) k (A .class-lt), A .wide);
-  b-finite = omega (arith, b-small (j .format .f) k (A .class-lt), A .wide);
+  a-finite = omega (arith, a-small (j .setting .format .f) k (A .class-lt), A .wide);
+  b-finite = omega (arith, b-small (j .setting .format .f) k (A .class-lt), A .wide);
 }
 
 asked-requires : tie.Need-asked-requires
@@ -53,17 +56,17 @@ returns c =
 asking-requires : tie.Need-asking-requires
 asking-requires c κs =
     let A = c .before .asked .ensures .0 (not-false (c .before .asked .result) (c .if1 .left)) in
-    (A .valid .format, A .valid .c, A .formed)
+    (A .valid .setting .format, A .valid .c .mask, A .formed)
 
 a-field-requires : tie.Need-a-field-requires
 a-field-requires c κs =
     let A = c .before .before .asked .ensures .0 (not-false (c .before .before .asked .result) (c .before .if1 .left)) in
-    A .valid .format .f-most
+    A .valid .setting .format .f-most
 
 b-field-requires : tie.Need-b-field-requires
 b-field-requires c κs =
     let A = c .before .before .before .asked .ensures .0 (not-false (c .before .before .before .asked .result) (c .before .before .if1 .left)) in
-    A .valid .format .f-most
+    A .valid .setting .format .f-most
 
 some-signs-requires : tie.Need-some-signs-requires
 some-signs-requires c κs =

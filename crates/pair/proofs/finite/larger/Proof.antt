@@ -84,7 +84,7 @@ unfolding pair-of at
 returns-2 c =
     let s = c .before .before .before .before .before .before .before .before .before .before .before .before .before .before in
     let j = s .args .job in
-    let F = j .format in
+    let F = j .setting .format in
     let hm = c .before .before .before .before .before .before .before .significand-mask in
     let head = c .before .before .before .before .before .before .tail-mask in
     let tm = c .before .before .before .before .before .significand-mask2 in
@@ -95,9 +95,9 @@ returns-2 c =
     let et = tail .ensures ∙ ap₂ (tailMask (precision F)) (tm .ensures) (ap₂ (λ (k n : exponent.Unit). k .0 - n .0) (u .ensures) (v .ensures)) in
     let same : pair-of (s .args .like) (head .result) (tail .result) (j .carries) ≡ alignedOf F (s .args .like) (j .carries) (s .args .m) (s .args .e) (s .args .n) (s .args .g) =
     ap₂ (λ (h t : Mask). pair-of (s .args .like) h t (j .carries)) eh et in
-    let d = decided F (j .mode) (s .args .sign) (j .c) (c .admits .result) (u .ensures) same (c .admits .ensures .1)
-    (in-format F (s .pre .0 .format) (s .args .sign) (s .args .e) (s .pre .1) (s .pre .2))
-    (formed F (s .pre .0 .format) (s .args .like) (j .carries) (s .args .m) (s .args .n) (s .args .e) (s .args .g) (s .pre .0 .carries) (s .pre .4) (s .pre .5)) in
+    let d = decided F (j .setting .mode) (s .args .sign) (j .c .mask) (c .admits .result) (u .ensures) same (c .admits .ensures .1)
+    (in-format F (s .pre .0 .setting .format) (s .args .sign) (s .args .e) (s .pre .1) (s .pre .2))
+    (formed F (s .pre .0 .setting .format) (s .args .like) (j .carries) (s .args .m) (s .args .n) (s .args .e) (s .args .g) (s .pre .0 .carries) (s .pre .4) (s .pre .5)) in
     (λ e. (omega (arith, c .before .before .before .before .before .before .before .before .before .if1 .left, ap at (u .ensures), ap at (v .ensures)), d .0 e), λ l. d .1 (l .1))
 
 pub larger-spec : {M : Type 1} → statement M

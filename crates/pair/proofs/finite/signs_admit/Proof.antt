@@ -57,53 +57,55 @@ fraction-mask-requires-2 : tie.Need-fraction-mask-requires-2
 fraction-mask-requires-2 c κs = search needs
 
 add-sign : tie.Need-add-sign
-add-sign c = search needs
+add-sign c =
+    let s = c .before .before .before .before .before .before .before .before .before in
+    omega (arith, s .pre .2, s .pre .0 .valid .setting .operation)
 
 larger-requires : tie.Need-larger-requires
 larger-requires c κs =
     let s = c .before .before .before .before .before .before .before .before .before in
     let j = s .args .job in
-    let F = j .format in
+    let F = j .setting .format in
     let fm = c .before .before .fraction-mask in
     let fn = c .before .fraction-mask2 in
-    let m : WellFormed (F .f) (fm .result) = rw (fm .ensures) (fraction-formed (F .w) (F .f) (j .a) (s .pre .0 .valid .a)) in
-    let n : WellFormed (F .f) (fn .result) = rw (fn .ensures) (fraction-formed (F .w) (F .f) (j .b) (s .pre .0 .valid .b)) in
+    let m : WellFormed (F .f) (fm .result) = rw (fm .ensures) (fraction-formed (F .w) (F .f) (j .a .mask) (s .pre .0 .valid .a .mask)) in
+    let n : WellFormed (F .f) (fn .result) = rw (fn .ensures) (fraction-formed (F .w) (F .f) (j .b .mask) (s .pre .0 .valid .b .mask)) in
     (s .pre .0 .valid, s .pre .1, s .pre .0 .a-finite, s .pre .0 .b-finite, m, n)
 
 returns-3 : tie.Need-returns-3
 returns-3 c =
     let s = c .before .before .before .before .before .before .before .before .before .before .before in
     let j = s .args .job in
-    let F = j .format in
+    let F = j .setting .format in
     let fm = c .before .before .before .before .fraction-mask in
     let fn = c .before .before .before .fraction-mask2 in
     let one = agrees (s .args .sa) (c .before .before .before .before .before .before .before .before .before .meets .result) (c .before .before .before .before .before .before .before .before .before .meets .ensures) (c .before .before .before .before .before .before .before .before .before .before .sign-mask .ensures) .0 (not-false (c .before .before .before .before .before .before .before .before .before .meets .result) (c .before .before .before .before .before .before .before .before .if1 .left)) in
     let two = agrees (s .args .sb) (c .before .before .before .before .before .before .meets2 .result) (c .before .before .before .before .before .before .meets2 .ensures) (c .before .before .before .before .before .before .before .sign-mask2 .ensures) .0 (not-false (c .before .before .before .before .before .before .meets2 .result) (c .before .before .before .before .before .if2 .left)) in
-    let l = subst₂ (λ (m n : Mask). Larger j (eqb (s .args .sa) (turned (j .operation) (s .args .sb))) (s .args .sa) (s .args .ea) m (s .args .eb) n) (fm .ensures) (fn .ensures) (c .before .larger .ensures .0 (c .if3 .taken)) in
+    let l = subst₂ (λ (m n : Mask). Larger j (eqb (s .args .sa) (turned (j .setting .operation) (s .args .sb))) (s .args .sa) (s .args .ea) m (s .args .eb) n) (fm .ensures) (fn .ensures) (c .before .larger .ensures .0 (c .if3 .taken)) in
     (λ e. record { a-sign = one; b-sign = two; sums = inl l }, λ P. refl)
 
 larger-requires-2 : tie.Need-larger-requires-2
 larger-requires-2 c κs =
     let s = c .before .before .before .before .before .before .before .before .before .before .before in
     let j = s .args .job in
-    let F = j .format in
+    let F = j .setting .format in
     let fm = c .before .before .before .before .fraction-mask in
     let fn = c .before .before .before .fraction-mask2 in
-    let m : WellFormed (F .f) (fm .result) = rw (fm .ensures) (fraction-formed (F .w) (F .f) (j .a) (s .pre .0 .valid .a)) in
-    let n : WellFormed (F .f) (fn .result) = rw (fn .ensures) (fraction-formed (F .w) (F .f) (j .b) (s .pre .0 .valid .b)) in
-    (s .pre .0 .valid, mod-lt (s .args .sb + j .operation) (omega arith), s .pre .0 .b-finite, s .pre .0 .a-finite, n, m)
+    let m : WellFormed (F .f) (fm .result) = rw (fm .ensures) (fraction-formed (F .w) (F .f) (j .a .mask) (s .pre .0 .valid .a .mask)) in
+    let n : WellFormed (F .f) (fn .result) = rw (fn .ensures) (fraction-formed (F .w) (F .f) (j .b .mask) (s .pre .0 .valid .b .mask)) in
+    (s .pre .0 .valid, mod-lt (s .args .sb + j .setting .operation) (omega arith), s .pre .0 .b-finite, s .pre .0 .a-finite, n, m)
 
 returns-4 : tie.Need-returns-4
 returns-4 c =
     let s = c .before .before .before .before .before .before .before .before .before .before .before .before in
     let j = s .args .job in
-    let F = j .format in
+    let F = j .setting .format in
     let fm = c .before .before .before .before .before .fraction-mask in
     let fn = c .before .before .before .before .fraction-mask2 in
     let one = agrees (s .args .sa) (c .before .before .before .before .before .before .before .before .before .before .meets .result) (c .before .before .before .before .before .before .before .before .before .before .meets .ensures) (c .before .before .before .before .before .before .before .before .before .before .before .sign-mask .ensures) .0 (not-false (c .before .before .before .before .before .before .before .before .before .before .meets .result) (c .before .before .before .before .before .before .before .before .before .if1 .left)) in
     let two = agrees (s .args .sb) (c .before .before .before .before .before .before .before .meets2 .result) (c .before .before .before .before .before .before .before .meets2 .ensures) (c .before .before .before .before .before .before .before .before .sign-mask2 .ensures) .0 (not-false (c .before .before .before .before .before .before .before .meets2 .result) (c .before .before .before .before .before .before .if2 .left)) in
-    let t = turned (j .operation) (s .args .sb) in
-    let first : Larger j (eqb (s .args .sa) t) (s .args .sa) (s .args .ea) (fractionMask F (j .a)) (s .args .eb) (fractionMask F (j .b)) → c .before .before .larger .result ≡ true =
+    let t = turned (j .setting .operation) (s .args .sb) in
+    let first : Larger j (eqb (s .args .sa) t) (s .args .sa) (s .args .ea) (fractionMask F (j .a .mask)) (s .args .eb) (fractionMask F (j .b .mask)) → c .before .before .larger .result ≡ true =
     λ l. c .before .before .larger .ensures .1 (subst₂ (λ (m n : Mask). Larger j (eqb (s .args .sa) t) (s .args .sa) (s .args .ea) m (s .args .eb) n) (sym (fm .ensures)) (sym (fn .ensures)) l) in (
       λ e. record { a-sign = one; b-sign = two; sums = inr (subst₂ (λ (m n : Mask). Larger j (eqb t (s .args .sa)) t (s .args .eb) n (s .args .ea) m) (fm .ensures) (fn .ensures) (c .larger2 .ensures .0 e)) },
       λ P.

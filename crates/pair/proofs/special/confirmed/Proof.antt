@@ -15,7 +15,7 @@ use Rattle.pair.proofs.special.confirmed.Statement.{statement}
 use Rattle.pair.proofs.special.confirmed.Tie as tie
 
 -- the reply says whether the case fits
-told : (j : Job) (a b c : ℕ) → Valid j × (a < 2 ^ wordBits (j .format)) × (b < 2 ^ wordBits (j .format)) × (c < 2 ^ wordBits (j .format))
+told : (j : Job) (a b c : ℕ) → Valid j × (a < 2 ^ wordBits (j .setting .format)) × (b < 2 ^ wordBits (j .setting .format)) × (c < 2 ^ wordBits (j .setting .format))
     → {r : Confirmed} → r ≡ confirmedReply j a b c → r ≡ answer (fits j a b c)
 told j a b c h e =
     e ∙ ap (λ (n : ℕ). answerFor n (fits j a b c)) (case-none j a b c .1 (h .0, record { a-word = h .1; b-word = h .2; c-word = h .3 }))

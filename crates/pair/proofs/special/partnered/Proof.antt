@@ -13,7 +13,7 @@ use Rattle.pair.proofs.special.partnered.Tie as tie
 
 -- what is asked of each representative
 abbrev tried : Job → ℕ → ℕ → ℕ → Bool
-tried j a eb k = together j a (representative (j .format) (j .b) eb k)
+tried j a eb k = together j a (representative (j .setting .format) (j .b .mask) eb k)
 
 abbrev Inv-loop : tie.InvT-loop
 Inv-loop job a eb k₀ k = (k ≤ 4) × (any k (tried job a eb) ≡ false)
@@ -28,7 +28,7 @@ loop-holds c = (omega arith, refl)
 representative-requires : tie.Need-representative-requires Inv-loop μ-loop
 representative-requires c κs =
     let s = c .before .before in
-    (s .pre .0 .format, s .pre .0 .b, s .pre .2, omega arith)
+    (s .pre .0 .setting .format, s .pre .0 .b .mask, s .pre .2, omega arith)
 
 together-requires : tie.Need-together-requires Inv-loop μ-loop
 together-requires c κs =
@@ -37,7 +37,7 @@ together-requires c κs =
       s .pre .0,
       s .pre .1,
       rw (c .representative .ensures)
-          (representative-lt (j .format) (j .b) (s .pre .0 .b) (s .args .eb) (c .before .before .loop .k) (s .pre .2) (omega arith)),
+          (representative-lt (j .setting .format) (j .b .mask) (s .pre .0 .b .mask) (s .args .eb) (c .before .before .loop .k) (s .pre .2) (omega arith)),
     )
 
 returns : tie.Need-returns Inv-loop μ-loop

@@ -13,7 +13,7 @@ use Rattle.pair.proofs.special.special_pair.Tie as tie
 
 -- what is asked of each representative
 abbrev tried : Job → ℕ → ℕ → ℕ → Bool
-tried j ea eb k = partnered j (representative (j .format) (j .a) ea k) eb
+tried j ea eb k = partnered j (representative (j .setting .format) (j .a .mask) ea k) eb
 
 abbrev Inv-loop : tie.InvT-loop
 Inv-loop job ea eb k₀ k = (k ≤ 4) × (any k (tried job ea eb) ≡ false)
@@ -35,7 +35,7 @@ loop-holds c = (omega arith, refl)
 representative-requires : tie.Need-representative-requires Inv-loop μ-loop
 representative-requires c κs =
     let s = c .before .before .before .before in
-    (s .pre .0 .valid .format, s .pre .0 .valid .a, s .pre .0 .a-lt, omega arith)
+    (s .pre .0 .valid .setting .format, s .pre .0 .valid .a .mask, s .pre .0 .a-lt, omega arith)
 
 partnered-requires : tie.Need-partnered-requires Inv-loop μ-loop
 partnered-requires c κs =
@@ -43,7 +43,7 @@ partnered-requires c κs =
     let j = s .args .job in (
       s .pre .0 .valid,
       rw (c .representative .ensures)
-          (representative-lt (j .format) (j .a) (s .pre .0 .valid .a) (s .args .ea) (c .before .before .loop .k) (s .pre .0 .a-lt) (omega arith)),
+          (representative-lt (j .setting .format) (j .a .mask) (s .pre .0 .valid .a .mask) (s .args .ea) (c .before .before .loop .k) (s .pre .0 .a-lt) (omega arith)),
       s .pre .0 .b-lt,
     )
 

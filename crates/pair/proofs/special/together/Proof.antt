@@ -1,16 +1,20 @@
 -- `pair::special::together` meets its contract: the rounded result of a valid job's words is not refused. Assumes nothing.
-use mathlib.Core.Path.{_≡_, sym, ap, ap₂, _∙_}
-use mathlib.Core.Bool.{_&&_}
+use mathlib.Core.Path.{_≡_, refl, sym, ap, ap₂, _∙_}
+use mathlib.Core.Bool.{Bool, true, false, _&&_}
 use Prim.Native.Nat.{ℕ}
 use native.Mathlib.Omega.{arith}
 use Rattle.adder.specs.Result.{result}
 use Rattle.adder.proofs.ResultLaws.{result-lt}
-use Rattle.fit.specs.Fit.{fits}
+use Rattle.fit.specs.Fit.{satisfies, fits}
 use Rattle.pair.specs.Special.{together}
 use Rattle.pair.proofs.SpecialLaws.{result-replied}
 use borrow.Author.Needs.{needs}
 use Rattle.pair.proofs.special.together.Statement.{statement}
 use Rattle.pair.proofs.special.together.Tie as tie
+
+and-false : (t : Bool) → (t && false) ≡ false
+and-false true = refl
+and-false false = refl
 
 meets-requires : tie.Need-meets-requires
 meets-requires c κs = search needs
@@ -31,8 +35,8 @@ confirmed-requires c κs =
     let e =
     sym (c .before .c .given .1) ∙ c .before .before .before .rounded-result .ensures
     ∙ result-replied j (s .pre .0) (s .args .a) (s .args .b) (s .pre .1) (s .pre .2) in
-    let w : c .before .c .given .0 .0 ≡ result (j .format) (j .operation) (j .mode) (s .args .a) (s .args .b) = cc in
-    (s .pre .0, s .pre .1, s .pre .2, rw w (result-lt (j .format) (s .pre .0 .format) (j .operation) (j .mode) (s .args .a) (s .args .b)))
+    let w : c .before .c .given .0 .0 ≡ result (j .setting .format) (j .setting .operation) (j .setting .mode) (s .args .a) (s .args .b) = cc in
+    (s .pre .0, s .pre .1, s .pre .2, rw w (result-lt (j .setting .format) (s .pre .0 .setting .format) (j .setting .operation) (j .setting .mode) (s .args .a) (s .args .b)))
 
 enum-told : tie.Need-enum-told
 enum-told c = search needs
@@ -45,7 +49,7 @@ returns c =
     let e =
     sym (c .before .before .c .given .1) ∙ c .before .before .before .before .rounded-result .ensures
     ∙ result-replied j (s .pre .0) (s .args .a) (s .args .b) (s .pre .1) (s .pre .2) in
-    let w : c .before .before .c .given .0 .0 ≡ result (j .format) (j .operation) (j .mode) (s .args .a) (s .args .b) = cc in
+    let w : c .before .before .c .given .0 .0 ≡ result (j .setting .format) (j .setting .operation) (j .setting .mode) (s .args .a) (s .args .b) = cc in
     c .confirmed .ensures ∙ ap (fits j (s .args .a) (s .args .b)) w
 
 returns-2 : tie.Need-returns-2
@@ -58,10 +62,10 @@ returns-2 c =
     absurd (omega arith)
 
 returns-3 : tie.Need-returns-3
-unfolding together fits
+unfolding together fits satisfies
 returns-3 c =
     let e = sym (ap₂ _&&_ (c .before .before .meets .ensures) (c .before .meets2 .ensures)) ∙ c .if1 .left in
-    rw e
+    rw (e, and-false)
 
 pub together-spec : {M : Type 1} → statement M
 together-spec =

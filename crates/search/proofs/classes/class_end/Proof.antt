@@ -17,7 +17,7 @@ power-requires : tie.Need-power-requires
 power-requires c κs = search needs
 
 sub-ones : tie.Need-sub-ones
-sub-ones c = rw (c .power .ensures ∙ power-exact (c .before .args .job .format .w) (omega (arith, c .before .pre .format .w-most))) (pow-pos (c .before .args .job .format .w))
+sub-ones c = rw (c .power .ensures ∙ power-exact (c .before .args .job .setting .format .w) (omega (arith, c .before .pre .setting .format .w-most))) (pow-pos (c .before .args .job .setting .format .w))
 
 add-if1 : tie.Need-add-if1
 add-if1 c = search needs
@@ -39,7 +39,7 @@ returns-2 c =
     let i = c .before .before .before in
     let p = i .before .before in
     let st = p .before in
-    end-short (st .args .job) (p .power .result - 1) (ap (λ (n : ℕ). n - 1) (p .power .ensures ∙ power-exact (st .args .job .format .w) (omega (arith, st .pre .format .w-most)))) (i .if1 .left)
+    end-short (st .args .job) (p .power .result - 1) (ap (λ (n : ℕ). n - 1) (p .power .ensures ∙ power-exact (st .args .job .setting .format .w) (omega (arith, st .pre .setting .format .w-most)))) (i .if1 .left)
 
 power-requires-2 : tie.Need-power-requires-2
 power-requires-2 c κs = search needs
@@ -47,7 +47,7 @@ power-requires-2 c κs = search needs
 sub-meets : tie.Need-sub-meets
 sub-meets c =
     let st = c .before .before .before .before .before .before .before in
-    rw (c .power2 .ensures ∙ power-exact (st .args .job .format .f) (omega (arith, st .pre .format .f-most))) (pow-pos (st .args .job .format .f))
+    rw (c .power2 .ensures ∙ power-exact (st .args .job .setting .format .f) (omega (arith, st .pre .setting .format .f-most))) (pow-pos (st .args .job .setting .format .f))
 
 meets-requires-2 : tie.Need-meets-requires-2
 meets-requires-2 c κs = search needs
@@ -60,7 +60,7 @@ returns-3 c =
     let i = c .before .before .before .before .before .before in
     let p = i .before .before in
     let st = p .before in
-    end-short (st .args .job) (p .power .result - 1) (ap (λ (n : ℕ). n - 1) (p .power .ensures ∙ power-exact (st .args .job .format .w) (omega (arith, st .pre .format .w-most)))) (i .if1 .left)
+    end-short (st .args .job) (p .power .result - 1) (ap (λ (n : ℕ). n - 1) (p .power .ensures ∙ power-exact (st .args .job .setting .format .w) (omega (arith, st .pre .setting .format .w-most)))) (i .if1 .left)
 
 returns-4 : tie.Need-returns-4
 returns-4 c =
@@ -71,11 +71,11 @@ returns-4 c =
     let p = i .before .before in
     let st = p .before in
     let j = st .args .job in
-    let F = j .format in
-    let top = ap (λ (n : ℕ). n - 1) (q .power2 .ensures ∙ power-exact (F .f) (omega (arith, st .pre .format .f-most))) in
-    end-long j (p .power .result - 1) (ap (λ (n : ℕ). n - 1) (p .power .ensures ∙ power-exact (st .args .job .format .w) (omega (arith, st .pre .format .w-most)))) (i .if1 .left) (record {
-      zeros = λ m. false≢true (sym (q .before .if2 .left) ∙ one .meets .ensures ∙ ap (meets 0) (one .before .low .ensures) ∙ meets-true 0 (fractionMask F (j .c)) .1 m);
-      ones = λ m. false≢true (sym (c .if3 .left) ∙ two .meets2 .ensures ∙ ap₂ meets top (one .before .low .ensures) ∙ meets-true (2 ^ F .f - 1) (fractionMask F (j .c)) .1 m);
+    let F = j .setting .format in
+    let top = ap (λ (n : ℕ). n - 1) (q .power2 .ensures ∙ power-exact (F .f) (omega (arith, st .pre .setting .format .f-most))) in
+    end-long j (p .power .result - 1) (ap (λ (n : ℕ). n - 1) (p .power .ensures ∙ power-exact (st .args .job .setting .format .w) (omega (arith, st .pre .setting .format .w-most)))) (i .if1 .left) (record {
+      zeros = λ m. false≢true (sym (q .before .if2 .left) ∙ one .meets .ensures ∙ ap (meets 0) (one .before .low .ensures) ∙ meets-true 0 (fractionMask F (j .c .mask)) .1 m);
+      ones = λ m. false≢true (sym (c .if3 .left) ∙ two .meets2 .ensures ∙ ap₂ meets top (one .before .low .ensures) ∙ meets-true (2 ^ F .f - 1) (fractionMask F (j .c .mask)) .1 m);
     })
 
 pub class-end-spec : {M : Type 1} → statement M

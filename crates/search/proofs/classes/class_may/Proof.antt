@@ -30,7 +30,7 @@ returns c =
     let o = b .before in
     let s = o .before .before in
     let a = s .args in (
-      kept-set (a .job) (now (a .table)) (a .k) (o .opened .result) (s .pre .0 .valid .format .f-most) (s .pre .0 .class-lt) (s .pre .1) (o .opened .ensures),
+      kept-set (a .job) (now (a .table)) (a .k) (o .opened .result) (s .pre .0 .valid .setting .format .f-most) (s .pre .0 .class-lt) (s .pre .1) (o .opened .ensures),
       λ e. closed-none (a .job) (a .k) (o .opened .result) (a .u) (o .opened .ensures) (sym (b .bit-at .ensures) ∙ c .if1 .taken),
     )
 
@@ -48,7 +48,7 @@ returns-2 c =
     let o = c .before .before .before in
     let s = o .before .before in
     let a = s .args in
-    (kept-set (a .job) (now (a .table)) (a .k) (c .try-fields .result .refused) (s .pre .0 .valid .format .f-most) (s .pre .0 .class-lt) (s .pre .1) (c .try-fields .ensures .0), c .try-fields .ensures .1)
+    (kept-set (a .job) (now (a .table)) (a .k) (c .try-fields .result .refused) (s .pre .0 .valid .setting .format .f-most) (s .pre .0 .class-lt) (s .pre .1) (c .try-fields .ensures .0), c .try-fields .ensures .1)
 
 pub class-may-spec : {M : Type 1} → statement M
 class-may-spec =

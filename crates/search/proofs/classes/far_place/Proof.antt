@@ -13,19 +13,19 @@ power-requires : tie.Need-power-requires
 power-requires c κs = search needs
 
 sub-ones : tie.Need-sub-ones
-sub-ones c = rw (c .power .ensures ∙ power-exact (c .before .args .job .format .w) (omega (arith, c .before .pre .0 .format .w-most))) (pow-pos (c .before .args .job .format .w))
+sub-ones c = rw (c .power .ensures ∙ power-exact (c .before .args .job .setting .format .w) (omega (arith, c .before .pre .0 .setting .format .w-most))) (pow-pos (c .before .args .job .setting .format .w))
 
 place-of-requires : tie.Need-place-of-requires
 place-of-requires c κs =
     let s = c .before .before in
-    let most = pow-mono {i = s .args .job .format .w} {j = 8} (s .pre .0 .format .w-most) in
-    (s .pre .0 .format .f-most, omega arith, omega (arith, s .pre .2))
+    let most = pow-mono {i = s .args .job .setting .format .w} {j = 8} (s .pre .0 .setting .format .w-most) in
+    (s .pre .0 .setting .format .f-most, omega arith, omega (arith, s .pre .2))
 
 returns : tie.Need-returns
 returns c =
     let p = c .before .before in
     let s = p .before in
-    let is = ap (λ (n : ℕ). n - 1) (p .power .ensures ∙ power-exact (s .args .job .format .w) (omega (arith, s .pre .0 .format .w-most))) in
+    let is = ap (λ (n : ℕ). n - 1) (p .power .ensures ∙ power-exact (s .args .job .setting .format .w) (omega (arith, s .pre .0 .setting .format .w-most))) in
     ⊎-elim inl
     (λ q. inr (record {
       order = 0;
@@ -43,14 +43,14 @@ returns c =
 place-of-requires-2 : tie.Need-place-of-requires-2
 place-of-requires-2 c κs =
     let s = c .before .before in
-    let most = pow-mono {i = s .args .job .format .w} {j = 8} (s .pre .0 .format .w-most) in
-    (s .pre .0 .format .f-most, omega arith, omega (arith, s .pre .1))
+    let most = pow-mono {i = s .args .job .setting .format .w} {j = 8} (s .pre .0 .setting .format .w-most) in
+    (s .pre .0 .setting .format .f-most, omega arith, omega (arith, s .pre .1))
 
 returns-2 : tie.Need-returns-2
 returns-2 c =
     let p = c .before .before in
     let s = p .before in
-    let is = ap (λ (n : ℕ). n - 1) (p .power .ensures ∙ power-exact (s .args .job .format .w) (omega (arith, s .pre .0 .format .w-most))) in
+    let is = ap (λ (n : ℕ). n - 1) (p .power .ensures ∙ power-exact (s .args .job .setting .format .w) (omega (arith, s .pre .0 .setting .format .w-most))) in
     ⊎-elim inl
     (λ q. inr (record {
       order = 1;

@@ -28,7 +28,7 @@ returns-2 : tie.Need-returns-2
 returns-2 c =
     let s = c .before .before in
     let a = s .args in
-    far-kept (a .job) (now (a .table)) (a .ea) (a .eb) (c .before .far-place .result) (pair-at c) (s .pre .2) (s .pre .0 .valid .format .f-most)
+    far-kept (a .job) (now (a .table)) (a .ea) (a .eb) (c .before .far-place .result) (pair-at c) (s .pre .2) (s .pre .0 .valid .setting .format .f-most)
     (none-far (a .job) (a .ea) (a .eb) (c .before .far-place .result) (pair-at c) (s .pre .0) (s .pre .1))
 
 pub keep-refused-spec : {M : Type 1} → statement M

@@ -21,8 +21,8 @@ smaller-requires c κs = search needs
 normal-requires : tie.Need-normal-requires
 normal-requires c κs =
     let s = c .before .before in
-    let most = pow-mono {i = s .args .job .format .w} {j = 8} (s .pre .0 .format .w-most) in
-    (s .pre .0 .format .f-most, omega (arith, s .pre .1, c .smaller .ensures .2))
+    let most = pow-mono {i = s .args .job .setting .format .w} {j = 8} (s .pre .0 .setting .format .w-most) in
+    (s .pre .0 .setting .format .f-most, omega (arith, s .pre .1, c .smaller .ensures .2))
 
 returns : tie.Need-returns
 returns c = let s = c .before .before .before .before in (s .pre .4, λ e. absurd (true≢false e))
@@ -36,8 +36,8 @@ returns-2 c = search needs
 class-of-requires : tie.Need-class-of-requires
 class-of-requires c κs =
     let s = c .before .before .before .before .before in
-    let most = pow-mono {i = s .args .job .format .w} {j = 8} (s .pre .0 .format .w-most) in
-    (s .pre .0 .format .f-most, omega (arith, s .pre .1), omega (arith, s .pre .2))
+    let most = pow-mono {i = s .args .job .setting .format .w} {j = 8} (s .pre .0 .setting .format .w-most) in
+    (s .pre .0 .setting .format .f-most, omega (arith, s .pre .1), omega (arith, s .pre .2))
 
 sub-class-may : tie.Need-sub-class-may
 sub-class-may c =

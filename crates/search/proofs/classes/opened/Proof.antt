@@ -13,7 +13,7 @@ class-admits-requires : tie.Need-class-admits-requires
 class-admits-requires c κs = search needs
 
 returns-2 : tie.Need-returns-2
-returns-2 c = let st = c .before .before .before in marked (st .args .job) (st .args .k) (st .pre .0 .valid .format .f-most)
+returns-2 c = let st = c .before .before .before in marked (st .args .job) (st .args .k) (st .pre .0 .valid .setting .format .f-most)
 
 returns-3 : tie.Need-returns-3
 returns-3 c =

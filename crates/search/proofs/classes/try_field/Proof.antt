@@ -41,7 +41,7 @@ returns-2 c =
     let st = m .before .before .before .before .before in
     let a = st .args in
     let is = m .meets .ensures ∙ ap₂ meets (m .before .field-at .ensures) (m .before .before .exponent-mask .ensures) in
-    (st .pre .1, λ e met. absurd (false≢true (sym (not-true (m .meets .result) (c .if2 .taken)) ∙ is ∙ meets-true (fieldAt (a .job .format .f) (a .u) (a .i)) (exponentMask (a .job .format) (a .job .c)) .1 met)))
+    (st .pre .1, λ e met. absurd (false≢true (sym (not-true (m .meets .result) (c .if2 .taken)) ∙ is ∙ meets-true (fieldAt (a .job .setting .format .f) (a .u) (a .i)) (exponentMask (a .job .setting .format) (a .job .c .mask)) .1 met)))
 
 power-requires : tie.Need-power-requires
 power-requires c κs = search needs
@@ -49,7 +49,7 @@ power-requires c κs = search needs
 sub-t12 : tie.Need-sub-t12
 sub-t12 c =
     let st = c .before .before .before .before .before .before .before in
-    rw (c .power .ensures ∙ power-exact (st .args .job .format .w) (omega (arith, st .pre .0 .valid .format .w-most))) (pow-pos (st .args .job .format .w))
+    rw (c .power .ensures ∙ power-exact (st .args .job .setting .format .w) (omega (arith, st .pre .0 .valid .setting .format .w-most))) (pow-pos (st .args .job .setting .format .w))
 
 class-admits-requires : tie.Need-class-admits-requires
 class-admits-requires c κs = search needs
@@ -71,7 +71,7 @@ returns-4 c =
     let class = st .pre .0 in
     let asks = subst (λ (n : Mask). ClassAsked (a .job) (a .k) n → (ca .class-admits .result ≡ true) ↔ ClassAdmits (a .job) (a .k) n) (only-is (a .job) (p .power .result) (a .i) (class .valid) (p .power .ensures)) (ca .class-admits .ensures) in
     let never : Never (a .job) (a .k) (a .i) = λ l A. false≢true (sym (c .if3 .left) ∙ asks (only-asked (a .job) (a .k) (a .u) class (a .i) l) .1 A) in
-    let short = class .valid .format .f-most in (
+    let short = class .valid .setting .format .f-most in (
       rw (one-shl (a .i) (omega (arith, st .pre .2))) (refuse-more (a .job) (a .k) (a .refused) (a .i) (omega (arith, st .pre .2)) (st .pre .1) never),
       λ e met. never,
     )

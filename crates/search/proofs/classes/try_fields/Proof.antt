@@ -21,17 +21,17 @@ next P n some above here i h = go (ℕ-discrete (n - 1) i)
 
 abbrev Inv-loop : tie.InvT-loop
 Inv-loop job k u known least refused₀ n₀ refused n =
-    (Refuses job k refused) × (n ≤ job .format .f + 7)
-    × ((i : ℕ) → n ≤ i → Meets (fieldAt (job .format .f) u i) (exponentMask (job .format) (job .c)) → Never job k i)
+    (Refuses job k refused) × (n ≤ job .setting .format .f + 7)
+    × ((i : ℕ) → n ≤ i → Meets (fieldAt (job .setting .format .f) u i) (exponentMask (job .setting .format) (job .c .mask)) → Never job k i)
 
 abbrev μ-loop : tie.MeasureT-loop
 μ-loop job k u known least refused₀ n₀ refused n = n
 
 least-field-requires : tie.Need-least-field-requires Inv-loop μ-loop
-least-field-requires c κs = c .pre .0 .valid .format .f-most
+least-field-requires c κs = c .pre .0 .valid .setting .format .f-most
 
 add-n : tie.Need-add-n Inv-loop μ-loop
-add-n c = record { fits = omega (arith, c .before .before .pre .0 .valid .format .f-most) }
+add-n c = record { fits = omega (arith, c .before .before .pre .0 .valid .setting .format .f-most) }
 
 loop-holds : tie.Need-loop-holds Inv-loop μ-loop
 loop-holds c = (c .before .before .pre .1, omega arith, λ i l met h. absurd (omega arith))
@@ -58,7 +58,7 @@ loop-again c =
     let a = l .before .before .before .args in (
       t .try-field .ensures .0,
       omega (arith, l .loop .inv .1),
-      λ i h met. next (λ (m : ℕ). Meets (fieldAt (a .job .format .f) (a .u) m) (exponentMask (a .job .format) (a .job .c)) → Never (a .job) (a .k) m) (l .loop .n) (omega (arith, t .before .loop-test .taken))
+      λ i h met. next (λ (m : ℕ). Meets (fieldAt (a .job .setting .format .f) (a .u) m) (exponentMask (a .job .setting .format) (a .job .c .mask)) → Never (a .job) (a .k) m) (l .loop .n) (omega (arith, t .before .loop-test .taken))
           (l .loop .inv .2) (t .try-field .ensures .1 (c .if1 .left)) i h met,
     )
 

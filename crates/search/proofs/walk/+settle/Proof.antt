@@ -19,8 +19,8 @@ use Rattle.mask.proofs.free.Reads as free-reads
 use Rattle.search.proofs.first_row.Reads as first-row-reads
 use Rattle.bits.proofs.power.Reads as power-reads
 use Rattle.search.proofs.Pairs.{count-is}
-use Rattle.search.proofs.walk.fix_bit.Reads as fix-bit-reads
-use Rattle.search.proofs.walk.mask_of.Reads as mask-of-reads
+use Rattle.job.proofs.words.fix_bit.Reads as fix-bit-reads
+use Rattle.job.proofs.words.wanted.Reads as wanted-reads
 use Rattle.search.proofs.walk.+settle.{statement}
 use Rattle.search.proofs.walk.+settle.Tie.{close}
 
@@ -33,21 +33,21 @@ settle-at t = and 0 settle-kinds.ps (is 0 settle-kinds.ps μ-settle t) settle.Pr
 abbrev settle-below : ℕ → In 0 settle-kinds.ps
 settle-below t = and 0 settle-kinds.ps (falls 0 settle-kinds.ps _<_ μ-settle t) settle.Pre
 
-settle-returns : (t : ℕ) → settle-lts.Need-returns (mask-of-reads.Asked, mask-of-reads.Learnt, free-reads.Asked, free-reads.Learnt, settle-below t, settle.Post, bit-at-reads.Asked, bit-at-reads.Learnt, fix-bit-reads.Asked, fix-bit-reads.Learnt, first-row-reads.Asked, first-row-reads.Learnt, power-reads.Asked, power-reads.Learnt) (settle-at t) settle.Post
+settle-returns : (t : ℕ) → settle-lts.Need-returns (wanted-reads.Asked, wanted-reads.Learnt, free-reads.Asked, free-reads.Learnt, settle-below t, settle.Post, bit-at-reads.Asked, bit-at-reads.Learnt, fix-bit-reads.Asked, fix-bit-reads.Learnt, first-row-reads.Asked, first-row-reads.Learnt, power-reads.Asked, power-reads.Learnt) (settle-at t) settle.Post
 settle-returns t c =
     let a = c .before .args in
     settled-done (a .job) (a .role) (a .word) (subst (Open (a .job) (a .role)) (c .if1 .taken) (c .before .pre .1 .top))
 
-settle-sub-k : (t : ℕ) → settle-lts.Need-sub-k (mask-of-reads.Asked, mask-of-reads.Learnt, free-reads.Asked, free-reads.Learnt, settle-below t, settle.Post, bit-at-reads.Asked, bit-at-reads.Learnt, fix-bit-reads.Asked, fix-bit-reads.Learnt, first-row-reads.Asked, first-row-reads.Learnt, power-reads.Asked, power-reads.Learnt) (settle-at t) settle.Post
+settle-sub-k : (t : ℕ) → settle-lts.Need-sub-k (wanted-reads.Asked, wanted-reads.Learnt, free-reads.Asked, free-reads.Learnt, settle-below t, settle.Post, bit-at-reads.Asked, bit-at-reads.Learnt, fix-bit-reads.Asked, fix-bit-reads.Learnt, first-row-reads.Asked, first-row-reads.Learnt, power-reads.Asked, power-reads.Learnt) (settle-at t) settle.Post
 settle-sub-k t c = omega (arith, c .if1 .left)
 
-settle-mask-of-requires : (t : ℕ) → settle-lts.Need-mask-of-requires (mask-of-reads.Asked, mask-of-reads.Learnt, free-reads.Asked, free-reads.Learnt, settle-below t, settle.Post, bit-at-reads.Asked, bit-at-reads.Learnt, fix-bit-reads.Asked, fix-bit-reads.Learnt, first-row-reads.Asked, first-row-reads.Learnt, power-reads.Asked, power-reads.Learnt) (settle-at t) settle.Post
-settle-mask-of-requires t c κs = search needs
+settle-wanted-requires : (t : ℕ) → settle-lts.Need-wanted-requires (wanted-reads.Asked, wanted-reads.Learnt, free-reads.Asked, free-reads.Learnt, settle-below t, settle.Post, bit-at-reads.Asked, bit-at-reads.Learnt, fix-bit-reads.Asked, fix-bit-reads.Learnt, first-row-reads.Asked, first-row-reads.Learnt, power-reads.Asked, power-reads.Learnt) (settle-at t) settle.Post
+settle-wanted-requires t c κs = search needs
 
-settle-free-requires : (t : ℕ) → settle-lts.Need-free-requires (mask-of-reads.Asked, mask-of-reads.Learnt, free-reads.Asked, free-reads.Learnt, settle-below t, settle.Post, bit-at-reads.Asked, bit-at-reads.Learnt, fix-bit-reads.Asked, fix-bit-reads.Learnt, first-row-reads.Asked, first-row-reads.Learnt, power-reads.Asked, power-reads.Learnt) (settle-at t) settle.Post
+settle-free-requires : (t : ℕ) → settle-lts.Need-free-requires (wanted-reads.Asked, wanted-reads.Learnt, free-reads.Asked, free-reads.Learnt, settle-below t, settle.Post, bit-at-reads.Asked, bit-at-reads.Learnt, fix-bit-reads.Asked, fix-bit-reads.Learnt, first-row-reads.Asked, first-row-reads.Learnt, power-reads.Asked, power-reads.Learnt) (settle-at t) settle.Post
 settle-free-requires t c κs = search needs
 
-settle-settle-requires : (t : ℕ) → settle-lts.Need-settle-requires (mask-of-reads.Asked, mask-of-reads.Learnt, free-reads.Asked, free-reads.Learnt, settle-below t, settle.Post, bit-at-reads.Asked, bit-at-reads.Learnt, fix-bit-reads.Asked, fix-bit-reads.Learnt, first-row-reads.Asked, first-row-reads.Learnt, power-reads.Asked, power-reads.Learnt) (settle-at t) settle.Post
+settle-settle-requires : (t : ℕ) → settle-lts.Need-settle-requires (wanted-reads.Asked, wanted-reads.Learnt, free-reads.Asked, free-reads.Learnt, settle-below t, settle.Post, bit-at-reads.Asked, bit-at-reads.Learnt, fix-bit-reads.Asked, fix-bit-reads.Learnt, first-row-reads.Asked, first-row-reads.Learnt, power-reads.Asked, power-reads.Learnt) (settle-at t) settle.Post
 settle-settle-requires t c κs =
     let f = c .before in
     let i = f .before .before in
@@ -55,21 +55,21 @@ settle-settle-requires t c κs =
     let a = st .args in (
       omega (arith, st .pre .0, i .if1 .left),
       record {
-        top = skipped-open (a .job) (a .role) (a .open-bits) (st .pre .1 .top) (i .if1 .left) (f .before .mask-of .ensures) (f .free .ensures) (not-true (f .free .result) (c .if2 .taken));
+        top = skipped-open (a .job) (a .role) (a .open-bits) (st .pre .1 .top) (i .if1 .left) (f .before .wanted .ensures) (f .free .ensures) (not-true (f .free .result) (c .if2 .taken));
         none = st .pre .1 .none;
       },
     )
 
-settle-returns-2 : (t : ℕ) → settle-lts.Need-returns-2 (mask-of-reads.Asked, mask-of-reads.Learnt, free-reads.Asked, free-reads.Learnt, settle-below t, settle.Post, bit-at-reads.Asked, bit-at-reads.Learnt, fix-bit-reads.Asked, fix-bit-reads.Learnt, first-row-reads.Asked, first-row-reads.Learnt, power-reads.Asked, power-reads.Learnt) (settle-at t) settle.Post
+settle-returns-2 : (t : ℕ) → settle-lts.Need-returns-2 (wanted-reads.Asked, wanted-reads.Learnt, free-reads.Asked, free-reads.Learnt, settle-below t, settle.Post, bit-at-reads.Asked, bit-at-reads.Learnt, fix-bit-reads.Asked, fix-bit-reads.Learnt, first-row-reads.Asked, first-row-reads.Learnt, power-reads.Asked, power-reads.Learnt) (settle-at t) settle.Post
 settle-returns-2 t c = c .settle .ensures
 
-settle-bit-at-requires : (t : ℕ) → settle-lts.Need-bit-at-requires (mask-of-reads.Asked, mask-of-reads.Learnt, free-reads.Asked, free-reads.Learnt, settle-below t, settle.Post, bit-at-reads.Asked, bit-at-reads.Learnt, fix-bit-reads.Asked, fix-bit-reads.Learnt, first-row-reads.Asked, first-row-reads.Learnt, power-reads.Asked, power-reads.Learnt) (settle-at t) settle.Post
+settle-bit-at-requires : (t : ℕ) → settle-lts.Need-bit-at-requires (wanted-reads.Asked, wanted-reads.Learnt, free-reads.Asked, free-reads.Learnt, settle-below t, settle.Post, bit-at-reads.Asked, bit-at-reads.Learnt, fix-bit-reads.Asked, fix-bit-reads.Learnt, first-row-reads.Asked, first-row-reads.Learnt, power-reads.Asked, power-reads.Learnt) (settle-at t) settle.Post
 settle-bit-at-requires t c κs = search needs
 
-settle-fix-bit-requires : (t : ℕ) → settle-lts.Need-fix-bit-requires (mask-of-reads.Asked, mask-of-reads.Learnt, free-reads.Asked, free-reads.Learnt, settle-below t, settle.Post, bit-at-reads.Asked, bit-at-reads.Learnt, fix-bit-reads.Asked, fix-bit-reads.Learnt, first-row-reads.Asked, first-row-reads.Learnt, power-reads.Asked, power-reads.Learnt) (settle-at t) settle.Post
+settle-fix-bit-requires : (t : ℕ) → settle-lts.Need-fix-bit-requires (wanted-reads.Asked, wanted-reads.Learnt, free-reads.Asked, free-reads.Learnt, settle-below t, settle.Post, bit-at-reads.Asked, bit-at-reads.Learnt, fix-bit-reads.Asked, fix-bit-reads.Learnt, first-row-reads.Asked, first-row-reads.Learnt, power-reads.Asked, power-reads.Learnt) (settle-at t) settle.Post
 settle-fix-bit-requires t c κs = search needs
 
-settle-first-row-requires : (t : ℕ) → settle-lts.Need-first-row-requires (mask-of-reads.Asked, mask-of-reads.Learnt, free-reads.Asked, free-reads.Learnt, settle-below t, settle.Post, bit-at-reads.Asked, bit-at-reads.Learnt, fix-bit-reads.Asked, fix-bit-reads.Learnt, first-row-reads.Asked, first-row-reads.Learnt, power-reads.Asked, power-reads.Learnt) (settle-at t) settle.Post
+settle-first-row-requires : (t : ℕ) → settle-lts.Need-first-row-requires (wanted-reads.Asked, wanted-reads.Learnt, free-reads.Asked, free-reads.Learnt, settle-below t, settle.Post, bit-at-reads.Asked, bit-at-reads.Learnt, fix-bit-reads.Asked, fix-bit-reads.Learnt, first-row-reads.Asked, first-row-reads.Learnt, power-reads.Asked, power-reads.Learnt) (settle-at t) settle.Post
 settle-first-row-requires t c κs =
     let f = c in
     let i = f .before .before .before .before .before in
@@ -79,10 +79,10 @@ settle-first-row-requires t c κs =
       tried-none (a .job) (a .role) (a .open-bits) (st .pre .1 .top) (i .if1 .left) (a .word) (f .before .bit-at .result) (f .before .bit-at .ensures) (f .fix-bit .result) (f .fix-bit .ensures) (a .start) (st .pre .1 .none),
     )
 
-settle-power-requires : (t : ℕ) → settle-lts.Need-power-requires (mask-of-reads.Asked, mask-of-reads.Learnt, free-reads.Asked, free-reads.Learnt, settle-below t, settle.Post, bit-at-reads.Asked, bit-at-reads.Learnt, fix-bit-reads.Asked, fix-bit-reads.Learnt, first-row-reads.Asked, first-row-reads.Learnt, power-reads.Asked, power-reads.Learnt) (settle-at t) settle.Post
+settle-power-requires : (t : ℕ) → settle-lts.Need-power-requires (wanted-reads.Asked, wanted-reads.Learnt, free-reads.Asked, free-reads.Learnt, settle-below t, settle.Post, bit-at-reads.Asked, bit-at-reads.Learnt, fix-bit-reads.Asked, fix-bit-reads.Learnt, first-row-reads.Asked, first-row-reads.Learnt, power-reads.Asked, power-reads.Learnt) (settle-at t) settle.Post
 settle-power-requires t c κs = search needs
 
-settle-settle-requires-2 : (t : ℕ) → settle-lts.Need-settle-requires-2 (mask-of-reads.Asked, mask-of-reads.Learnt, free-reads.Asked, free-reads.Learnt, settle-below t, settle.Post, bit-at-reads.Asked, bit-at-reads.Learnt, fix-bit-reads.Asked, fix-bit-reads.Learnt, first-row-reads.Asked, first-row-reads.Learnt, power-reads.Asked, power-reads.Learnt) (settle-at t) settle.Post
+settle-settle-requires-2 : (t : ℕ) → settle-lts.Need-settle-requires-2 (wanted-reads.Asked, wanted-reads.Learnt, free-reads.Asked, free-reads.Learnt, settle-below t, settle.Post, bit-at-reads.Asked, bit-at-reads.Learnt, fix-bit-reads.Asked, fix-bit-reads.Learnt, first-row-reads.Asked, first-row-reads.Learnt, power-reads.Asked, power-reads.Learnt) (settle-at t) settle.Post
 settle-settle-requires-2 t c κs =
     let p = c .before in
     let r = p .before in
@@ -95,7 +95,7 @@ settle-settle-requires-2 t c κs =
       tried-started (a .job) (a .role) (a .open-bits) (st .pre .1 .top) (i .if1 .left) (a .word) (f .before .bit-at .result) (f .before .bit-at .ensures) (f .fix-bit .result) (f .fix-bit .ensures) (r .first-row .result) (r .first-row .ensures) (omega (arith, is, c .if3 .taken)),
     )
 
-settle-returns-3 : (t : ℕ) → settle-lts.Need-returns-3 (mask-of-reads.Asked, mask-of-reads.Learnt, free-reads.Asked, free-reads.Learnt, settle-below t, settle.Post, bit-at-reads.Asked, bit-at-reads.Learnt, fix-bit-reads.Asked, fix-bit-reads.Learnt, first-row-reads.Asked, first-row-reads.Learnt, power-reads.Asked, power-reads.Learnt) (settle-at t) settle.Post
+settle-returns-3 : (t : ℕ) → settle-lts.Need-returns-3 (wanted-reads.Asked, wanted-reads.Learnt, free-reads.Asked, free-reads.Learnt, settle-below t, settle.Post, bit-at-reads.Asked, bit-at-reads.Learnt, fix-bit-reads.Asked, fix-bit-reads.Learnt, first-row-reads.Asked, first-row-reads.Learnt, power-reads.Asked, power-reads.Learnt) (settle-at t) settle.Post
 settle-returns-3 t c =
     let f = c .before .before .before .before in
     let i = f .before .before .before .before .before in
@@ -103,16 +103,16 @@ settle-returns-3 t c =
     let a = st .args in
     tried-settled (a .job) (a .role) (a .open-bits) (st .pre .1 .top) (i .if1 .left) (a .word) (f .before .bit-at .result) (f .before .bit-at .ensures) (f .fix-bit .result) (f .fix-bit .ensures) (c .settle2 .result) (c .settle2 .ensures)
 
-settle-sub-fix-bit : (t : ℕ) → settle-lts.Need-sub-fix-bit (mask-of-reads.Asked, mask-of-reads.Learnt, free-reads.Asked, free-reads.Learnt, settle-below t, settle.Post, bit-at-reads.Asked, bit-at-reads.Learnt, fix-bit-reads.Asked, fix-bit-reads.Learnt, first-row-reads.Asked, first-row-reads.Learnt, power-reads.Asked, power-reads.Learnt) (settle-at t) settle.Post
+settle-sub-fix-bit : (t : ℕ) → settle-lts.Need-sub-fix-bit (wanted-reads.Asked, wanted-reads.Learnt, free-reads.Asked, free-reads.Learnt, settle-below t, settle.Post, bit-at-reads.Asked, bit-at-reads.Learnt, fix-bit-reads.Asked, fix-bit-reads.Learnt, first-row-reads.Asked, first-row-reads.Learnt, power-reads.Asked, power-reads.Learnt) (settle-at t) settle.Post
 settle-sub-fix-bit t c =
     let b = c .before .before .before .before in
     let st = b .before .before .before .before .before in
     omega (arith, b .bit-at .ensures, bit-lt (st .args .word) (st .args .open-bits - 1))
 
-settle-fix-bit-requires-2 : (t : ℕ) → settle-lts.Need-fix-bit-requires-2 (mask-of-reads.Asked, mask-of-reads.Learnt, free-reads.Asked, free-reads.Learnt, settle-below t, settle.Post, bit-at-reads.Asked, bit-at-reads.Learnt, fix-bit-reads.Asked, fix-bit-reads.Learnt, first-row-reads.Asked, first-row-reads.Learnt, power-reads.Asked, power-reads.Learnt) (settle-at t) settle.Post
+settle-fix-bit-requires-2 : (t : ℕ) → settle-lts.Need-fix-bit-requires-2 (wanted-reads.Asked, wanted-reads.Learnt, free-reads.Asked, free-reads.Learnt, settle-below t, settle.Post, bit-at-reads.Asked, bit-at-reads.Learnt, fix-bit-reads.Asked, fix-bit-reads.Learnt, first-row-reads.Asked, first-row-reads.Learnt, power-reads.Asked, power-reads.Learnt) (settle-at t) settle.Post
 settle-fix-bit-requires-2 t c κs = search needs
 
-settle-settle-requires-3 : (t : ℕ) → settle-lts.Need-settle-requires-3 (mask-of-reads.Asked, mask-of-reads.Learnt, free-reads.Asked, free-reads.Learnt, settle-below t, settle.Post, bit-at-reads.Asked, bit-at-reads.Learnt, fix-bit-reads.Asked, fix-bit-reads.Learnt, first-row-reads.Asked, first-row-reads.Learnt, power-reads.Asked, power-reads.Learnt) (settle-at t) settle.Post
+settle-settle-requires-3 : (t : ℕ) → settle-lts.Need-settle-requires-3 (wanted-reads.Asked, wanted-reads.Learnt, free-reads.Asked, free-reads.Learnt, settle-below t, settle.Post, bit-at-reads.Asked, bit-at-reads.Learnt, fix-bit-reads.Asked, fix-bit-reads.Learnt, first-row-reads.Asked, first-row-reads.Learnt, power-reads.Asked, power-reads.Learnt) (settle-at t) settle.Post
 settle-settle-requires-3 t c κs =
     let p = c .before .before in
     let r = p .before in
@@ -125,7 +125,7 @@ settle-settle-requires-3 t c κs =
       other-started (a .job) (a .role) (a .open-bits) (st .pre .1 .top) (i .if1 .left) (a .word) (f .before .bit-at .result) (f .before .bit-at .ensures) (f .fix-bit .result) (f .fix-bit .ensures) (tried-past (a .job) (a .role) (a .open-bits) (st .pre .1 .top) (i .if1 .left) (a .word) (f .before .bit-at .result) (f .before .bit-at .ensures) (f .fix-bit .result) (f .fix-bit .ensures) (r .first-row .result) (r .first-row .ensures) (omega (arith, is, c .before .if3 .left))) (c .fix-bit2 .result) (c .fix-bit2 .ensures) (a .start) (st .pre .1 .none),
     )
 
-settle-returns-4 : (t : ℕ) → settle-lts.Need-returns-4 (mask-of-reads.Asked, mask-of-reads.Learnt, free-reads.Asked, free-reads.Learnt, settle-below t, settle.Post, bit-at-reads.Asked, bit-at-reads.Learnt, fix-bit-reads.Asked, fix-bit-reads.Learnt, first-row-reads.Asked, first-row-reads.Learnt, power-reads.Asked, power-reads.Learnt) (settle-at t) settle.Post
+settle-returns-4 : (t : ℕ) → settle-lts.Need-returns-4 (wanted-reads.Asked, wanted-reads.Learnt, free-reads.Asked, free-reads.Learnt, settle-below t, settle.Post, bit-at-reads.Asked, bit-at-reads.Learnt, fix-bit-reads.Asked, fix-bit-reads.Learnt, first-row-reads.Asked, first-row-reads.Learnt, power-reads.Asked, power-reads.Learnt) (settle-at t) settle.Post
 settle-returns-4 t c =
     let p = c .before .before .before in
     let r = p .before in
@@ -137,12 +137,12 @@ settle-returns-4 t c =
     other-settled (a .job) (a .role) (a .open-bits) (st .pre .1 .top) (i .if1 .left) (a .word) (f .before .bit-at .result) (f .before .bit-at .ensures) (f .fix-bit .result) (f .fix-bit .ensures) (tried-past (a .job) (a .role) (a .open-bits) (st .pre .1 .top) (i .if1 .left) (a .word) (f .before .bit-at .result) (f .before .bit-at .ensures) (f .fix-bit .result) (f .fix-bit .ensures) (r .first-row .result) (r .first-row .ensures) (omega (arith, is, c .before .before .if3 .left))) (c .before .fix-bit2 .result) (c .before .fix-bit2 .ensures) (c .settle3 .result) (c .settle3 .ensures)
 
 pub +settle-spec : {M : Type 1} → statement M
-+settle-spec = close μ-settle λ t. settle-lts.spec (mask-of-reads.Asked, mask-of-reads.Learnt, free-reads.Asked, free-reads.Learnt, settle-below t, settle.Post, bit-at-reads.Asked, bit-at-reads.Learnt, fix-bit-reads.Asked, fix-bit-reads.Learnt, first-row-reads.Asked, first-row-reads.Learnt, power-reads.Asked, power-reads.Learnt)
++settle-spec = close μ-settle λ t. settle-lts.spec (wanted-reads.Asked, wanted-reads.Learnt, free-reads.Asked, free-reads.Learnt, settle-below t, settle.Post, bit-at-reads.Asked, bit-at-reads.Learnt, fix-bit-reads.Asked, fix-bit-reads.Learnt, first-row-reads.Asked, first-row-reads.Learnt, power-reads.Asked, power-reads.Learnt)
     (settle-at t)
     settle.Post
     (settle-returns t)
     (settle-sub-k t)
-    (settle-mask-of-requires t)
+    (settle-wanted-requires t)
     (settle-free-requires t)
     (settle-settle-requires t)
     (settle-returns-2 t)

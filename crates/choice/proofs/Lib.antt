@@ -1,0 +1,5 @@
+pub mod Closest
+pub mod Narrow
+pub mod Pair
+pub mod Fixing
+pub mod Walk

@@ -1,2 +1,0 @@
-pub mod Fixing
-pub mod Walk

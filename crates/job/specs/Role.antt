@@ -1,0 +1,29 @@
+-- The words of a case by their role, one definition for each use of "a, b, c" (document 01, "Masks and choice"). Assumes nothing.
+use Prim.Native.Nat.{ℕ}
+use Rattle.mask.specs.declared.Mask.{Mask}
+use Rattle.job.specs.declared.Wanted.{Wanted}
+use Rattle.job.specs.declared.Job.{Job}
+use Rattle.job.specs.declared.Role.{Role}
+use Rattle.job.specs.declared.Role.the-variants.{A, B, C}
+
+-- the word of a role in the case (a, b, c)
+abbrev pub member : Role → ℕ → ℕ → ℕ → ℕ
+member A a b c = a
+member B a b c = b
+member C a b c = c
+
+-- what a job wants of it
+abbrev pub wanted : Role → Job → Wanted
+wanted A j = j .a
+wanted B j = j .b
+wanted C j = j .c
+
+-- the job with that replaced
+abbrev pub withWanted : Role → Job → Wanted → Job
+withWanted A j w = record { setting = j .setting; a = w; b = j .b; c = j .c; carries = j .carries }
+withWanted B j w = record { setting = j .setting; a = j .a; b = w; c = j .c; carries = j .carries }
+withWanted C j w = record { setting = j .setting; a = j .a; b = j .b; c = w; carries = j .carries }
+
+-- the same conditions with another mask
+abbrev pub withMask : Wanted → Mask → Wanted
+withMask w m = record { mask = m }

@@ -1,0 +1,50 @@
+// What a job wants of one word of a case, by the role of the word.
+use crate::Job;
+use crate::Role;
+use crate::Wanted;
+use mask::Mask;
+use mask::fix;
+ghost use mathlib.Core.Path.{_≡_};
+ghost use Rattle.mask.specs.Mask.{fix};
+ghost use Rattle.job.specs.Role.{wanted, withWanted, withMask};
+
+// What is wanted of the word of a role.
+pub fn wanted(job: Job, role: Role) -> Wanted
+    ensures { λ r. ⌜ r ≡ wanted role job ⌝ }
+{
+    match role {
+        Role::A => job.a,
+        Role::B => job.b,
+        Role::C => job.c,
+    }
+}
+
+// The job with what is wanted of the word of a role replaced.
+pub fn with_wanted(job: Job, role: Role, w: Wanted) -> Job
+    ensures { λ r. ⌜ r ≡ withWanted role job w ⌝ }
+{
+    let mut with = job;
+    match role {
+        Role::A => with.a = w,
+        Role::B => with.b = w,
+        Role::C => with.c = w,
+    }
+    with
+}
+
+// The same conditions with another mask.
+pub fn with_mask(w: Wanted, m: Mask) -> Wanted
+    ensures { λ r. ⌜ r ≡ withMask w m ⌝ }
+{
+    let mut with = w;
+    with.mask = m;
+    with
+}
+
+// The job with bit i of the word of a role fixed to v, unless it is fixed already.
+pub fn fix_bit(job: Job, role: Role, i: u64, v: u64) -> Job
+    ensures { λ r. ⌜ r ≡ withWanted role job (withMask (wanted role job) (fix (wanted role job .mask) i v)) ⌝ }
+{
+    let w = wanted(job, role);
+    with_wanted(job, role, with_mask(w, fix(w.mask, i, v)))
+}

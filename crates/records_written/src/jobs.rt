@@ -1,0 +1,98 @@
+// Pseudo-random jobs by a congruential generator. Every state gives an entry and a room; no state's numbers are told by those of another.
+use format::Format;
+use job::Job;
+use mask::Mask;
+use records::Entry;
+
+// 2^31 - 1, a prime.
+const MODULUS: u64 = 2147483647;
+
+// The next state.
+fn next(state: u64) -> u64 {
+    state % MODULUS * 48271 % MODULUS
+}
+
+// The state after the two that a mask or two words are made of.
+fn skipped(state: u64) -> u64 {
+    next(next(state))
+}
+
+// The state of the next job.
+pub fn following(state: u64) -> u64 {
+    next(skipped(skipped(skipped(skipped(skipped(state))))))
+}
+
+// A word of 32 bits, by two other multipliers.
+fn word(state: u64) -> u64 {
+    let high = state % MODULUS * 16807 % MODULUS;
+    let low = state % MODULUS * 69621 % MODULUS;
+    high % 65536 * 65536 + low % 65536
+}
+
+// Nothing fixed, or in two of three cases about half of the bits.
+fn mask(width: u64, state: u64) -> Mask {
+    if state % 3 == 0 {
+        return Mask { care: 0, value: 0 };
+    }
+    let care = bits::low(word(state), width);
+    Mask {
+        care,
+        value: care & word(next(state)),
+    }
+}
+
+// A random word, or in one of two cases 0.
+fn random(width: u64, state: u64) -> u64 {
+    if state % 2 == 0 {
+        0
+    } else {
+        bits::low(word(state), width)
+    }
+}
+
+fn job(format: Format, operation: u64, mode: u64, a: Mask, b: Mask, c: Mask, carries: Mask) -> Job {
+    Job {
+        format,
+        operation,
+        mode,
+        a,
+        b,
+        c,
+        carries,
+    }
+}
+
+// The entry of a state: its numbers are those of the state, its fields those of the states after it.
+pub fn entry(state: u64) -> Entry {
+    let w = 2 + state % 7;
+    let f = 2 + state / 7 % 22;
+    let width = w + f + 1;
+    let first = next(state);
+    let second = skipped(first);
+    let third = skipped(second);
+    let fourth = skipped(third);
+    let words = skipped(fourth);
+    let job = job(
+        Format { w, f },
+        state / 154 % 2,
+        state / 308 % 4,
+        mask(width, first),
+        mask(width, second),
+        mask(width, third),
+        mask(f + 1, fourth),
+    );
+    Entry {
+        job,
+        r1: random(width, words),
+        r2: random(width, next(words)),
+    }
+}
+
+// The room for a state's record: the longest there is, or in one of four cases any.
+pub fn room(state: u64) -> usize {
+    if state / 1232 % 4 == 0 {
+        (state / 4928 % 49) as usize
+    } else {
+        48
+    }
+}
