@@ -7,17 +7,17 @@ use native.Mathlib.Omega.{arith}
 use borrow.Author.Tests.{lt-ltb, le-ltb, eq-eqb, ne-eqb}
 use Rattle.format.specs.declared.Format.{Format}
 use Rattle.format.specs.Format.{Supported}
-use Rattle.adder.specs.declared.Finite as record-of
-use Rattle.adder.specs.declared.Operand.the-variants.{Finite}
-use Rattle.adder.specs.Word.{biased, allOnes}
-use Rattle.adder.specs.Operand.{finiteOf, operandOf, magnitude}
-use Rattle.adder.specs.Rounding.{rounded}
-use Rattle.adder.specs.Result.{effective, cancelledSign, finiteSum, kindSum, result}
+use Rattle.word.specs.declared.Finite as record-of
+use Rattle.word.specs.declared.Operand.the-variants.{Finite}
+use Rattle.word.specs.Word.{biased, allOnes, effective}
+use Rattle.word.specs.Operand.{finiteOf, operandOf, magnitude}
+use Rattle.rounding.specs.Rounding.{rounded, cancelledSign}
+use Rattle.adder.specs.Result.{finiteSum, kindSum, result}
 use Rattle.adder.specs.Exact.{exactMagnitude, exactSign}
 use Rattle.adder.proofs.FiniteSum.{sum-like, sum-unlike, sum-unlike-second, sum-cancelled}
-use Rattle.adder.proofs.Rounded.{rounded-zero}
-use Rattle.adder.proofs.Fields.{effective-biased}
-use Rattle.adder.proofs.ResultLaws.{cancelled-lt}
+use Rattle.rounding.proofs.Rounded.{rounded-zero, cancelled-lt}
+use Rattle.word.proofs.Canonical.{operand-finite}
+use Rattle.word.proofs.Fields.{effective-biased}
 
 module _ (mode : ℕ) (x y : record-of.Finite) where
   exact-like : x .sign ≡ y .sign → (exactSign mode x y ≡ x .sign) × (exactMagnitude x y ≡ magnitude x + magnitude y)
@@ -64,11 +64,6 @@ module _ (mode : ℕ) (x y : record-of.Finite) where
       go (no e) (no l) (no g) =
           let q : magnitude x ≡ magnitude y = omega arith in
           sum-cancelled F mode x y e q ∙ sym (rounded-zero F ok mode (cancelledSign mode)) ∙ by (cancelledSign mode) 0 (exact-zero e q)
-
--- a word whose exponent field is not all ones is finite
-pub operand-finite : (F : Format) (x : ℕ) → (biased F x .0 ≡ allOnes F → ⊥) → operandOf F x ≡ Finite (finiteOf F x)
-unfolding operandOf
-operand-finite F x ne = rw (ne-eqb _ _ ne)
 
 -- c of two finite words
 pub result-exact : (F : Format) → Supported F → (operation mode a b : ℕ) → (biased F a .0 ≡ allOnes F → ⊥) → (biased F b .0 ≡ allOnes F → ⊥)

@@ -8,11 +8,11 @@ use native.Mathlib.Omega.{arith}
 use borrow.Author.Tests.{lt-ltb, le-ltb, eq-eqb, ne-eqb}
 use lib.Dec.{ltb, eqb}
 use Rattle.format.specs.declared.Format.{Format}
-use Rattle.adder.specs.declared.Finite as record-of
-use Rattle.adder.specs.Word.{signed}
-use Rattle.adder.specs.Operand.{magnitude}
-use Rattle.adder.specs.Rounding.{rounded}
-use Rattle.adder.specs.Result.{cancelledSign, finiteSum}
+use Rattle.word.specs.declared.Finite as record-of
+use Rattle.word.specs.Word.{signed}
+use Rattle.word.specs.Operand.{magnitude}
+use Rattle.rounding.specs.Rounding.{rounded, cancelledSign}
+use Rattle.adder.specs.Result.{finiteSum}
 
 module _ (F : Format) (mode : ℕ) (x y : record-of.Finite) where
   -- like signs

@@ -10,25 +10,18 @@ use lib.Dec.{eqb}
 use lib.Pow.{pow-pos, pow-lt, pow-add}
 use Rattle.format.specs.declared.Format.{Format}
 use Rattle.format.specs.Format.{Supported, wordBits}
-use Rattle.adder.specs.declared.Finite as record-of
-use Rattle.adder.specs.declared.Operand as kind
-use Rattle.adder.specs.declared.Operand.the-variants.{Finite, Infinite, Nan}
-use Rattle.adder.specs.Operand.{operandOf, magnitude, Canonical, Sound}
-use Rattle.adder.specs.Rounding.{infinityWord}
-use Rattle.adder.specs.Result.{effective, nan, infinity, cancelledSign, finiteSum, infiniteSum, kindSum, result}
-use Rattle.adder.proofs.Bounds.{infinity-lt}
-use Rattle.adder.proofs.Rounded.{signed-lt, rounded-lt}
-use Rattle.adder.proofs.Canonical.{operand-sound}
+use Rattle.word.specs.declared.Finite as record-of
+use Rattle.word.specs.declared.Operand as kind
+use Rattle.word.specs.declared.Operand.the-variants.{Finite, Infinite, Nan}
+use Rattle.word.specs.Operand.{operandOf, magnitude, Canonical, Sound}
+use Rattle.word.specs.Word.{infinityWord, effective}
+use Rattle.adder.specs.Result.{nan, infinity, finiteSum, infiniteSum, kindSum, result}
+use Rattle.rounding.specs.Rounding.{cancelledSign}
+use Rattle.word.proofs.Bounds.{infinity-lt}
+use Rattle.word.proofs.Fields.{signed-lt, effective-lt, effective-add}
+use Rattle.rounding.proofs.Rounded.{cancelled-lt, rounded-lt}
+use Rattle.word.proofs.Canonical.{operand-sound}
 use Rattle.adder.proofs.FiniteSum.{sum-like, sum-unlike, sum-unlike-second, sum-cancelled, finite-sum-comm}
-use Rattle.adder.proofs.Fields.{effective-lt, effective-add}
-
-pub cancelled-lt : (mode : ℕ) → cancelledSign mode < 2
-unfolding cancelledSign
-cancelled-lt mode = go (eqb mode 3)
-  where
-    go : (t : Bool) → cond t 1 0 < 2
-    go true = omega arith
-    go false = omega arith
 
 module _ (F : Format) (ok : Supported F) where
   nan-lt : nan F < 2 ^ wordBits F

@@ -9,10 +9,10 @@ use native.Mathlib.Omega.{arith}
 use borrow.Author.Tests.{lt-ltb, le-ltb, le-leb, lt-leb}
 use lib.Dec.{ltb, leb}
 use lib.Pow.{pow-pos, pow-add, mod-pow-add}
-use Rattle.adder.specs.Row.{carryAt, gather}
-use Rattle.adder.specs.Sticky.{sticky, carryIn}
-use Rattle.adder.proofs.Division.{div-scale, mod-scale}
-use Rattle.adder.proofs.Sticky.{sticky-scale, sticky-lt, above-sticky}
+use Rattle.adder.specs.Row.{carryAt, gather, carryIn}
+use Rattle.rounding.specs.Sticky.{sticky}
+use Rattle.bits.proofs.Division.{div-scale, mod-scale}
+use Rattle.rounding.proofs.Sticky.{sticky-scale, sticky-lt, above-sticky, halved}
 
 -- a number of units reaches another exactly when its units do
 reaches : (N q ρ P : ℕ) → ρ < P → leb (N * P) (q * P + ρ) ≡ leb N q
@@ -26,14 +26,6 @@ reaches N q ρ P below = go (decLt q N)
     go (no h) =
         let m = mul-le-mul-right {m = N} {n = q} P (omega arith) in
         le-leb (N * P) (q * P + ρ) (omega arith) ∙ sym (le-leb N q (omega arith))
-
--- half of a comparison with a sticky bit
-pub halved : (l r s : ℕ) → s < 2 → ltb (2 * l) (2 * r + s) ≡ ltb l (r + s)
-halved l r s h = go (decLt l (r + s))
-  where
-    go : Dec (l < r + s) → ltb (2 * l) (2 * r + s) ≡ ltb l (r + s)
-    go (yes t) = lt-ltb (2 * l) (2 * r + s) (omega arith) ∙ sym (lt-ltb l (r + s) t)
-    go (no t) = le-ltb (2 * l) (2 * r + s) (omega arith) ∙ sym (le-ltb l (r + s) (omega arith))
 
 -- L in units of 2^u steps, R in units of 2^v, u being d more than v
 module _ (L R u v d i : ℕ) (units : d + v ≡ u) where

@@ -12,17 +12,16 @@ use Rattle.bits.specs.Bit.{bit}
 use Rattle.bits.proofs.Laws.{top-bit, low-bit}
 use Rattle.format.specs.declared.Format.{Format}
 use Rattle.format.specs.Format.{precision, wordBits}
-use Rattle.adder.specs.declared.Finite as record-of
-use Rattle.adder.specs.declared.Operand as kind
-use Rattle.adder.specs.declared.Operand.the-variants.{Finite, Infinite, Nan}
+use Rattle.word.specs.declared.Finite as record-of
+use Rattle.word.specs.declared.Operand as kind
+use Rattle.word.specs.declared.Operand.the-variants.{Finite, Infinite, Nan}
 use Rattle.adder.specs.declared.Row.the-variants.{Carries}
-use Rattle.adder.specs.Word.{unitOf}
-use Rattle.adder.specs.Operand.{operandOf, magnitude, Canonical, Sound}
-use Rattle.adder.specs.Result.{effective}
+use Rattle.word.specs.Word.{unitOf, effective}
+use Rattle.word.specs.Operand.{operandOf, magnitude, Canonical, Sound}
 use Rattle.adder.specs.Row.{carryAt, gather, orderedRow, finiteRow, kindRow, rowOf}
-use Rattle.adder.proofs.Canonical.{unit-le, operand-sound}
+use Rattle.word.proofs.Canonical.{unit-le, operand-sound}
 use Rattle.adder.proofs.RowBit.{gather-lt}
-use Rattle.adder.proofs.Fields.{effective-lt, effective-add}
+use Rattle.word.proofs.Fields.{effective-lt, effective-add}
 
 -- the gathered number has the test at i as its bit i
 pub gather-bit : (n : ℕ) (at : ℕ → Bool) (i : ℕ) → i < n → bit (gather n at) i ≡ cond (at i) 1 0

@@ -3,9 +3,9 @@
 use mathlib.Core.Bool.{cond}
 use Prim.Native.Nat.{ℕ, _+_, _-_}
 use lib.Dec.{eqb, ltb}
-use Rattle.adder.specs.declared.Finite.{Finite}
-use Rattle.adder.specs.Operand.{magnitude}
-use Rattle.adder.specs.Result.{cancelledSign}
+use Rattle.word.specs.declared.Finite.{Finite}
+use Rattle.word.specs.Operand.{magnitude}
+use Rattle.rounding.specs.Rounding.{cancelledSign}
 
 -- like signs add the magnitudes, unlike signs subtract the smaller from the larger
 unfoldable pub exactMagnitude : Finite → Finite → ℕ

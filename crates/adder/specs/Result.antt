@@ -1,23 +1,19 @@
 -- The rounded sum and difference of two words (document 01, "The rounded result"), and the reply of the public function.
 -- Assumes nothing.
 use mathlib.Core.Bool.{cond}
-use Prim.Native.Nat.{ℕ, zero, suc, _+_, _-_, _*_, _/_, _%_, _^_}
+use Prim.Native.Nat.{ℕ, zero, suc, _+_, _-_, _^_}
 use lib.Dec.{eqb, ltb}
 use Rattle.format.specs.declared.Format.{Format}
 use Rattle.format.specs.Cause.{first}
 use Rattle.format.specs.Format.{wordBits, formatCause, operationCause, modeCause, wordCause}
-use Rattle.adder.specs.declared.Finite as record-of
-use Rattle.adder.specs.declared.Operand as kind
-use Rattle.adder.specs.declared.Operand.the-variants.{Finite, Infinite, Nan}
+use Rattle.word.specs.declared.Finite as record-of
+use Rattle.word.specs.declared.Operand as kind
+use Rattle.word.specs.declared.Operand.the-variants.{Finite, Infinite, Nan}
 use Rattle.adder.specs.declared.Reply as reply
 use Rattle.adder.specs.declared.Reply.the-variants.{Word, Refused}
-use Rattle.adder.specs.Word.{signed}
-use Rattle.adder.specs.Operand.{operandOf, magnitude}
-use Rattle.adder.specs.Rounding.{infinityWord, rounded}
-
--- operation 1 subtracts, which flips the sign of b: adding the sign bit modulo the width flips it
-abbrev pub effective : Format → ℕ → ℕ → ℕ
-effective F operation b = (b + operation * 2 ^ (F .w + F .f)) % 2 ^ wordBits F
+use Rattle.word.specs.Word.{infinityWord, signed, effective}
+use Rattle.word.specs.Operand.{operandOf, magnitude}
+use Rattle.rounding.specs.Rounding.{cancelledSign, rounded}
 
 -- the one NaN: sign 0, exponent all ones, top fraction bit 1 and the others 0
 abbrev pub nan : Format → ℕ
@@ -26,10 +22,6 @@ nan F = infinityWord F + 2 ^ (F .f - 1)
 -- infinity of a sign
 abbrev pub infinity : Format → ℕ → ℕ
 infinity F s = signed F s (infinityWord F)
-
--- the sign of an exact zero from operands of unlike sign: +, but - in mode 3
-unfoldable pub cancelledSign : ℕ → ℕ
-cancelledSign mode = cond (eqb mode 3) 1 0
 
 -- two finite operands: like signs add their magnitudes; unlike signs subtract the smaller from the larger, whose sign it takes
 unfoldable pub finiteSum : Format → ℕ → record-of.Finite → record-of.Finite → ℕ

@@ -1,26 +1,30 @@
 -- The carry row of two words (document 01, "The carry row"), and the reply of the public function. Assumes nothing.
 use mathlib.Core.Bool.{Bool, true, false, cond}
-use Prim.Native.Nat.{ℕ, zero, suc, _+_, _-_, _*_, _/_, _%_, _^_}
+use Prim.Native.Nat.{ℕ, zero, suc, _+_, _*_, _%_, _^_}
 use lib.Dec.{eqb, leb, ltb}
 use Rattle.format.specs.declared.Format.{Format}
 use Rattle.format.specs.Cause.{first}
 use Rattle.format.specs.Format.{precision, wordBits, formatCause, operationCause, wordCause}
-use Rattle.adder.specs.declared.Finite as record-of
-use Rattle.adder.specs.declared.Operand as kind
-use Rattle.adder.specs.declared.Operand.the-variants.{Finite, Infinite, Nan}
+use Rattle.word.specs.declared.Finite as record-of
+use Rattle.word.specs.declared.Operand as kind
+use Rattle.word.specs.declared.Operand.the-variants.{Finite, Infinite, Nan}
 use Rattle.adder.specs.declared.Row as row
 use Rattle.adder.specs.declared.Row.the-variants.{Carries, NoRow}
 use Rattle.adder.specs.declared.RowReply as reply
 use Rattle.adder.specs.declared.RowReply.the-variants.{Row, Refused}
-use Rattle.adder.specs.Word.{unitOf}
-use Rattle.adder.specs.Operand.{operandOf, magnitude}
-use Rattle.adder.specs.Result.{effective}
+use Rattle.word.specs.Word.{unitOf, effective}
+use Rattle.word.specs.Operand.{operandOf, magnitude}
 
 -- Position i for L and R of like or unlike sign, L at least R, where L's unit is 2^u smallest steps. Counted in L's unit a number's
 -- remainder by 2^(i+1) is its remainder by 2^(u+i+1) in smallest steps, so R's fractional part needs no fractions.
 abbrev pub carryAt : Bool → ℕ → ℕ → ℕ → ℕ → Bool
 carryAt true L R u i = leb (2 ^ (u + suc i)) (L % 2 ^ (u + suc i) + R % 2 ^ (u + suc i))
 carryAt false L R u i = ltb (L % 2 ^ (u + suc i)) (R % 2 ^ (u + suc i))
+
+-- position i of l and r, both in l's unit, where s is the sticky bit of what r has below it
+abbrev pub carryIn : Bool → ℕ → ℕ → ℕ → ℕ → Bool
+carryIn true l r s i = leb (2 ^ suc i) (l % 2 ^ suc i + r % 2 ^ suc i)
+carryIn false l r s i = ltb (l % 2 ^ suc i) (r % 2 ^ suc i + s)
 
 -- the number whose bit i is the test at i, for n positions
 unfoldable pub gather : ℕ → (ℕ → Bool) → ℕ

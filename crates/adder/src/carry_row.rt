@@ -1,14 +1,8 @@
 // The carry row of two words.
-use crate::Finite;
-use crate::Operand;
-use crate::Operands;
 use crate::Row;
 use crate::RowReply;
-use crate::alignment::sticky;
-use crate::exponent::unit_of;
 use crate::result::words_cause;
 use crate::sum::smaller;
-use crate::unpack::operands;
 use bits::high;
 use bits::low;
 use bits::power;
@@ -16,12 +10,17 @@ use format::Format;
 use format::first;
 use format::format_cause;
 use format::operation_cause;
+use rounding::alignment::sticky;
+use word::Finite;
+use word::Operand;
+use word::Operands;
+use word::exponent::unit_of;
+use word::unpack::operands;
 ghost use mathlib.Core.Path.{_≡_};
 ghost use Prim.Native.Nat.{_^_, _≤_, _<_};
 ghost use Rattle.format.specs.Format.{Supported};
-ghost use Rattle.adder.specs.Operand.{magnitude, Canonical, Sound};
-ghost use Rattle.adder.specs.Row.{gather, orderedRow, finiteRow, kindRow, rowCause, rowReply};
-ghost use Rattle.adder.specs.Sticky.{carryIn};
+ghost use Rattle.word.specs.Operand.{magnitude, Canonical, Sound};
+ghost use Rattle.adder.specs.Row.{gather, orderedRow, finiteRow, kindRow, rowCause, rowReply, carryIn};
 
 // Whether position i of l and r carries, or borrows where the signs are unlike; s is the sticky bit of what r has below position 0.
 fn carry_at(like: bool, l: u64, r: u64, s: u64, i: u64) -> bool

@@ -1,13 +1,13 @@
 // The rounded result of two words, and the checks that come before it.
 use crate::Reply;
 use crate::sum::kind_sum;
-use crate::unpack::operands;
 use format::Format;
 use format::first;
 use format::format_cause;
 use format::mode_cause;
 use format::operation_cause;
 use format::word_cause;
+use word::unpack::operands;
 ghost use mathlib.Core.Path.{_≡_};
 ghost use Rattle.format.specs.Cause.{first};
 ghost use Rattle.format.specs.Format.{Supported, wordBits, wordCause};

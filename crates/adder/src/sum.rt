@@ -1,20 +1,22 @@
 // The rounded sum of two operands by their kinds.
-use crate::Finite;
-use crate::Operand;
-use crate::Operands;
-use crate::alignment::aligned;
-use crate::exponent::unit_of;
-use crate::round::infinity_word;
-use crate::round::rounded;
-use crate::round::signed;
 use bits::power;
 use format::Format;
+use rounding::alignment::aligned;
+use rounding::mode::cancelled_sign;
+use rounding::round::rounded;
+use word::Finite;
+use word::Operand;
+use word::Operands;
+use word::exponent::unit_of;
+use word::pack::infinity_word;
+use word::pack::signed;
 ghost use mathlib.Core.Path.{_≡_};
 ghost use Prim.Native.Nat.{_≤_, _<_};
 ghost use lib.Dec.{ltb};
 ghost use Rattle.format.specs.Format.{Supported};
-ghost use Rattle.adder.specs.Operand.{magnitude, Canonical, Sound};
-ghost use Rattle.adder.specs.Result.{nan, infinity, cancelledSign, finiteSum, infiniteSum, kindSum};
+ghost use Rattle.word.specs.Operand.{magnitude, Canonical, Sound};
+ghost use Rattle.adder.specs.Result.{nan, infinity, finiteSum, infiniteSum, kindSum};
+ghost use Rattle.rounding.specs.Rounding.{cancelledSign};
 
 // Whether x has the smaller magnitude: by the exponents, and where these are equal by the significands.
 pub(crate) fn smaller(x: Finite, y: Finite, format: Format) -> bool
@@ -28,13 +30,6 @@ pub(crate) fn smaller(x: Finite, y: Finite, format: Format) -> bool
     } else {
         e.0 < g.0
     }
-}
-
-// The sign of an exact zero from operands of unlike sign.
-fn cancelled_sign(mode: u64) -> u64
-    ensures { λ r. ⌜ r ≡ cancelledSign mode ⌝ }
-{
-    if mode == 3 { 1 } else { 0 }
 }
 
 // The sum of two finite numbers, the first not the smaller.

@@ -23,10 +23,10 @@ use Rattle.adder.specs.declared.Reply.the-variants as answer
 use Rattle.adder.specs.declared.Row.the-variants.{Carries, NoRow}
 use Rattle.adder.specs.declared.RowReply as row-reply
 use Rattle.adder.specs.declared.RowReply.the-variants as row-answer
-use Rattle.adder.specs.Word.{significand}
-use Rattle.adder.specs.Operand.{operandOf}
-use Rattle.adder.specs.Rounding.{direction, increment, roundOff, magnitudeWord, overflowWord, boundedWord}
-use Rattle.adder.specs.Result.{cancelledSign, finiteSum, infiniteSum, kindSum, result, resultCause, resultReply}
+use Rattle.word.specs.Word.{significand}
+use Rattle.word.specs.Operand.{operandOf}
+use Rattle.rounding.specs.Rounding.{direction, increment, roundOff, magnitudeWord, overflowWord, boundedWord, cancelledSign}
+use Rattle.adder.specs.Result.{finiteSum, infiniteSum, kindSum, result, resultCause, resultReply}
 use Rattle.adder.specs.Row.{gather, finiteRow, kindRow, rowOf, rowCause, rowReply}
 use Rattle.fit.specs.Fit.{Fits, fits, caseCause}
 use Rattle.fit.proofs.Laws.{case-none}

@@ -1,5 +1,5 @@
 -- What it means that a check names no cause. Assumes nothing.
-use mathlib.Core.Path.{_≡_, refl, sym}
+use mathlib.Core.Path.{_≡_, refl, sym, _∙_}
 use mathlib.Core.Bool.{Bool, true, false, _&&_, and-eq-true-iff}
 use mathlib.Core.Logic.{_↔_}
 use Prim.Native.Nat.{ℕ, zero, suc, _^_, _≤_, _<_}
@@ -46,6 +46,14 @@ format-none F = (
         unless-none (within leastFractionBits mostFractionBits (F .f)) 1 .1 (within-holds leastFractionBits mostFractionBits (F .f) .1 (s .f-least, s .f-most)),
       ),
 )
+
+-- what a caller learns from the cause that it was given
+module _ {F : Format} {n : ℕ} (e : n ≡ formatCause F) where
+  pub supported-of : n ≡ 0 → Supported F
+  supported-of z = format-none F .0 (sym e ∙ z)
+
+  pub unsupported-of : (n ≡ 0 → ⊥) → Supported F → ⊥
+  unsupported-of ne ok = ne (e ∙ format-none F .1 ok)
 
 pub operation-none : (op : ℕ) → operationCause op ≡ 0 ↔ (op ≤ mostOperation)
 unfolding operationCause

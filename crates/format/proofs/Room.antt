@@ -1,17 +1,19 @@
--- What follows from the limits for code that works in words of 64 bits. Crates above use the limits through this law alone. Assumes nothing.
-use Prim.Native.Nat.{_+_, _≤_, _<_}
+-- What 64 bits have room for in every supported format. Beside the limits themselves these three facts are all that a proof knows of the
+-- greatest widths, so other limits ask for no other proof where these facts hold of them. Assumes nothing.
+use Prim.Native.Nat.{_+_, _≤_}
 use native.Mathlib.Omega.{arith}
 use Rattle.format.specs.declared.Format.{Format}
-use Rattle.format.specs.Format.{Supported}
+use Rattle.format.specs.Format.{Supported, wordBits, precision}
 
--- a word leaves 11 bits free beside a fraction, an exponent field has few bits, and a word of the format fits
-pub record Room (F : Format) : Type 0 where
-  pub fraction : F .f + 11 < 64
-  pub exponent : F .w ≤ 16
-  pub magnitude : F .w + F .f < 64
+module _ (F : Format) (ok : Supported F) where
+  -- a word
+  pub word-room : wordBits F ≤ 64
+  word-room = let w = ok .w-most in let f = ok .f-most in omega arith
 
-pub room : (F : Format) → Supported F → Room F
-room F ok =
-    let w = ok .w-most in
-    let f = ok .f-most in
-    record { fraction = omega arith; exponent = omega arith; magnitude = omega arith }
+  -- a significand, and eleven bits more for what is added below it and for carries above it
+  pub significand-room : precision F + 11 ≤ 64
+  significand-room = let f = ok .f-most in omega arith
+
+  -- an exponent field, with room for sums of some exponents
+  pub exponent-room : F .w ≤ 16
+  exponent-room = let w = ok .w-most in omega arith

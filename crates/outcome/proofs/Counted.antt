@@ -18,14 +18,14 @@ use Rattle.format.specs.declared.Format.{Format}
 use Rattle.mask.specs.declared.Mask.{Mask}
 use Rattle.mask.specs.Mask.{Meets, meets, high}
 use Rattle.mask.proofs.Checks.{meets-true}
-use Rattle.adder.specs.declared.Biased.{Biased}
-use Rattle.adder.specs.declared.Direction.{Direction}
-use Rattle.adder.specs.declared.Unit as exponent
-use Rattle.adder.specs.Word.{fieldOf, signed}
-use Rattle.adder.specs.Rounding.{roundOff, direction}
-use Rattle.adder.proofs.Size.{size-zero}
+use Rattle.word.specs.declared.Biased.{Biased}
+use Rattle.rounding.specs.declared.Direction.{Direction}
+use Rattle.word.specs.declared.Unit as exponent
+use Rattle.word.specs.Word.{fieldOf, signed}
+use Rattle.rounding.specs.Rounding.{roundOff, direction}
+use Rattle.rounding.proofs.Size.{size-zero}
 use Rattle.outcome.specs.declared.Aligned as pair
-use Rattle.outcome.specs.declared.word.Fractions as fractions-of
+use Rattle.outcome.specs.declared.sought.Fractions as fractions-of
 use Rattle.outcome.specs.Width.{alignedBits, sumBits, columnsOf}
 use Rattle.outcome.specs.Outcome.{roundedUnit, keptOf, boundedHeld, zeroSign, outcome, Made, Making}
 use Rattle.outcome.specs.Question.{topped, OfDigits, wordOf, Seeks}

@@ -19,11 +19,11 @@ use Rattle.mask.specs.Mask as mask
 use Rattle.mask.specs.Mask.{Meets}
 use Rattle.mask.proofs.ByParts.{meets-parts}
 use Rattle.mask.proofs.Checks.{meets-true}
-use Rattle.adder.specs.declared.Biased.{Biased}
-use Rattle.adder.specs.declared.Direction.{Direction}
-use Rattle.adder.specs.declared.Unit as exponent
-use Rattle.adder.specs.Word.{fieldOf, allOnes, signed}
-use Rattle.adder.specs.Rounding.{infinityWord, overflowWord}
+use Rattle.word.specs.declared.Biased.{Biased}
+use Rattle.rounding.specs.declared.Direction.{Direction}
+use Rattle.word.specs.declared.Unit as exponent
+use Rattle.word.specs.Word.{fieldOf, allOnes, signed, infinityWord}
+use Rattle.rounding.specs.Rounding.{overflowWord}
 use Rattle.outcome.specs.Outcome.{roundedUnit, keptOf, heldWord, boundedHeld}
 use Rattle.outcome.specs.Question.{wordOf, Seeks}
 use Rattle.outcome.proofs.Topped.{anything}

@@ -13,11 +13,11 @@ use lib.Dec.{ltb}
 use lib.Ieee.{size}
 use lib.Ieee.Digits.{size-lt, size-reaches}
 use lib.Pow.{pow-pos, pow-add, pow-mono, shl-lt, shr-lt}
-use Rattle.adder.specs.declared.Direction.{Direction}
-use Rattle.adder.specs.declared.Unit as exponent
-use Rattle.adder.specs.Rounding.{roundOff}
-use Rattle.adder.specs.Sticky.{keptPart}
-use Rattle.adder.proofs.RoundOff.{increment-le, round-off-none, round-off-scale}
+use Rattle.rounding.specs.declared.Direction.{Direction}
+use Rattle.word.specs.declared.Unit as exponent
+use Rattle.rounding.specs.Rounding.{roundOff}
+use Rattle.rounding.specs.Sticky.{keptPart}
+use Rattle.rounding.proofs.RoundOff.{increment-le, round-off-none, round-off-scale}
 use Rattle.outcome.specs.Width.{guardBits, alignedBits, sumBits}
 use Rattle.outcome.specs.Outcome.{roundedUnit, keptOf}
 

@@ -15,9 +15,9 @@ use Rattle.mask.specs.Join.{join, joined}
 use Rattle.mask.proofs.Fixing.{fixed-inside, fixed-meets}
 use Rattle.mask.proofs.Joining.{meets-agree}
 use Rattle.mask.proofs.Replies.{agree-true, join-inside, join-meets}
-use Rattle.adder.specs.declared.Direction.the-variants.{Nearest}
-use Rattle.adder.specs.Rounding.{roundOff}
-use Rattle.adder.proofs.AddConstant.{round-nearest}
+use Rattle.rounding.specs.declared.Direction.the-variants.{Nearest}
+use Rattle.rounding.specs.Rounding.{roundOff}
+use Rattle.rounding.proofs.AddConstant.{round-nearest}
 use Rattle.outcome.proofs.Topped.{anything}
 use Rattle.outcome.proofs.Rounds.{rounds-meets}
 

@@ -12,13 +12,13 @@ use borrow.Author.Tests.{lt-ltb, le-ltb}
 use lib.Ieee.{size}
 use lib.Pow.{pow-pos}
 use Rattle.format.specs.declared.Format.{Format}
-use Rattle.adder.specs.declared.Biased.{Biased}
-use Rattle.adder.specs.declared.Direction.{Direction}
-use Rattle.adder.specs.declared.Unit as exponent
-use Rattle.adder.specs.Word.{fieldOf, allOnes, signed}
-use Rattle.adder.specs.Rounding.{direction, overflowWord, roundOff}
-use Rattle.adder.proofs.ResultLaws.{cancelled-lt}
-use Rattle.adder.proofs.Size.{size-zero}
+use Rattle.word.specs.declared.Biased.{Biased}
+use Rattle.rounding.specs.declared.Direction.{Direction}
+use Rattle.word.specs.declared.Unit as exponent
+use Rattle.word.specs.Word.{fieldOf, allOnes, signed}
+use Rattle.rounding.specs.Rounding.{direction, overflowWord, roundOff}
+use Rattle.rounding.proofs.Rounded.{cancelled-lt}
+use Rattle.rounding.proofs.Size.{size-zero}
 use Rattle.outcome.specs.Width.{alignedBits, sumBits}
 use Rattle.outcome.specs.Outcome.{roundedUnit, keptOf, boundedHeld, zeroSign, outcome}
 use Rattle.outcome.specs.Question.{wordOf}

@@ -6,16 +6,16 @@ use native.Mathlib.Omega.{arith}
 use lib.Pow.{pow-mono}
 use Rattle.format.specs.declared.Format.{Format}
 use Rattle.format.specs.Format.{Supported}
-use Rattle.format.proofs.Room.{room}
-use Rattle.adder.specs.declared.Unit as exponent
+use Rattle.format.proofs.Room.{significand-room, exponent-room}
+use Rattle.word.specs.declared.Unit as exponent
 use Rattle.outcome.specs.Width.{columnsOf}
 use Rattle.outcome.specs.Outcome.{InFormat}
 
 pub columns-lt : (F : Format) → Supported F → columnsOf (F .f) < 64
-columns-lt F ok = let r = room F ok .fraction in omega arith
+columns-lt F ok = let r = significand-room F ok in omega arith
 
 pub exponents-lt : (F : Format) → Supported F → 2 ^ F .w ≤ 2 ^ 16
-exponents-lt F ok = pow-mono (room F ok .exponent)
+exponents-lt F ok = pow-mono (exponent-room F ok)
 
 module _ (F : Format) (s : ℕ) (u : exponent.Unit) (given : InFormat F s u) where
   pub unit-short : u .0 < 2 ^ 63

@@ -10,11 +10,11 @@ use lib.Pow.{pow-pos, split, shl-shr}
 use Rattle.mask.specs.declared.Mask.{Mask}
 use Rattle.mask.specs.Mask.{Meets, low, high, raised}
 use Rattle.mask.proofs.ByParts.{meets-parts, meets-raised}
-use Rattle.adder.specs.declared.Direction.{Direction}
-use Rattle.adder.specs.declared.Direction.the-variants.{TowardZero, Away}
-use Rattle.adder.specs.Rounding.{roundOff}
-use Rattle.adder.proofs.RoundOff.{round-off-none}
-use Rattle.adder.proofs.AddConstant.{round-toward-zero, round-away}
+use Rattle.rounding.specs.declared.Direction.{Direction}
+use Rattle.rounding.specs.declared.Direction.the-variants.{TowardZero, Away}
+use Rattle.rounding.specs.Rounding.{roundOff}
+use Rattle.rounding.proofs.RoundOff.{round-off-none}
+use Rattle.rounding.proofs.AddConstant.{round-toward-zero, round-away}
 
 -- a mask moved up by j places asks nothing of the low j bits
 pub quotient-meets : (j z : ℕ) (y : Mask) → Meets z (raised j y) ↔ Meets (z / 2 ^ j) y

@@ -12,7 +12,7 @@ use lib.Pow.{pow-pos, pow-add, pow-mono, high, low, shr-lt}
 use Rattle.mask.specs.declared.Mask.{Mask}
 use Rattle.mask.specs.Mask.{Meets}
 use Rattle.mask.proofs.ByParts.{meets-parts}
-use Rattle.adder.proofs.Size.{size-zero, size-between}
+use Rattle.rounding.proofs.Size.{size-zero, size-between}
 use Rattle.outcome.specs.Question.{topped, OfDigits}
 
 -- all bits of a number below 2^r

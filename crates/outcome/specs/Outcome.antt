@@ -1,6 +1,6 @@
 -- The word c that two aligned significands make, and whether some two of them make one that meets a mask. The larger operand's
 -- significand L is held as H = 8 * L and the smaller one's, aligned to it, as T with guard, round and sticky bit
--- (`Rattle.adder.specs.Sticky`); what they make is held as x = H + T or H - T. No exponent field is named: only the exponent u of the
+-- (`Rattle.rounding.specs.Sticky`); what they make is held as x = H + T or H - T. No exponent field is named: only the exponent u of the
 -- larger operand's unit, on which c's exponent depends. Assumes nothing.
 use mathlib.Core.Path.{_≡_}
 use mathlib.Core.Bool.{Bool, true, false, not, cond}
@@ -13,12 +13,11 @@ use Rattle.mask.specs.declared.Mask.{Mask}
 use Rattle.mask.specs.Mask.{WellFormed, Meets}
 use Rattle.columns.specs.Column.{allows}
 use Rattle.chain.specs.Chain.{combined, carryOf}
-use Rattle.adder.specs.declared.Direction as way
-use Rattle.adder.specs.declared.Unit as exponent
-use Rattle.adder.specs.Word.{signed}
-use Rattle.adder.specs.Rounding.{direction, infinityWord, overflowWord}
-use Rattle.adder.specs.Sticky.{keptPart}
-use Rattle.adder.specs.Result.{cancelledSign}
+use Rattle.rounding.specs.declared.Direction as way
+use Rattle.word.specs.declared.Unit as exponent
+use Rattle.word.specs.Word.{signed, infinityWord}
+use Rattle.rounding.specs.Rounding.{direction, overflowWord, cancelledSign}
+use Rattle.rounding.specs.Sticky.{keptPart}
 use Rattle.outcome.specs.declared.Aligned as pair
 use Rattle.outcome.specs.Width.{guardBits, alignedBits}
 

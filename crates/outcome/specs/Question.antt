@@ -9,11 +9,11 @@ use lib.Ieee.{size}
 use Rattle.format.specs.declared.Format.{Format}
 use Rattle.mask.specs.declared.Mask.{Mask}
 use Rattle.mask.specs.Mask.{Inside, Meets}
-use Rattle.adder.specs.declared.Biased.{Biased}
-use Rattle.adder.specs.declared.Direction as way
-use Rattle.adder.specs.Word.{allOnes, signed}
-use Rattle.adder.specs.Rounding.{overflowWord}
-use Rattle.outcome.specs.declared.word.Fractions as fractions-of
+use Rattle.word.specs.declared.Biased.{Biased}
+use Rattle.rounding.specs.declared.Direction as way
+use Rattle.word.specs.Word.{allOnes, signed}
+use Rattle.rounding.specs.Rounding.{overflowWord}
+use Rattle.outcome.specs.declared.sought.Fractions as fractions-of
 
 -- the mask m on the low k bits, and the number h on r bits above them
 abbrev pub topped : ℕ → ℕ → ℕ → Mask → Mask

@@ -6,12 +6,12 @@ use crate::masks;
 use crate::width::ALIGNED;
 use crate::width::COLUMNS;
 use crate::width::GUARD_BITS;
-use crate::word::Fractions;
-use crate::word::sought;
-use crate::word::zero_word;
-use adder::Direction;
-use adder::Unit;
-use adder::exponent::field_of;
+use crate::sought::Fractions;
+use crate::sought::sought;
+use crate::sought::zero_word;
+use rounding::Direction;
+use word::Unit;
+use word::exponent::field_of;
 use bits::minus;
 use format::Format;
 use mask::Mask;
@@ -23,8 +23,8 @@ ghost use lib.Dec.{ltb};
 ghost use lib.Ieee.{size};
 ghost use Rattle.format.specs.Format.{Supported};
 ghost use Rattle.mask.specs.Mask.{Meets};
-ghost use Rattle.adder.specs.declared.Unit.{Unit};
-ghost use Rattle.adder.specs.Word.{signed};
+ghost use Rattle.word.specs.declared.Unit.{Unit};
+ghost use Rattle.word.specs.Word.{signed};
 ghost use Rattle.outcome.specs.Width.{alignedBits, sumBits, columnsOf};
 ghost use Rattle.outcome.specs.Outcome.{roundedUnit, keptOf, boundedHeld, outcome, InFormat, Formed, Making};
 
@@ -146,6 +146,6 @@ pub(crate) fn fits(
     if count == 0 {
         return at_zero(format, mode, sign, aligned, c);
     }
-    let direction = adder::round::direction(mode, sign);
+    let direction = rounding::mode::direction(mode, sign);
     at_count(format, direction, sign, unit, aligned, c, count)
 }

@@ -1,5 +1,5 @@
 // Whether two aligned significands make a word that meets a mask.
-use adder::Unit;
+use word::Unit;
 use digits::fits;
 use format::Format;
 use mask::Mask;
@@ -12,7 +12,7 @@ mod ask;
 mod digits;
 mod masks;
 mod width;
-mod word;
+mod sought;
 
 ghost use mathlib.Core.Bool.{true};
 ghost use mathlib.Core.Logic.{_↔_};

@@ -15,10 +15,10 @@ use Rattle.format.specs.declared.Format.{Format}
 use Rattle.format.specs.Format.{Supported, precision}
 use Rattle.mask.specs.declared.Mask.{Mask}
 use Rattle.mask.specs.Mask.{Meets, WellFormed}
-use Rattle.adder.specs.Word.{significand}
+use Rattle.word.specs.Word.{significand}
 use Rattle.significand.specs.Significand.{significandMask}
 use Rattle.significand.specs.Tail.{tailMask}
-use Rattle.adder.proofs.Sticky.{with-sticky-bounds}
+use Rattle.rounding.proofs.Sticky.{with-sticky-bounds}
 use Rattle.significand.proofs.Significand.{significand-formed, significand-meets}
 use Rattle.significand.proofs.Tail.{aligned-zero, tail-complete, tail-far}
 use Rattle.outcome.specs.Outcome.{Made}

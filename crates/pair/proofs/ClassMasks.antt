@@ -15,11 +15,11 @@ use Rattle.mask.specs.Mask as mask
 use Rattle.mask.specs.Mask.{Meets, WellFormed}
 use Rattle.mask.proofs.ByParts.{meets-parts, sign-formed, fraction-formed}
 use Rattle.mask.proofs.ByBits.{value-below}
-use Rattle.adder.specs.Word.{allOnes, signed}
-use Rattle.adder.specs.declared.Direction.{Direction}
-use Rattle.adder.specs.declared.Direction.the-variants.{Nearest, TowardZero, Away}
-use Rattle.adder.specs.Rounding.{infinityWord, overflowWord}
-use Rattle.pair.specs.Asked.{signMask, exponentMask, fractionMask}
+use Rattle.word.specs.Word.{allOnes, signed, infinityWord}
+use Rattle.rounding.specs.declared.Direction.{Direction}
+use Rattle.rounding.specs.declared.Direction.the-variants.{Nearest, TowardZero, Away}
+use Rattle.rounding.specs.Rounding.{overflowWord}
+use Rattle.word.specs.Masks.{signMask, exponentMask, fractionMask}
 use Rattle.pair.specs.Class.{withExponent, NeverPast}
 
 -- a mask on a number in two parts

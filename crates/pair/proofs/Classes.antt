@@ -18,9 +18,9 @@ use Rattle.mask.specs.Mask.{Meets, WellFormed}
 use Rattle.mask.proofs.ByParts.{fraction-formed}
 use Rattle.job.specs.declared.Job.{Job}
 use Rattle.job.specs.Job.{Valid}
-use Rattle.adder.specs.declared.Unit as exponent
-use Rattle.adder.specs.Word.{allOnes, signed}
-use Rattle.adder.specs.Rounding.{direction, overflowWord}
+use Rattle.word.specs.declared.Unit as exponent
+use Rattle.word.specs.Word.{allOnes, signed}
+use Rattle.rounding.specs.Rounding.{direction, overflowWord}
 use Rattle.significand.specs.Significand.{significandMask}
 use Rattle.significand.specs.Tail.{tailMask}
 use Rattle.chain.specs.Chain.{combined}
@@ -31,7 +31,8 @@ use Rattle.outcome.specs.Class.{fieldAt}
 use Rattle.outcome.proofs.Topped.{size-none}
 use Rattle.outcome.proofs.Range.{made-most}
 use Rattle.outcome.proofs.Moved.{classUnit, Moved, moved}
-use Rattle.pair.specs.Asked.{signMask, exponentMask, fractionMask, PairFits}
+use Rattle.word.specs.Masks.{signMask, exponentMask, fractionMask}
+use Rattle.pair.specs.Asked.{PairFits}
 use Rattle.pair.specs.Pair.{unitAt, alignedOf, Larger, turned, Posed, SomeSigns, Finites}
 use Rattle.pair.specs.Class.{lowField, classOf, aField, bField, smallField, leastField, withExponent, asking, onlyField, ClassAdmits, Classed}
 use Rattle.pair.proofs.Aligning.{low-le, low-two, low-same, fields-a, fields-b, head-same, far, aligned-same, made-long}

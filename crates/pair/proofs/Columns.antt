@@ -11,10 +11,10 @@ use lib.Arith.{digits-div}
 use lib.Dec.{leb, ltb, lit<}
 use lib.Pow.{pow-pos, pow-add, mod-pow-add, shr-shr}
 use Rattle.columns.specs.Carry.{carry, borrow as borrowAt}
-use Rattle.adder.specs.Sticky.{sticky, carryIn}
-use Rattle.adder.proofs.Division.{mod-scale}
-use Rattle.adder.proofs.Sticky.{sticky-lt, above-sticky}
-use Rattle.adder.proofs.RowBit.{halved}
+use Rattle.rounding.specs.Sticky.{sticky}
+use Rattle.adder.specs.Row.{carryIn}
+use Rattle.bits.proofs.Division.{mod-scale}
+use Rattle.rounding.proofs.Sticky.{sticky-lt, above-sticky, halved}
 use Rattle.chain.specs.Chain.{carryOf}
 
 -- 1 where a test holds, else 0

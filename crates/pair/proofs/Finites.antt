@@ -5,8 +5,9 @@ use native.Mathlib.Nat.{mod-lt}
 use native.Mathlib.Omega.{arith}
 use Rattle.mask.proofs.ByParts.{fraction-formed}
 use Rattle.job.specs.declared.Job.{Job}
-use Rattle.adder.specs.Word.{sign}
-use Rattle.pair.specs.Asked.{fractionMask, PairFits}
+use Rattle.word.specs.Word.{sign}
+use Rattle.word.specs.Masks.{fractionMask}
+use Rattle.pair.specs.Asked.{PairFits}
 use Rattle.pair.specs.Pair.{turned, Posed, SomeSigns, Finites}
 use Rattle.pair.proofs.Summed.{summed-admits, admits-summed}
 use Rattle.pair.proofs.Words.{Summing, fits-summing, summing-fits}

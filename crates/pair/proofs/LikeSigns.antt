@@ -16,16 +16,17 @@ use Rattle.mask.proofs.Checks.{meets-true}
 use Rattle.mask.proofs.ByParts.{meets-fields}
 use Rattle.job.specs.declared.Job.{Job}
 use Rattle.job.specs.Job.{Valid}
-use Rattle.adder.specs.declared.Direction.{Direction}
-use Rattle.adder.specs.declared.Unit as exponent
-use Rattle.adder.specs.Word.{signed}
-use Rattle.adder.specs.Rounding.{direction, infinityWord, overflowWord}
-use Rattle.adder.proofs.Bounds.{infinity-lt}
-use Rattle.adder.proofs.Rounded.{overflow-le}
-use Rattle.adder.proofs.Fields.{signed-sign}
+use Rattle.rounding.specs.declared.Direction.{Direction}
+use Rattle.word.specs.declared.Unit as exponent
+use Rattle.word.specs.Word.{signed, infinityWord}
+use Rattle.rounding.specs.Rounding.{direction, overflowWord}
+use Rattle.word.proofs.Bounds.{infinity-lt}
+use Rattle.rounding.proofs.Rounded.{overflow-le}
+use Rattle.word.proofs.Fields.{signed-sign}
 use Rattle.outcome.specs.declared.Aligned as pair
 use Rattle.outcome.specs.Outcome.{heldWord, boundedHeld, outcome, Admits}
-use Rattle.pair.specs.Asked.{signMask, PairFits}
+use Rattle.word.specs.Masks.{signMask}
+use Rattle.pair.specs.Asked.{PairFits}
 use Rattle.pair.specs.Pair.{turned, Posed, SomeSigns, Finites}
 use Rattle.pair.specs.Signs.{signLeft, signsLeft}
 use Rattle.pair.proofs.Finites.{pair-signs}

@@ -8,16 +8,16 @@ use native.Mathlib.Decide.{ℕ-discrete}
 use borrow.Author.Tests.{eq-eqb}
 use lib.Dec.{eqb}
 use Rattle.format.specs.declared.Format.{Format}
-use Rattle.adder.specs.declared.Finite as record-of
-use Rattle.adder.specs.declared.Operand as kind
-use Rattle.adder.specs.declared.Operand.the-variants.{Finite, Infinite, Nan}
+use Rattle.word.specs.declared.Finite as record-of
+use Rattle.word.specs.declared.Operand as kind
+use Rattle.word.specs.declared.Operand.the-variants.{Finite, Infinite, Nan}
 use Rattle.adder.specs.declared.Row.the-variants.{NoRow}
-use Rattle.adder.specs.Word.{fraction, biased, sign, allOnes}
-use Rattle.adder.specs.Operand.{finiteOf, operandOf}
-use Rattle.adder.specs.Result.{effective, infiniteSum, kindSum, result}
+use Rattle.word.specs.Word.{fraction, biased, sign, allOnes, effective}
+use Rattle.word.specs.Operand.{finiteOf, operandOf}
+use Rattle.adder.specs.Result.{infiniteSum, kindSum, result}
 use Rattle.adder.specs.Row.{kindRow, rowOf}
-use Rattle.adder.proofs.Fields.{effective-sign, effective-biased, effective-fraction}
-use Rattle.adder.proofs.ExactSum.{operand-finite}
+use Rattle.word.proofs.Fields.{effective-sign, effective-biased, effective-fraction}
+use Rattle.word.proofs.Canonical.{operand-finite}
 
 -- ---- an operand that is not finite
 

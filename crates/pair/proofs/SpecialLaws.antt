@@ -11,7 +11,7 @@ use Rattle.mask.specs.Mask.{Meets}
 use Rattle.job.specs.declared.Job.{Job}
 use Rattle.job.specs.Job.{Valid}
 use Rattle.adder.specs.declared.Reply.the-variants.{Word}
-use Rattle.adder.specs.Word.{biased, allOnes}
+use Rattle.word.specs.Word.{biased, allOnes}
 use Rattle.adder.specs.Result.{result, resultReply}
 use Rattle.adder.specs.Row.{rowOf}
 use Rattle.adder.proofs.Causes.{result-word}

@@ -14,13 +14,12 @@ use Rattle.mask.specs.declared.Mask.{Mask}
 use Rattle.mask.specs.Mask.{WellFormed, Meets}
 use Rattle.mask.proofs.ByBits.{value-below}
 use Rattle.mask.proofs.ByParts.{fraction-formed, meets-fields}
-use Rattle.adder.specs.Word.{fraction, biased, sign}
-use Rattle.adder.proofs.Fields.{together-lt, together-sign, together-biased, together-fraction}
-use Rattle.adder.proofs.Rounded.{signed-lt}
+use Rattle.word.specs.Word.{fraction, biased, sign}
+use Rattle.word.proofs.Fields.{together-lt, together-sign, together-biased, together-fraction, signed-lt}
 use Rattle.significand.specs.Tail.{greatest}
 use Rattle.significand.proofs.Part.{part-le}
 use Rattle.significand.proofs.Range.{greatest-lt, meets-range}
-use Rattle.pair.specs.Asked.{fractionMask}
+use Rattle.word.specs.Masks.{fractionMask}
 use Rattle.pair.specs.Special.{extreme, representative}
 use Rattle.pair.proofs.SpecialKinds.{Alike}
 

@@ -14,20 +14,20 @@ use lib.Pow.{pow-pos, pow-add}
 use Rattle.bits.specs.Bit.{bit}
 use Rattle.format.specs.declared.Format.{Format}
 use Rattle.format.specs.Format.{Supported, precision}
-use Rattle.adder.specs.declared.Direction.{Direction}
-use Rattle.adder.specs.declared.Finite as record-of
-use Rattle.adder.specs.declared.Unit as exponent
-use Rattle.adder.specs.Word.{unitOf, signed}
-use Rattle.adder.specs.Operand.{magnitude, Canonical}
-use Rattle.adder.specs.Rounding.{direction, dropped, roundOff, magnitudeWord, infinityWord, boundedWord, rounded}
-use Rattle.adder.specs.Sticky.{sticky, withSticky, Held, keptPart, carryIn}
-use Rattle.adder.specs.Result.{cancelledSign, finiteSum}
-use Rattle.adder.specs.Row.{carryAt, gather, finiteRow}
-use Rattle.adder.proofs.Sticky.{above-sticky}
-use Rattle.adder.proofs.Held.{held-size, held-part, held-zero, held-pos}
-use Rattle.adder.proofs.Rounded.{rounded-zero}
-use Rattle.adder.proofs.Align as align
-use Rattle.adder.proofs.Canonical.{unit-le}
+use Rattle.rounding.specs.declared.Direction.{Direction}
+use Rattle.word.specs.declared.Finite as record-of
+use Rattle.word.specs.declared.Unit as exponent
+use Rattle.word.specs.Word.{unitOf, signed, infinityWord}
+use Rattle.word.specs.Operand.{magnitude, Canonical}
+use Rattle.rounding.specs.Rounding.{direction, dropped, roundOff, magnitudeWord, boundedWord, rounded, cancelledSign}
+use Rattle.rounding.specs.Sticky.{sticky, withSticky, Held, keptPart}
+use Rattle.adder.specs.Row.{carryIn, carryAt, gather, finiteRow}
+use Rattle.adder.specs.Result.{finiteSum}
+use Rattle.rounding.proofs.Sticky.{above-sticky}
+use Rattle.rounding.proofs.Held.{held-size, held-part, held-zero, held-pos}
+use Rattle.rounding.proofs.Rounded.{rounded-zero}
+use Rattle.rounding.proofs.Align as align
+use Rattle.word.proofs.Canonical.{unit-le}
 use Rattle.adder.proofs.FiniteSum.{sum-like, sum-unlike, sum-cancelled}
 use Rattle.adder.proofs.RowBit.{row-bit}
 use Rattle.adder.proofs.RowLaws.{gather-bit}
@@ -39,7 +39,7 @@ use Rattle.pair.proofs.Columns.{flag, column-carry}
 -- a magnitude and the number that holds it round to the same word
 pub bounded-held : (F : Format) (d : Direction) (X x : ℕ) (u : exponent.Unit) → 0 < X → Held F X x (u .0) → x < 2 ^ (F .f + 5) → boundedWord F d X ≡ boundedHeld F d x u
 unfolding boundedWord boundedHeld magnitudeWord
-bounded-held F d X x u pos held below = ap (λ (n : ℕ). cond (ltb n (infinityWord F)) n (Rattle.adder.specs.Rounding.overflowWord F d)) word
+bounded-held F d X x u pos held below = ap (λ (n : ℕ). cond (ltb n (infinityWord F)) n (Rattle.rounding.specs.Rounding.overflowWord F d)) word
   where
     drop : dropped F X ≡ roundedUnit (F .f) (size x) u .0
     drop = omega (arith, held-size F X x (u .0) pos held)

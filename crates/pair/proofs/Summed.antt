@@ -16,13 +16,13 @@ use Rattle.mask.specs.Mask.{Meets, WellFormed}
 use Rattle.mask.proofs.ByBits.{value-below}
 use Rattle.columns.specs.Column.{allows}
 use Rattle.columns.proofs.Agree.{met-bits, met-whole}
-use Rattle.adder.specs.declared.Finite as record-of
-use Rattle.adder.specs.Word.{unitOf, significand, allOnes}
-use Rattle.adder.specs.Operand.{magnitude, Canonical}
-use Rattle.adder.specs.Sticky.{withSticky}
+use Rattle.word.specs.declared.Finite as record-of
+use Rattle.word.specs.Word.{unitOf, significand, allOnes}
+use Rattle.word.specs.Operand.{magnitude, Canonical}
+use Rattle.rounding.specs.Sticky.{withSticky}
 use Rattle.adder.specs.Result.{finiteSum}
 use Rattle.adder.specs.Row.{finiteRow}
-use Rattle.adder.proofs.Canonical.{significand-bounds}
+use Rattle.word.proofs.Canonical.{significand-bounds}
 use Rattle.adder.proofs.RowLaws.{finite-row-lt}
 use Rattle.significand.specs.Significand.{significandMask}
 use Rattle.significand.specs.Tail.{tailMask}

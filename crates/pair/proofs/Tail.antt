@@ -9,9 +9,9 @@ use native.Mathlib.Omega.{arith}
 use lib.Arith.{digits-div, digits-mod}
 use lib.Dec.{eqb, lit<}
 use lib.Pow.{pow-pos}
-use Rattle.adder.specs.Sticky.{sticky, withSticky}
-use Rattle.adder.proofs.Sticky.{sticky-scale, with-sticky-add, with-sticky-bounds}
-use Rattle.adder.proofs.Align.{with-sticky-equal}
+use Rattle.rounding.specs.Sticky.{sticky, withSticky}
+use Rattle.rounding.proofs.Sticky.{sticky-scale, with-sticky-add, with-sticky-bounds}
+use Rattle.rounding.proofs.Align.{with-sticky-equal}
 
 module _ (R d : ℕ) where
   -- what is left of R below L's unit, aligned

@@ -16,24 +16,23 @@ use Rattle.mask.specs.Mask.{Meets, WellFormed}
 use Rattle.mask.proofs.ByParts.{meets-fields, fraction-formed}
 use Rattle.job.specs.declared.Job.{Job}
 use Rattle.job.specs.Job.{Valid}
-use Rattle.adder.specs.declared.Finite as record-of
+use Rattle.word.specs.declared.Finite as record-of
 use Rattle.adder.specs.declared.Row as row
 use Rattle.adder.specs.declared.Row.the-variants.{Carries}
-use Rattle.adder.specs.declared.Operand.the-variants.{Finite}
-use Rattle.adder.specs.Word.{fraction, biased, sign, signed, allOnes}
-use Rattle.adder.specs.Operand.{finiteOf, operandOf, magnitude, Canonical}
-use Rattle.adder.specs.Result.{effective, finiteSum, kindSum, result}
+use Rattle.word.specs.declared.Operand.the-variants.{Finite}
+use Rattle.word.specs.Word.{fraction, biased, sign, signed, allOnes, effective}
+use Rattle.word.specs.Operand.{finiteOf, operandOf, magnitude, Canonical}
+use Rattle.adder.specs.Result.{finiteSum, kindSum, result}
 use Rattle.adder.specs.Row.{finiteRow, kindRow, rowOf}
-use Rattle.adder.proofs.Bounds.{four-exponents}
-use Rattle.adder.proofs.Canonical.{unit-le}
-use Rattle.adder.proofs.ExactSum.{operand-finite}
-use Rattle.adder.proofs.Fields.{together-sign, together-biased, together-fraction, together-lt, effective-sign, effective-biased, effective-fraction}
+use Rattle.word.proofs.Bounds.{four-exponents}
+use Rattle.word.proofs.Canonical.{unit-le, operand-finite}
+use Rattle.word.proofs.Fields.{together-sign, together-biased, together-fraction, together-lt, effective-sign, effective-biased, effective-fraction, signed-lt}
 use Rattle.adder.proofs.FiniteSum.{finite-sum-comm}
 use Rattle.adder.proofs.ResultLaws.{result-lt}
-use Rattle.adder.proofs.Rounded.{signed-lt}
 use Rattle.adder.proofs.RowLaws.{finite-row-comm}
 use Rattle.fit.specs.Fit.{RowMeets, Fits}
-use Rattle.pair.specs.Asked.{signMask, exponentMask, fractionMask, PairFits}
+use Rattle.word.specs.Masks.{signMask, exponentMask, fractionMask}
+use Rattle.pair.specs.Asked.{PairFits}
 use Rattle.pair.specs.Pair.{unitAt, turned}
 use Rattle.pair.proofs.Summed.{number, number-canonical, Summed}
 

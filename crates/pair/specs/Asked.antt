@@ -7,18 +7,9 @@ use Rattle.mask.specs.declared.Mask.{Mask}
 use Rattle.mask.specs.Mask.{Meets, low, high}
 use Rattle.job.specs.declared.Job.{Job}
 use Rattle.job.specs.Job.{Valid}
-use Rattle.adder.specs.Word.{biased}
+use Rattle.word.specs.Word.{biased}
 use Rattle.fit.specs.Fit.{Fits}
-
--- the masks on the fields of a word: sign, exponent field, fraction
-abbrev pub signMask : Format → Mask → Mask
-signMask F m = low 1 (high (F .w + F .f) m)
-
-abbrev pub exponentMask : Format → Mask → Mask
-exponentMask F m = low (F .w) (high (F .f) m)
-
-abbrev pub fractionMask : Format → Mask → Mask
-fractionMask F m = low (F .f) m
+use Rattle.word.specs.Masks.{exponentMask}
 
 -- a valid job, and two exponent fields that meet their masks
 pub record Asked (j : Job) (ea eb : ℕ) : Type 0 where

@@ -13,8 +13,8 @@ use Rattle.job.specs.declared.Job.{Job}
 use Rattle.job.specs.declared.Role.the-variants.{C}
 use Rattle.job.specs.Job.{Valid}
 use Rattle.job.specs.Role.{withWanted, withMask}
-use Rattle.adder.specs.Word.{allOnes}
-use Rattle.pair.specs.Asked.{signMask, exponentMask, fractionMask}
+use Rattle.word.specs.Word.{allOnes}
+use Rattle.word.specs.Masks.{signMask, exponentMask, fractionMask}
 use Rattle.pair.specs.Pair.{SomeSigns}
 
 -- the smaller field of the pair that stands for a class, whose larger one is f + 4: where the larger field is E and the smaller one e, as

@@ -10,13 +10,13 @@ use Rattle.mask.specs.declared.Mask.{Mask}
 use Rattle.mask.specs.Mask.{Meets}
 use Rattle.job.specs.declared.Job.{Job}
 use Rattle.job.specs.Job.{Valid}
-use Rattle.adder.specs.Word.{unitOf, allOnes}
-use Rattle.adder.specs.declared.Unit as exponent
+use Rattle.word.specs.Word.{unitOf, allOnes}
+use Rattle.word.specs.declared.Unit as exponent
 use Rattle.significand.specs.Significand.{significandMask}
 use Rattle.significand.specs.Tail.{tailMask}
 use Rattle.outcome.specs.declared.Aligned as pair
 use Rattle.outcome.specs.Outcome.{Admits}
-use Rattle.pair.specs.Asked.{signMask, exponentMask, fractionMask}
+use Rattle.word.specs.Masks.{signMask, exponentMask, fractionMask}
 
 -- the exponent of the unit that goes with an exponent field
 abbrev pub unitAt : ℕ → exponent.Unit

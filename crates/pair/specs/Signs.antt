@@ -5,7 +5,7 @@ use Prim.Native.Nat.{ℕ}
 use lib.Dec.{eqb}
 use Rattle.mask.specs.Mask.{meets}
 use Rattle.job.specs.declared.Job.{Job}
-use Rattle.pair.specs.Asked.{signMask}
+use Rattle.word.specs.Masks.{signMask}
 use Rattle.pair.specs.Pair.{turned}
 
 -- the signs sa and sb meet their masks, and where they are like in the effective addition, sa meets c's

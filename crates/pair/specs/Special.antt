@@ -10,19 +10,15 @@ use Prim.Native.Nat.{ℕ, zero, suc, _+_, _*_, _/_, _%_, _^_}
 use Rattle.format.specs.declared.Format.{Format}
 use Rattle.mask.specs.declared.Mask.{Mask}
 use Rattle.job.specs.declared.Job.{Job}
-use Rattle.adder.specs.Word.{allOnes, signed}
+use Rattle.word.specs.Word.{allOnes, signed, wordOf}
 use Rattle.adder.specs.Result.{result}
 use Rattle.fit.specs.Fit.{fits}
 use Rattle.significand.specs.Tail.{least, greatest}
-use Rattle.pair.specs.Asked.{fractionMask}
+use Rattle.word.specs.Masks.{fractionMask}
 
 -- "With an infinite or NaN operand": one of the exponent fields is all ones ("The carry row")
 abbrev pub Special : Job → ℕ → ℕ → Type 0
 Special j ea eb = (ea ≡ allOnes (j .setting .format)) ⊎ (eb ≡ allOnes (j .setting .format))
-
--- "from the top, one sign bit, w exponent bits and f fraction bits" ("Numbers of a format")
-abbrev pub wordOf : Format → ℕ → ℕ → ℕ → ℕ
-wordOf F s e t = signed F s (e * 2 ^ F .f + t)
 
 -- of the fractions of f bits that meet a mask the least, for 0, or the greatest
 abbrev pub extreme : ℕ → Mask → ℕ → ℕ

@@ -1,6 +1,4 @@
 // The pair of exponent fields that stands for a class of pairs.
-use crate::fields::fraction_mask;
-use crate::fields::sign_mask;
 use crate::finite::some_signs;
 use crate::special::word_of;
 use bits::power;
@@ -12,6 +10,8 @@ use job::words::with_mask;
 use job::words::with_wanted;
 use mask::Mask;
 use mask::mask_cause;
+use word::masks::fraction_mask;
+use word::masks::sign_mask;
 ghost use mathlib.Core.Bool.{true};
 ghost use mathlib.Core.Logic.{_↔_};
 ghost use mathlib.Core.Path.{_≡_};

@@ -1,9 +1,9 @@
 // Two finite operands.
-use crate::fields::fraction_mask;
-use crate::fields::sign_mask;
-use adder::Biased;
-use adder::Unit;
-use adder::exponent::unit_of;
+use word::masks::fraction_mask;
+use word::masks::sign_mask;
+use word::Biased;
+use word::Unit;
+use word::exponent::unit_of;
 use job::Job;
 use mask::Mask;
 use mask::meets;
@@ -17,9 +17,10 @@ ghost use Prim.Native.Nat.{_≤_, _<_};
 ghost use Rattle.format.specs.Format.{Supported};
 ghost use Rattle.mask.specs.Mask.{Meets, WellFormed};
 ghost use Rattle.job.specs.Job.{Valid};
-ghost use Rattle.adder.specs.Word.{allOnes};
+ghost use Rattle.word.specs.Word.{allOnes};
 ghost use Rattle.outcome.specs.Outcome.{Admits};
-ghost use Rattle.pair.specs.Asked.{exponentMask, fractionMask, PairFits};
+ghost use Rattle.word.specs.Masks.{exponentMask, fractionMask};
+ghost use Rattle.pair.specs.Asked.{PairFits};
 ghost use Rattle.pair.specs.Pair.{unitAt, alignedOf, FinitePair, SomeSigns, Finites, Larger, turned, Posed};
 
 // The exponent of the unit that goes with an exponent field.

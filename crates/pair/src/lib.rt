@@ -1,14 +1,13 @@
 // Whether a pair of exponent fields admits a case.
 use bits::power;
-use fields::exponent_mask;
 use finite::finite_pair;
 use job::Job;
 use job::job_cause;
 use mask::meets;
 use special::special_pair;
+use word::masks::exponent_mask;
 
 pub mod class;
-pub mod fields;
 mod finite;
 pub mod signs;
 mod special;

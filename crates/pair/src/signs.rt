@@ -1,8 +1,8 @@
 // The signs of finite operands, whatever their exponents.
-use crate::fields::sign_mask;
 use job::Job;
 use job::job_cause;
 use mask::meets;
+use word::masks::sign_mask;
 ghost use mathlib.Core.Path.{_≡_};
 ghost use Prim.Native.Nat.{_<_};
 ghost use Rattle.job.specs.Job.{Valid};

@@ -19,7 +19,8 @@ ghost use Rattle.mask.specs.Mask.{WellFormed};
 ghost use Rattle.job.specs.Job.{Valid};
 ghost use Rattle.fit.specs.Fit.{fits};
 ghost use Rattle.pair.specs.Asked.{Asked, PairFits};
-ghost use Rattle.pair.specs.Special.{Special, wordOf, extreme, representative, together, partnered};
+ghost use Rattle.pair.specs.Special.{Special, extreme, representative, together, partnered};
+ghost use Rattle.word.specs.Word.{wordOf};
 
 // The word of a sign, an exponent field and a fraction.
 pub(crate) fn word_of(format: Format, sign: u64, e: u64, t: u64) -> u64

@@ -17,7 +17,7 @@ use Rattle.bits.proofs.Logic.{bit-or}
 use Rattle.mask.specs.declared.Mask.{Mask}
 use Rattle.job.specs.declared.Job.{Job}
 use Rattle.job.specs.Job.{Valid}
-use Rattle.adder.specs.Word.{allOnes}
+use Rattle.word.specs.Word.{allOnes}
 use Rattle.pair.specs.Asked.{Asked, PairFits}
 use Rattle.pair.specs.Pair.{Finites}
 use Rattle.pair.specs.Class.{classOf, onlyField, ClassAdmits, ClassAsked, NeverPast, Classed}

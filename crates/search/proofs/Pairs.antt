@@ -15,8 +15,9 @@ use Rattle.mask.proofs.Checks.{meets-true}
 use Rattle.mask.proofs.ByParts.{meets-fields}
 use Rattle.job.specs.declared.Job.{Job}
 use Rattle.job.specs.Job.{Valid}
-use Rattle.adder.specs.Word.{biased}
-use Rattle.pair.specs.Asked.{Asked, PairFits, exponentMask}
+use Rattle.word.specs.Word.{biased}
+use Rattle.pair.specs.Asked.{Asked, PairFits}
+use Rattle.word.specs.Masks.{exponentMask}
 use Rattle.search.specs.Left.{Left}
 use Rattle.search.specs.Walk.{FirstRow}
 

@@ -8,7 +8,7 @@ use Rattle.job.specs.declared.Wanted.{Wanted}
 use Rattle.job.specs.declared.Job.{Job}
 use Rattle.job.specs.declared.Role.{Role}
 use Rattle.job.specs.Role.{wanted, withWanted, withMask}
-use Rattle.adder.specs.Word.{biased}
+use Rattle.word.specs.Word.{biased}
 use Rattle.fit.specs.Fit.{Allowed}
 use Rattle.fit.proofs.Roles.{fits-allowed, fits-with, with-allowed, fits-back}
 use Rattle.search.specs.Walk.{NoneBelow, Case, CaseFits, memberOf}

@@ -10,9 +10,10 @@ use Rattle.bits.specs.Bit.{bit}
 use Rattle.mask.specs.Mask.{Meets}
 use Rattle.job.specs.declared.Job.{Job}
 use Rattle.job.specs.Job.{Valid}
-use Rattle.adder.specs.Word.{allOnes}
+use Rattle.word.specs.Word.{allOnes}
 use Rattle.outcome.specs.Class.{fieldAt}
-use Rattle.pair.specs.Asked.{exponentMask, PairFits}
+use Rattle.word.specs.Masks.{exponentMask}
+use Rattle.pair.specs.Asked.{PairFits}
 use Rattle.pair.specs.Class.{leastField, onlyField, ClassAdmits, Classed}
 
 -- no case of the class k has c's exponent field i

@@ -7,7 +7,7 @@ use mask::Mask;
 use mask::low;
 use mask::meets;
 use pair::class::class_admits;
-use pair::fields::exponent_mask;
+use word::masks::exponent_mask;
 ghost use mathlib.Core.Bool.{true, false};
 ghost use mathlib.Core.Logic.{_⊎_};
 ghost use mathlib.Core.Path.{_≡_};
@@ -15,7 +15,8 @@ ghost use Prim.Native.Nat.{ℕ, _+_, _-_, _*_, _^_, _≤_, _<_};
 ghost use Rattle.mask.specs.Mask.{Meets};
 ghost use Rattle.job.specs.Job.{Valid};
 ghost use Rattle.outcome.specs.Class.{fieldAt};
-ghost use Rattle.pair.specs.Asked.{exponentMask, Asked, PairFits};
+ghost use Rattle.word.specs.Masks.{exponentMask};
+ghost use Rattle.pair.specs.Asked.{Asked, PairFits};
 ghost use Rattle.pair.specs.Class.{lowField, classOf, smallField, leastField};
 ghost use Rattle.search.specs.Classes.{Never, Refuses, Kept, ClassOf, NoField, Normal, ClassEnd, FarPair};
 

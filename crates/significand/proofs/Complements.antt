@@ -7,7 +7,7 @@ use lib.Arith.{digits-div, mul-pred}
 use lib.Pow.{pow-pos, pow-add, split, shr-lt}
 use Rattle.bits.specs.Bit.{bit}
 use Rattle.significand.specs.Tail.{complement}
-use Rattle.adder.proofs.Division.{mul-sub-right}
+use Rattle.bits.proofs.Division.{mul-sub-right}
 
 pub complement-lt : (k x : ℕ) → complement k x < 2 ^ k
 complement-lt k x = omega (arith, pow-pos k)

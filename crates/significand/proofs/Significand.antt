@@ -13,7 +13,7 @@ use Rattle.mask.specs.declared.Mask.{Mask}
 use Rattle.mask.specs.Mask.{WellFormed, Meets, fixed, fix}
 use Rattle.mask.proofs.ByParts.{meets-within}
 use Rattle.mask.proofs.Fixing.{fix-free, fixed-formed, fixed-meets}
-use Rattle.adder.specs.Word.{significand}
+use Rattle.word.specs.Word.{significand}
 use Rattle.significand.specs.Significand.{significandMask}
 
 module _ (f : ℕ) (m : Mask) (hf : f < 64) (w : WellFormed f m) where

@@ -16,8 +16,8 @@ use Rattle.mask.specs.declared.Mask.{Mask}
 use Rattle.mask.specs.Mask.{WellFormed, Meets}
 use Rattle.mask.proofs.ByBits.{value-below}
 use Rattle.mask.proofs.Checks.{wellFormed-true}
-use Rattle.adder.specs.Sticky.{sticky, withSticky}
-use Rattle.adder.proofs.Sticky.{sticky-lt, with-sticky-bounds}
+use Rattle.rounding.specs.Sticky.{sticky, withSticky}
+use Rattle.rounding.proofs.Sticky.{sticky-lt, with-sticky-bounds}
 use Rattle.significand.specs.Tail.{complement, least, greatest, alignedMask, tailMask}
 use Rattle.significand.proofs.Complements.{complement-bit}
 use Rattle.significand.proofs.Part.{Part, part-le, part-shr, part-mod, part-block, part-four, part-with-sticky}

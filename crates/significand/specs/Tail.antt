@@ -7,7 +7,7 @@ use Prim.Native.Nat.{ℕ, _+_, _-_, _*_, _^_}
 use lib.Dec.{leb}
 use Rattle.mask.specs.declared.Mask.{Mask}
 use Rattle.mask.specs.Mask.{wellFormed, pickMask}
-use Rattle.adder.specs.Sticky.{withSticky}
+use Rattle.rounding.specs.Sticky.{withSticky}
 
 -- the k bits that x has not
 abbrev pub complement : ℕ → ℕ → ℕ

@@ -1,9 +1,9 @@
 // Masks on significands, and on their aligned forms.
-use adder::alignment::aligned;
 use bits::power;
 use mask::Mask;
 use mask::fix;
 use mask::mask_cause;
+use rounding::alignment::aligned;
 ghost use mathlib.Core.Path.{_≡_};
 ghost use Prim.Native.Nat.{_≤_, _<_, _^_};
 ghost use Rattle.mask.specs.Mask.{WellFormed};

@@ -6,11 +6,11 @@ use native.Mathlib.Omega.{arith}
 use lib.Pow.{pow-pos, pow-add}
 use Rattle.format.specs.declared.Format.{Format}
 use Rattle.format.specs.Format.{Supported, wordBits}
-use Rattle.adder.specs.Word.{allOnes, signed}
-use Rattle.adder.specs.Rounding.{direction, infinityWord, overflowWord}
+use Rattle.word.specs.Word.{allOnes, signed, infinityWord}
+use Rattle.rounding.specs.Rounding.{direction, overflowWord}
 use Rattle.adder.specs.Result.{nan, infinity}
-use Rattle.adder.proofs.Bounds.{four-exponents}
-use Rattle.adder.proofs.Fields.{together-sign, together-biased, together-fraction, word-by-fields}
+use Rattle.word.proofs.Bounds.{four-exponents}
+use Rattle.word.proofs.Fields.{together-sign, together-biased, together-fraction, word-by-fields}
 use Rattle.standard.specs.Fields.{Fields, TheNan, Infinity, LargestFinite}
 use Rattle.standard.specs.Sum.{Overflow}
 

@@ -10,7 +10,7 @@ use lib.Ieee.Digits.{size-reaches}
 use lib.Pow.{pow-pos, pow-mono, pow-add, shl-lt}
 use Rattle.format.specs.declared.Format.{Format}
 use Rattle.format.specs.Format.{precision}
-use Rattle.adder.specs.Rounding.{dropped}
+use Rattle.rounding.specs.Rounding.{dropped}
 use Rattle.standard.specs.Representable.{Representable}
 
 module _ (F : Format) (X n : ℕ) (r : Representable F n) where

@@ -6,9 +6,8 @@ use native.Mathlib.Omega.{arith}
 use lib.Pow.{pow-pos, pow-add}
 use Rattle.format.specs.declared.Format.{Format}
 use Rattle.format.specs.Format.{Supported, precision}
-use Rattle.adder.specs.Word.{allOnes}
-use Rattle.adder.specs.Rounding.{infinityWord}
-use Rattle.adder.proofs.Bounds.{four-exponents}
+use Rattle.word.specs.Word.{allOnes, infinityWord}
+use Rattle.word.proofs.Bounds.{four-exponents}
 use Rattle.standard.specs.Representable.{magnitudeOf, largest, afterLargest}
 use Rattle.standard.proofs.Magnitudes.{magnitude-kept}
 

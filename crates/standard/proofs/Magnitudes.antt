@@ -8,11 +8,11 @@ use native.Mathlib.Omega.{arith}
 use lib.Pow.{pow-pos, pow-add, split, high, low}
 use Rattle.format.specs.declared.Format.{Format}
 use Rattle.format.specs.Format.{precision}
-use Rattle.adder.specs.declared.Direction.{Direction}
-use Rattle.adder.specs.Word.{significand}
-use Rattle.adder.specs.Rounding.{roundOff, dropped, magnitudeWord}
-use Rattle.adder.proofs.Canonical.{significand-bounds}
-use Rattle.adder.proofs.RoundedFields.{kept-le, kept-subnormal-dropped}
+use Rattle.rounding.specs.declared.Direction.{Direction}
+use Rattle.word.specs.Word.{significand}
+use Rattle.rounding.specs.Rounding.{roundOff, dropped, magnitudeWord}
+use Rattle.word.proofs.Canonical.{significand-bounds}
+use Rattle.rounding.proofs.RoundedFields.{kept-le, kept-subnormal-dropped}
 use Rattle.standard.specs.Representable.{Representable, magnitudeOf, roundedMagnitude}
 
 module _ (F : Format) where

@@ -8,11 +8,11 @@ use native.Mathlib.Omega.{arith}
 use lib.Pow.{pow-add}
 use Rattle.format.specs.declared.Format.{Format}
 use Rattle.format.specs.Format.{Supported}
-use Rattle.adder.specs.declared.Direction.{Direction}
-use Rattle.adder.specs.declared.Direction.the-variants.{Nearest, TowardZero, Away}
-use Rattle.adder.specs.Word.{allOnes}
-use Rattle.adder.specs.Rounding.{magnitudeWord, infinityWord}
-use Rattle.adder.proofs.Bounds.{infinity-pos}
+use Rattle.rounding.specs.declared.Direction.{Direction}
+use Rattle.rounding.specs.declared.Direction.the-variants.{Nearest, TowardZero, Away}
+use Rattle.word.specs.Word.{allOnes, infinityWord}
+use Rattle.rounding.specs.Rounding.{magnitudeWord}
+use Rattle.word.proofs.Bounds.{infinity-pos}
 use Rattle.standard.specs.Representable.{Representable, largest, afterLargest, roundedMagnitude}
 use Rattle.standard.specs.Rounds.{distance}
 use Rattle.standard.proofs.Magnitudes.{magnitude-representable, word-order, word-order-le, word-by-magnitude}

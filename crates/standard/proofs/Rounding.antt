@@ -11,10 +11,10 @@ use borrow.Author.Tests.{lt-ltb, le-ltb, eq-eqb, ne-eqb}
 use lib.Pow.{pow-pos, pow-add, split, mod-mod-pow}
 use Rattle.format.specs.declared.Format.{Format}
 use Rattle.format.specs.Format.{Supported, precision}
-use Rattle.adder.specs.declared.Direction as way
-use Rattle.adder.specs.declared.Direction.the-variants.{Nearest, TowardZero, Away}
-use Rattle.adder.specs.Word.{significand}
-use Rattle.adder.specs.Rounding.{increment, roundOff, dropped, magnitudeWord}
+use Rattle.rounding.specs.declared.Direction as way
+use Rattle.rounding.specs.declared.Direction.the-variants.{Nearest, TowardZero, Away}
+use Rattle.word.specs.Word.{significand}
+use Rattle.rounding.specs.Rounding.{increment, roundOff, dropped, magnitudeWord}
 use Rattle.standard.specs.Representable.{Representable, EvenWord, roundedMagnitude}
 use Rattle.standard.specs.Rounds.{GreatestNotAbove, LeastNotBelow, Closest, distance}
 use Rattle.standard.proofs.Magnitudes.{magnitude-representable, rounded-kept}

@@ -7,9 +7,9 @@ use lib.IntN.{ℤ, pos, negℤ, natAbs}
 use lib.Signed.{_≤ℤ_, leZ-yes}
 use Rattle.format.specs.declared.Format.{Format}
 use Rattle.format.specs.Format.{Supported}
-use Rattle.adder.specs.declared.Direction.{Direction}
-use Rattle.adder.specs.declared.Direction.the-variants.{Nearest, TowardZero, Away}
-use Rattle.adder.specs.Rounding.{direction, magnitudeWord}
+use Rattle.rounding.specs.declared.Direction.{Direction}
+use Rattle.rounding.specs.declared.Direction.the-variants.{Nearest, TowardZero, Away}
+use Rattle.rounding.specs.Rounding.{direction, magnitudeWord}
 use Rattle.standard.specs.Representable.{Representable, roundedMagnitude}
 use Rattle.standard.specs.Rounds.{GreatestNotAbove, LeastNotBelow, Closest, distance}
 use Rattle.standard.specs.Number.{signedNumber, OfFormat, apart, EvenNumber, RoundsTo}

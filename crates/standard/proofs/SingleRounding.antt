@@ -14,11 +14,11 @@ use lib.Ieee.{Float, nan, inf, fin, binary32, emax, low, size, up, down, nearest
 use lib.Ieee.Fits.{down-pos, round-is}
 use lib.Ieee.Exact.{HasValue, units-val}
 use lib.Ieee.Nearest.{closest, closest-same}
-use Rattle.adder.specs.declared.Direction.the-variants.{Nearest, TowardZero}
-use Rattle.adder.specs.Word.{significand, signed}
-use Rattle.adder.specs.Rounding.{increment, roundOff, dropped, magnitudeWord, infinityWord, overflowWord, boundedWord}
-use Rattle.adder.proofs.AddConstant.{round-toward-zero}
-use Rattle.adder.proofs.Rounded.{bounded-within, bounded-past}
+use Rattle.rounding.specs.declared.Direction.the-variants.{Nearest, TowardZero}
+use Rattle.word.specs.Word.{significand, signed, infinityWord}
+use Rattle.rounding.specs.Rounding.{increment, roundOff, dropped, magnitudeWord, overflowWord, boundedWord}
+use Rattle.rounding.proofs.AddConstant.{round-toward-zero}
+use Rattle.rounding.proofs.Rounded.{bounded-within, bounded-past}
 use Rattle.standard.specs.Representable.{magnitudeOf, roundedMagnitude}
 use Rattle.standard.specs.Single.{single}
 use Rattle.standard.proofs.Magnitudes.{rounded-kept, word-order}

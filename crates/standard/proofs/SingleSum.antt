@@ -14,18 +14,18 @@ use lib.Ieee.Fits.{down-pos}
 use lib.Ieee.Exact.{HasValue, odd-sign}
 use lib.Ieee.Scale.{round-same}
 use Rattle.format.specs.Format.{Supported}
-use Rattle.adder.specs.declared.Finite as record-of
-use Rattle.adder.specs.declared.Operand as kind
-use Rattle.adder.specs.declared.Operand.the-variants.{Finite, Infinite, Nan}
-use Rattle.adder.specs.declared.Direction.the-variants.{Nearest}
-use Rattle.adder.specs.Word.{fraction, biased, sign, significand, signed}
-use Rattle.adder.specs.Operand.{operandOf, magnitude, Sound}
-use Rattle.adder.specs.Rounding.{direction, boundedWord, rounded}
-use Rattle.adder.specs.Result.{effective, infinity, cancelledSign, finiteSum, infiniteSum, kindSum, result}
-use Rattle.adder.proofs.Division.{ltb-scale, mul-sub-right}
-use Rattle.adder.proofs.Rounded.{rounded-zero}
-use Rattle.adder.proofs.Canonical.{operand-sound}
-use Rattle.adder.proofs.Fields.{effective-sign, effective-biased, effective-fraction, effective-add}
+use Rattle.word.specs.declared.Finite as record-of
+use Rattle.word.specs.declared.Operand as kind
+use Rattle.word.specs.declared.Operand.the-variants.{Finite, Infinite, Nan}
+use Rattle.rounding.specs.declared.Direction.the-variants.{Nearest}
+use Rattle.word.specs.Word.{fraction, biased, sign, significand, signed, effective}
+use Rattle.word.specs.Operand.{operandOf, magnitude, Sound}
+use Rattle.rounding.specs.Rounding.{direction, boundedWord, rounded, cancelledSign}
+use Rattle.adder.specs.Result.{infinity, finiteSum, infiniteSum, kindSum, result}
+use Rattle.bits.proofs.Division.{ltb-scale, mul-sub-right}
+use Rattle.rounding.proofs.Rounded.{rounded-zero}
+use Rattle.word.proofs.Canonical.{operand-sound}
+use Rattle.word.proofs.Fields.{effective-sign, effective-biased, effective-fraction, effective-add}
 use Rattle.standard.specs.Single.{single, ieeeAdd, ieeeSub}
 use Rattle.standard.proofs.SingleRounding.{signBit, rounded-bits}
 

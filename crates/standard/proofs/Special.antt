@@ -6,13 +6,13 @@ use native.Mathlib.Omega.{arith}
 use borrow.Author.Tests.{eq-eqb, ne-eqb}
 use Rattle.format.specs.declared.Format.{Format}
 use Rattle.format.specs.Format.{Supported}
-use Rattle.adder.specs.declared.Operand as kind
-use Rattle.adder.specs.declared.Operand.the-variants.{Finite, Infinite, Nan}
-use Rattle.adder.specs.Word.{sign}
-use Rattle.adder.specs.Operand.{operandOf, finiteOf}
-use Rattle.adder.specs.Result.{effective, nan, infinity, infiniteSum, kindSum, result}
-use Rattle.adder.proofs.Fields.{effective-sign, effective-biased, effective-fraction}
-use Rattle.adder.proofs.ExactSum.{operand-finite}
+use Rattle.word.specs.declared.Operand as kind
+use Rattle.word.specs.declared.Operand.the-variants.{Finite, Infinite, Nan}
+use Rattle.word.specs.Word.{sign, effective}
+use Rattle.word.specs.Operand.{operandOf, finiteOf}
+use Rattle.adder.specs.Result.{nan, infinity, infiniteSum, kindSum, result}
+use Rattle.word.proofs.Fields.{effective-sign, effective-biased, effective-fraction}
+use Rattle.word.proofs.Canonical.{operand-finite}
 use Rattle.standard.specs.Number.{FiniteWord}
 use Rattle.standard.specs.Fields.{TheNan, Infinity}
 use Rattle.standard.specs.Special.{InfiniteWord, NanWord, SpecialSum}

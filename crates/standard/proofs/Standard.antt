@@ -5,7 +5,7 @@ use Prim.Native.Nat.{ℕ, _-_, _^_, _<_}
 use native.Mathlib.Decide.{ℕ-discrete}
 use Rattle.format.specs.declared.Format.{Format}
 use Rattle.format.specs.Format.{Supported, wordBits}
-use Rattle.adder.specs.Word.{fraction, biased, sign}
+use Rattle.word.specs.Word.{fraction, biased, sign}
 use Rattle.adder.specs.Result.{result}
 use Rattle.adder.proofs.ResultLaws.{result-lt}
 use Rattle.standard.specs.Fields.{Fields, effectiveSign}

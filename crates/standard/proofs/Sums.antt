@@ -11,14 +11,14 @@ use lib.Dec.{ltb, eqb}
 use lib.IntN.{ℤ, pos, negℤ, natAbs, _+ℤ_, negℤ-+ℤ, negℤ-negℤ, +ℤ-comm}
 use Rattle.format.specs.declared.Format.{Format}
 use Rattle.format.specs.Format.{Supported}
-use Rattle.adder.specs.declared.Finite.{Finite}
-use Rattle.adder.specs.Word.{sign, significand}
-use Rattle.adder.specs.Operand.{finiteOf, magnitude}
-use Rattle.adder.specs.Rounding.{direction, rounded}
-use Rattle.adder.specs.Result.{effective, cancelledSign, result}
+use Rattle.word.specs.declared.Finite.{Finite}
+use Rattle.word.specs.Word.{sign, significand, effective}
+use Rattle.word.specs.Operand.{finiteOf, magnitude}
+use Rattle.rounding.specs.Rounding.{direction, rounded, cancelledSign}
+use Rattle.adder.specs.Result.{result}
 use Rattle.adder.specs.Exact.{exactMagnitude, exactSign}
-use Rattle.adder.proofs.Fields.{effective-sign, effective-biased, effective-fraction}
-use Rattle.adder.proofs.RoundedFields.{rounded-sign}
+use Rattle.word.proofs.Fields.{effective-sign, effective-biased, effective-fraction}
+use Rattle.rounding.proofs.RoundedFields.{rounded-sign}
 use Rattle.adder.proofs.ExactSum.{exact-sign-lt, result-exact}
 use Rattle.standard.specs.Representable.{roundedMagnitude, largest}
 use Rattle.standard.specs.Fields.{effectiveSign}

@@ -10,10 +10,10 @@ use lib.IntN.{ℤ, pos, negsuc, natAbs, ℤ-discrete}
 use lib.Signed.{_≤ℤ_}
 use Rattle.format.specs.declared.Format.{Format}
 use Rattle.format.specs.Format.{Supported, wordBits}
-use Rattle.adder.specs.declared.Direction.the-variants.{Nearest, TowardZero}
-use Rattle.adder.specs.Word.{sign}
-use Rattle.adder.specs.Operand.{finiteOf, magnitude}
-use Rattle.adder.specs.Rounding.{magnitudeWord}
+use Rattle.rounding.specs.declared.Direction.the-variants.{Nearest, TowardZero}
+use Rattle.word.specs.Word.{sign}
+use Rattle.word.specs.Operand.{finiteOf, magnitude}
+use Rattle.rounding.specs.Rounding.{magnitudeWord}
 use Rattle.adder.specs.Result.{result}
 use Rattle.adder.proofs.ResultLaws.{result-lt}
 use Rattle.standard.specs.Representable.{Representable, magnitudeOf, EvenWord, largest, roundedMagnitude}

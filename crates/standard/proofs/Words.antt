@@ -9,15 +9,15 @@ use native.Mathlib.Omega.{arith}
 use lib.Pow.{pow-pos}
 use Rattle.format.specs.declared.Format.{Format}
 use Rattle.format.specs.Format.{Supported, wordBits}
-use Rattle.adder.specs.declared.Direction.{Direction}
-use Rattle.adder.specs.declared.Direction.the-variants.{TowardZero}
-use Rattle.adder.specs.Word.{fraction, biased, sign, significand, allOnes, signed}
-use Rattle.adder.specs.Operand.{finiteOf, magnitude}
-use Rattle.adder.specs.Rounding.{direction, magnitudeWord, infinityWord, overflowWord, rounded}
-use Rattle.adder.proofs.Bounds.{infinity-pos}
-use Rattle.adder.proofs.Fields.{biased-fraction, word-together}
-use Rattle.adder.proofs.Rounded.{bounded-within, bounded-past}
-use Rattle.adder.proofs.RoundedFields.{rounded-sign, rounded-word-biased, rounded-word-fraction}
+use Rattle.rounding.specs.declared.Direction.{Direction}
+use Rattle.rounding.specs.declared.Direction.the-variants.{TowardZero}
+use Rattle.word.specs.Word.{fraction, biased, sign, significand, allOnes, signed, infinityWord}
+use Rattle.word.specs.Operand.{finiteOf, magnitude}
+use Rattle.rounding.specs.Rounding.{direction, magnitudeWord, overflowWord, rounded}
+use Rattle.word.proofs.Bounds.{infinity-pos}
+use Rattle.word.proofs.Fields.{biased-fraction, word-together}
+use Rattle.rounding.proofs.Rounded.{bounded-within, bounded-past}
+use Rattle.rounding.proofs.RoundedFields.{rounded-sign, rounded-word-biased, rounded-word-fraction}
 use Rattle.standard.specs.Representable.{Representable, magnitudeOf, largest, roundedMagnitude}
 use Rattle.standard.specs.Number.{FiniteWord}
 use Rattle.standard.proofs.Magnitudes.{magnitude-fields, magnitude-representable, word-order, word-order-le, word-by-magnitude}

@@ -3,7 +3,7 @@
 use mathlib.Core.Path.{_≡_}
 use Prim.Native.Nat.{ℕ, _+_, _-_, _%_, _^_}
 use Rattle.format.specs.declared.Format.{Format}
-use Rattle.adder.specs.Word.{fraction, biased, sign}
+use Rattle.word.specs.Word.{fraction, biased, sign}
 
 -- x has the sign s, the exponent field e and the fraction t
 pub record Fields (F : Format) (x s e t : ℕ) : Type 0 where

@@ -5,8 +5,8 @@ use Prim.Native.Nat.{ℕ, zero, suc, _-_, _^_, _≤_}
 use lib.IntN.{ℤ, pos, negℤ, natAbs, _-ℤ_}
 use lib.Signed.{_≤ℤ_}
 use Rattle.format.specs.declared.Format.{Format}
-use Rattle.adder.specs.Word.{biased, sign}
-use Rattle.adder.specs.Operand.{finiteOf, magnitude}
+use Rattle.word.specs.Word.{biased, sign}
+use Rattle.word.specs.Operand.{finiteOf, magnitude}
 use Rattle.standard.specs.Representable.{Representable, magnitudeOf, EvenWord}
 use Rattle.standard.specs.Rounds.{GreatestNotAbove, LeastNotBelow, Closest}
 

@@ -4,9 +4,9 @@ use mathlib.Core.Path.{_≡_}
 use Prim.Native.Nat.{ℕ, _-_, _*_, _/_, _%_, _^_, _<_}
 use Rattle.format.specs.declared.Format.{Format}
 use Rattle.format.specs.Format.{precision}
-use Rattle.adder.specs.declared.Direction.{Direction}
-use Rattle.adder.specs.Word.{significand}
-use Rattle.adder.specs.Rounding.{magnitudeWord}
+use Rattle.rounding.specs.declared.Direction.{Direction}
+use Rattle.word.specs.Word.{significand}
+use Rattle.rounding.specs.Rounding.{magnitudeWord}
 
 -- n has p significant bits at most: it is a significand of p bits, times a power of two
 pub record Representable (F : Format) (n : ℕ) : Type 0 where

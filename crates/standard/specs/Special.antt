@@ -3,7 +3,7 @@
 use mathlib.Core.Path.{_≡_}
 use Prim.Native.Nat.{ℕ, _-_, _^_}
 use Rattle.format.specs.declared.Format.{Format}
-use Rattle.adder.specs.Word.{fraction, biased, sign}
+use Rattle.word.specs.Word.{fraction, biased, sign}
 use Rattle.standard.specs.Fields.{TheNan, Infinity, effectiveSign}
 use Rattle.standard.specs.Number.{FiniteWord}
 

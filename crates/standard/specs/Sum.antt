@@ -4,7 +4,7 @@ use mathlib.Core.Path.{_≡_}
 use Prim.Native.Nat.{ℕ, zero, suc, _≤_, _<_}
 use lib.IntN.{ℤ, pos, negsuc, natAbs, _+ℤ_, _-ℤ_}
 use Rattle.format.specs.declared.Format.{Format}
-use Rattle.adder.specs.Word.{sign}
+use Rattle.word.specs.Word.{sign}
 use Rattle.standard.specs.Fields.{Infinity, LargestFinite, effectiveSign}
 use Rattle.standard.specs.Representable.{largest}
 use Rattle.standard.specs.Number.{number, FiniteWord, RoundsTo}

@@ -7,7 +7,7 @@ use Rattle.bits.proofs.Laws.{power-exact}
 use Rattle.format.specs.declared.Format.{Format}
 use Rattle.format.specs.Format.{Supported}
 use Rattle.format.proofs.Laws.{format-none}
-use Rattle.format.proofs.Room.{room}
+use Rattle.format.proofs.Room.{exponent-room}
 use Rattle.outcome.specs.Outcome.{InFormat}
 use borrow.Author.Needs.{needs}
 use Rattle.outcome.proofs.admits.Statement.{statement}
@@ -15,7 +15,7 @@ use Rattle.outcome.proofs.admits.Tie as tie
 
 -- 2^w is what the code forms
 power : (F : Format) → Supported F → (p : ℕ) → p ≡ 2 ^ F .w % 2 ^ 64 → p ≡ 2 ^ F .w
-power F ok p e = e ∙ power-exact (F .w) (omega (arith, room F ok .exponent))
+power F ok p e = e ∙ power-exact (F .w) (omega (arith, exponent-room F ok))
 
 format-cause-requires : tie.Need-format-cause-requires
 format-cause-requires c κs = search needs

@@ -9,7 +9,7 @@ use lib.Pow.{pow-pos}
 use Rattle.bits.proofs.Laws.{power-exact}
 use Rattle.format.specs.declared.Format.{Format}
 use Rattle.format.specs.Format.{Supported}
-use Rattle.adder.specs.Word.{allOnes}
+use Rattle.word.specs.Word.{allOnes}
 use Rattle.pair.specs.Asked.{Asked}
 use Rattle.pair.specs.Pair.{Finites}
 use borrow.Author.Needs.{needs}

@@ -7,7 +7,8 @@ use native.Mathlib.Omega.{arith}
 use borrow.Author.Count.{below-more}
 use borrow.Author.Needs.{needs}
 use Rattle.mask.specs.Mask.{Meets}
-use Rattle.pair.specs.Asked.{exponentMask, PairFits}
+use Rattle.word.specs.Masks.{exponentMask}
+use Rattle.pair.specs.Asked.{PairFits}
 use Rattle.search.specs.Walk.{NoneBelow}
 use Rattle.search.specs.Classes.{Kept}
 use Rattle.search.proofs.Pairs.{pair-asked, pair-left, count-is}

@@ -9,7 +9,7 @@ use lib.Pow.{pow-mono}
 use Rattle.mask.specs.declared.Mask.{Mask}
 use Rattle.mask.specs.Mask.{WellFormed}
 use Rattle.mask.proofs.ByBits.{value-below}
-use Rattle.adder.specs.Sticky.{withSticky}
+use Rattle.rounding.specs.Sticky.{withSticky}
 use Rattle.significand.specs.Tail.{least, greatest, spanned}
 use Rattle.significand.proofs.Part.{part-le}
 use Rattle.significand.proofs.Range.{greatest-lt}

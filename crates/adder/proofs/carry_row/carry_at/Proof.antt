@@ -6,7 +6,7 @@ use native.Mathlib.Numerals.{add-one}
 use native.Mathlib.Omega.{arith}
 use lib.Dec.{leb, ltb}
 use Rattle.bits.proofs.Laws.{power-exact}
-use Rattle.adder.specs.Sticky.{carryIn}
+use Rattle.adder.specs.Row.{carryIn}
 use borrow.Author.Needs.{needs}
 use Rattle.adder.proofs.carry_row.carry_at.Statement.{statement}
 use Rattle.adder.proofs.carry_row.carry_at.Tie as tie

@@ -3,7 +3,7 @@ use mathlib.Core.Path.{_≡_, refl, sym, ap, ap₂, _∙_, subst}
 use Prim.Native.Nat.{ℕ, zero, suc, _+_, _-_, _*_, _/_, _%_, _^_, _≤_, _<_}
 use native.Mathlib.Nat.{le-of-lt}
 use borrow.Author.Tests.{ltb-true, ltb-false}
-use Rattle.adder.specs.Operand.{magnitude}
+use Rattle.word.specs.Operand.{magnitude}
 use Rattle.adder.specs.Row.{finiteRow}
 use borrow.Author.Needs.{needs}
 use Rattle.adder.proofs.carry_row.finite_row.Statement.{statement}

@@ -8,8 +8,7 @@ use native.Mathlib.Nat.{one-mul, zero-mul, add-zero}
 use native.Mathlib.Omega.{arith}
 use lib.Pow.{pow-mono}
 use Rattle.bits.proofs.Laws.{power-exact}
-use Rattle.adder.specs.Row.{gather}
-use Rattle.adder.specs.Sticky.{carryIn}
+use Rattle.adder.specs.Row.{gather, carryIn}
 use Rattle.adder.proofs.RowBit.{gather-lt, gather-more}
 use Rattle.adder.proofs.carry_row.gathered.Statement.{statement}
 use Rattle.adder.proofs.carry_row.gathered.Tie as tie

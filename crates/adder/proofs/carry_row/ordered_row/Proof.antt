@@ -7,13 +7,13 @@ use native.Mathlib.Omega.{arith}
 use lib.Dec.{eqb}
 use lib.Pow.{pow-mono, shr-le}
 use Rattle.format.specs.Format.{precision}
-use Rattle.adder.specs.declared.Unit as exponent
-use Rattle.adder.specs.Word.{unitOf}
-use Rattle.adder.specs.Operand.{magnitude}
-use Rattle.adder.specs.Row.{carryAt, gather}
-use Rattle.adder.specs.Sticky.{sticky, carryIn}
-use Rattle.adder.proofs.Canonical.{gap-le, unit-le}
-use Rattle.adder.proofs.Sticky.{sticky-lt}
+use Rattle.word.specs.declared.Unit as exponent
+use Rattle.word.specs.Word.{unitOf}
+use Rattle.word.specs.Operand.{magnitude}
+use Rattle.adder.specs.Row.{carryAt, gather, carryIn}
+use Rattle.rounding.specs.Sticky.{sticky}
+use Rattle.word.proofs.Canonical.{gap-le, unit-le}
+use Rattle.rounding.proofs.Sticky.{sticky-lt}
 use Rattle.adder.proofs.RowBit.{row-bit}
 use borrow.Author.Needs.{needs}
 use Rattle.adder.proofs.carry_row.ordered_row.Statement.{statement}

@@ -4,7 +4,7 @@ use Prim.Native.Nat.{ℕ, zero, suc, _+_, _-_, _*_, _/_, _%_, _^_, _≤_, _<_}
 use native.Mathlib.Omega.{arith}
 use native.Mathlib.Nat.{le-of-lt}
 use borrow.Author.Tests.{ltb-true, ltb-false}
-use Rattle.adder.specs.Operand.{magnitude}
+use Rattle.word.specs.Operand.{magnitude}
 use Rattle.adder.proofs.FiniteSum.{finite-sum-comm}
 use borrow.Author.Needs.{needs}
 use Rattle.adder.proofs.sum.finite_sum.Statement.{statement}

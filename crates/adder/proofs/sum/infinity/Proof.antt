@@ -1,8 +1,7 @@
 -- `adder::sum::infinity` meets its contract. Assumes nothing.
-use mathlib.Core.Path.{_≡_, refl, sym, ap, ap₂, _∙_, subst}
-use Prim.Native.Nat.{ℕ, zero, suc, _+_, _-_, _*_, _/_, _%_, _^_, _≤_, _<_}
-use Rattle.adder.specs.Word.{signed}
-use Rattle.adder.proofs.Bounds.{infinity-lt}
+use mathlib.Core.Path.{ap, _∙_}
+use Rattle.word.specs.Word.{signed}
+use Rattle.word.proofs.Bounds.{infinity-lt}
 use borrow.Author.Needs.{needs}
 use Rattle.adder.proofs.sum.infinity.Statement.{statement}
 use Rattle.adder.proofs.sum.infinity.Tie as tie
@@ -11,10 +10,15 @@ infinity-word-requires : tie.Need-infinity-word-requires
 infinity-word-requires c κs = search needs
 
 signed-requires : tie.Need-signed-requires
-signed-requires c κs = (c .before .pre .0, c .before .pre .1, rw (c .infinity-word .ensures) (infinity-lt (c .before .args .format) (c .before .pre .0)))
+signed-requires c κs = search needs
 
 returns : tie.Need-returns
-returns c = search needs
+returns c =
+    let s = c .before .before in
+    let F = s .args .format in
+    let e = c .before .infinity-word .ensures .0 (s .pre .0) in
+    c .signed .ensures .0 (record { supported = s .pre .0; sign-lt = s .pre .1; magnitude-lt = rw e (infinity-lt F (s .pre .0)) })
+    ∙ ap (signed F (s .args .sign)) e
 
 pub infinity-spec : {M : Type 1} → statement M
 infinity-spec = tie.close (tie.spec infinity-word-requires signed-requires returns)

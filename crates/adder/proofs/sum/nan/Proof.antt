@@ -1,13 +1,19 @@
 -- `adder::sum::nan` meets its contract. Assumes nothing.
-use mathlib.Core.Path.{_≡_, refl, sym, ap, ap₂, _∙_, subst}
-use Prim.Native.Nat.{ℕ, zero, suc, _+_, _-_, _*_, _/_, _%_, _^_, _≤_, _<_}
+use mathlib.Core.Path.{_≡_, ap₂, _∙_}
+use Prim.Native.Nat.{ℕ, _+_, _-_, _%_, _^_}
 use native.Mathlib.Omega.{arith}
 use lib.Pow.{pow-mono}
 use Rattle.bits.proofs.Laws.{power-exact}
-use Rattle.adder.proofs.Bounds.{sign-power, infinity-lt}
+use Rattle.format.specs.declared.Format.{Format}
+use Rattle.format.specs.Format.{Supported}
+use Rattle.word.proofs.Bounds.{place-bits, place-power, infinity-lt}
 use borrow.Author.Needs.{needs}
 use Rattle.adder.proofs.sum.nan.Statement.{statement}
 use Rattle.adder.proofs.sum.nan.Tie as tie
+
+-- the top bit of the fraction
+top : (F : Format) → Supported F → {p : ℕ} → p ≡ 2 ^ (F .f - 1) % 2 ^ 64 → p ≡ 2 ^ (F .f - 1)
+top F ok e = e ∙ power-exact (F .f - 1) (omega (arith, place-bits F ok))
 
 infinity-word-requires : tie.Need-infinity-word-requires
 infinity-word-requires c κs = search needs
@@ -22,12 +28,13 @@ add-result : tie.Need-add-result
 add-result c =
     let s = c .before .before .before in
     let F = s .args .format in
-    omega (arith, c .before .before .infinity-word .ensures, infinity-lt F (s .pre), sign-power F (s .pre), c .power .ensures ∙ power-exact (F .f - 1) (omega (arith, s .pre .f-most)), pow-mono {i = F .f - 1} {j = 23} (omega (arith, s .pre .f-most)))
+    let e = c .before .before .infinity-word .ensures .0 (s .pre) in
+    omega (arith, infinity-lt F (s .pre), place-power F (s .pre), top F (s .pre) (c .power .ensures), pow-mono {i = F .f - 1} {j = 62} (omega (arith, place-bits F (s .pre))))
 
 returns : tie.Need-returns
 returns c =
     let s = c .before .before .before in
-    ap₂ _+_ (c .before .before .infinity-word .ensures) (c .power .ensures ∙ power-exact (s .args .format .f - 1) (omega (arith, s .pre .f-most)))
+    ap₂ _+_ (c .before .before .infinity-word .ensures .0 (s .pre)) (top (s .args .format) (s .pre) (c .power .ensures))
 
 pub nan-spec : {M : Type 1} → statement M
 nan-spec = tie.close (tie.spec infinity-word-requires sub-power power-requires add-result returns)

@@ -2,37 +2,29 @@
 use mathlib.Core.Path.{_≡_, refl, sym, ap, ap₂, _∙_, subst}
 use Prim.Native.Nat.{ℕ, zero, suc, _+_, _-_, _*_, _/_, _%_, _^_, _≤_, _<_}
 use native.Mathlib.Omega.{arith}
-use native.Mathlib.Nat.{lt-of-le-of-lt}
-use mathlib.Core.Bool.{cond}
+use native.Mathlib.Nat.{lt-of-lt-of-le}
 use mathlib.Core.Logic.{_↔_}
 use lib.Pow.{pow-pos, pow-mono}
 use Rattle.format.specs.declared.Format.{Format}
 use Rattle.format.specs.Format.{Supported, precision}
-use Rattle.adder.specs.declared.Finite as record-of
-use Rattle.adder.specs.declared.Unit as exponent
-use Rattle.adder.specs.Word.{unitOf, signed}
-use Rattle.adder.specs.Operand.{magnitude, Canonical}
-use Rattle.adder.specs.Sticky.{withSticky, Held}
-use Rattle.adder.specs.Result.{cancelledSign}
-use Rattle.adder.proofs.Bounds.{exponent-power, fraction-power}
-use Rattle.adder.proofs.Canonical.{gap-le}
-use Rattle.adder.proofs.Align as align
+use Rattle.word.specs.declared.Finite as record-of
+use Rattle.word.specs.declared.Unit as exponent
+use Rattle.word.specs.Word.{unitOf, signed}
+use Rattle.word.specs.Operand.{magnitude, Canonical}
+use Rattle.rounding.specs.Sticky.{withSticky, Held}
+use Rattle.rounding.specs.Rounding.{cancelledSign}
+use Rattle.format.proofs.Room.{significand-room}
+use Rattle.rounding.proofs.Rounded.{cancelled-lt}
+use Rattle.word.proofs.Canonical.{gap-le}
+use Rattle.rounding.proofs.Align as align
 use Rattle.adder.proofs.FiniteSum.{sum-like, sum-unlike, sum-cancelled}
 use borrow.Author.Needs.{needs}
 use Rattle.adder.proofs.sum.ordered_sum.Statement.{statement}
 use Rattle.adder.proofs.sum.ordered_sum.Tie as tie
 
-cancelled-lt : (mode : ℕ) → cancelledSign mode < 2
-unfolding cancelledSign
-cancelled-lt mode = go (lib.Dec.eqb mode 3)
-  where
-    go : (t : mathlib.Core.Bool.Bool) → cond t 1 0 < 2
-    go mathlib.Core.Bool.true = omega arith
-    go mathlib.Core.Bool.false = omega arith
-
 -- a significand has 60 bits at most
 sixty : (F : Format) (r : record-of.Finite) → Supported F → Canonical F r → r .significand < 2 ^ 60
-sixty F r ok c = omega (arith, native.Mathlib.Nat.lt-of-lt-of-le (c .significand-lt) (pow-mono {i = precision F} {j = 24} (omega (arith, ok .f-most))))
+sixty F r ok c = lt-of-lt-of-le (c .significand-lt) (pow-mono {i = precision F} {j = 60} (omega (arith, significand-room F ok)))
 
 -- what the code holds: the units p and q, and the aligned significand t
 module _ (F : Format) (l r : record-of.Finite) (ok : Supported F) (cl : Canonical F l) (cr : Canonical F r) (le : magnitude r ≤ magnitude l)
@@ -95,8 +87,7 @@ unit-of-requires-2 c κs = search needs
 mul-head : tie.Need-mul-head
 mul-head c =
     let s = c .before .before .before in
-    let h = native.Mathlib.Nat.lt-of-lt-of-le (s .pre .1 .significand-lt) (pow-mono {i = precision (s .args .format)} {j = 24} (omega (arith, s .pre .0 .f-most))) in
-    omega arith
+    omega (arith, sixty (s .args .format) (s .args .l) (s .pre .0) (s .pre .1))
 
 sub-aligned : tie.Need-sub-aligned
 sub-aligned c =
@@ -120,26 +111,16 @@ add-rounded c =
     let p = c .before .before .before .before .before .before .before .before .unit-of in
     let q = c .before .before .before .before .before .before .before .unit-of2 in
     let t = c .before .before .before .aligned in
-    omega (arith, sum-lt F l r (s .pre .0) (s .pre .1) (s .pre .2) (s .pre .3) (p .result) (q .result) (p .ensures) (q .ensures) (t .result) (t .ensures .0 (sixty F r (s .pre .0) (s .pre .2))), pow-mono {i = F .f + 5} {j = 28} (omega (arith, s .pre .0 .f-most)))
+    omega (arith, sum-lt F l r (s .pre .0) (s .pre .1) (s .pre .2) (s .pre .3) (p .result) (q .result) (p .ensures) (q .ensures) (t .result) (t .ensures .0 (sixty F r (s .pre .0) (s .pre .2))), pow-mono {i = F .f + 5} {j = 62} (omega (arith, significand-room F (s .pre .0))))
 
 rounded-requires : tie.Need-rounded-requires
-rounded-requires c κs =
-    let s = c .before .before .before .before .before .before .before .before .before in
-    let F = s .args .format in
-    let l = s .args .l in
-    let r = s .args .r in
-    let p = c .before .before .before .before .before .before .before .before .unit-of in
-    let q = c .before .before .before .before .before .before .before .unit-of2 in
-    let t = c .before .before .before .aligned in
-    (s .pre .0, s .pre .1 .sign-lt, unit-lt F l r (s .pre .0) (s .pre .1) (s .pre .2) (s .pre .3) (p .result) (q .result) (p .ensures) (q .ensures), sum-lt F l r (s .pre .0) (s .pre .1) (s .pre .2) (s .pre .3) (p .result) (q .result) (p .ensures) (q .ensures) (t .result) (t .ensures .0 (sixty F r (s .pre .0) (s .pre .2))))
+rounded-requires c κs = search needs
 
 cancelled-sign-requires : tie.Need-cancelled-sign-requires
 cancelled-sign-requires c κs = search needs
 
 signed-requires : tie.Need-signed-requires
-signed-requires c κs =
-    let s = c .before .before .before .before .before .before .before .before .before .before .before in
-    (s .pre .0, rw (c .cancelled-sign .ensures) (cancelled-lt (s .args .mode)), pow-pos (s .args .format .w + s .args .format .f))
+signed-requires c κs = search needs
 
 sub-rounded : tie.Need-sub-rounded
 sub-rounded c =
@@ -153,15 +134,7 @@ sub-rounded c =
     tail-le F l r (s .pre .0) (s .pre .1) (s .pre .2) (s .pre .3) (p .result) (q .result) (p .ensures) (q .ensures) (t .result) (t .ensures .0 (sixty F r (s .pre .0) (s .pre .2)))
 
 rounded-requires-2 : tie.Need-rounded-requires-2
-rounded-requires-2 c κs =
-    let s = c .before .before .before .before .before .before .before .before .before .before in
-    let F = s .args .format in
-    let l = s .args .l in
-    let r = s .args .r in
-    let p = c .before .before .before .before .before .before .before .before .before .unit-of in
-    let q = c .before .before .before .before .before .before .before .before .unit-of2 in
-    let t = c .before .before .before .before .aligned in
-    (s .pre .0, s .pre .1 .sign-lt, unit-lt F l r (s .pre .0) (s .pre .1) (s .pre .2) (s .pre .3) (p .result) (q .result) (p .ensures) (q .ensures), difference-lt F l r (s .pre .0) (s .pre .1) (s .pre .2) (s .pre .3) (p .result) (q .result) (p .ensures) (q .ensures) (t .result) (t .ensures .0 (sixty F r (s .pre .0) (s .pre .2))))
+rounded-requires-2 c κs = search needs
 
 returns : tie.Need-returns
 returns c =
@@ -172,7 +145,7 @@ returns c =
     let p = c .before .before .before .before .before .before .before .before .before .unit-of in
     let q = c .before .before .before .before .before .before .before .before .unit-of2 in
     let t = c .before .before .before .before .aligned in
-    c .rounded .ensures (magnitude l + magnitude r) (sum-held F l r (s .pre .0) (s .pre .1) (s .pre .2) (s .pre .3) (p .result) (q .result) (p .ensures) (q .ensures) (t .result) (t .ensures .0 (sixty F r (s .pre .0) (s .pre .2)))) ∙ sym (sum-like F (s .args .mode) l r (c .before .if1 .taken))
+    c .rounded .ensures .0 (record { supported = s .pre .0; sign-lt = s .pre .1 .sign-lt; unit-lt = unit-lt F l r (s .pre .0) (s .pre .1) (s .pre .2) (s .pre .3) (p .result) (q .result) (p .ensures) (q .ensures); held-lt = sum-lt F l r (s .pre .0) (s .pre .1) (s .pre .2) (s .pre .3) (p .result) (q .result) (p .ensures) (q .ensures) (t .result) (t .ensures .0 (sixty F r (s .pre .0) (s .pre .2))) }) (magnitude l + magnitude r) (sum-held F l r (s .pre .0) (s .pre .1) (s .pre .2) (s .pre .3) (p .result) (q .result) (p .ensures) (q .ensures) (t .result) (t .ensures .0 (sixty F r (s .pre .0) (s .pre .2)))) ∙ sym (sum-like F (s .args .mode) l r (c .before .if1 .taken))
 
 returns-2 : tie.Need-returns-2
 returns-2 c =
@@ -183,7 +156,7 @@ returns-2 c =
     let p = c .before .before .before .before .before .before .before .before .before .before .before .unit-of in
     let q = c .before .before .before .before .before .before .before .before .before .before .unit-of2 in
     let t = c .before .before .before .before .before .before .aligned in
-    c .signed .ensures ∙ ap (λ (n : ℕ). signed F n 0) (c .before .cancelled-sign .ensures) ∙ sym (sum-cancelled F (s .args .mode) l r (c .before .before .before .if1 .left) (equal F l r (s .pre .0) (s .pre .1) (s .pre .2) (s .pre .3) (p .result) (q .result) (p .ensures) (q .ensures) (t .result) (t .ensures .0 (sixty F r (s .pre .0) (s .pre .2))) .1 (c .before .before .if2 .taken)))
+    c .signed .ensures .0 (record { supported = s .pre .0; sign-lt = rw (c .before .cancelled-sign .ensures) (cancelled-lt (s .args .mode)); magnitude-lt = pow-pos (F .w + F .f) }) ∙ ap (λ (n : ℕ). signed F n 0) (c .before .cancelled-sign .ensures) ∙ sym (sum-cancelled F (s .args .mode) l r (c .before .before .before .if1 .left) (equal F l r (s .pre .0) (s .pre .1) (s .pre .2) (s .pre .3) (p .result) (q .result) (p .ensures) (q .ensures) (t .result) (t .ensures .0 (sixty F r (s .pre .0) (s .pre .2))) .1 (c .before .before .if2 .taken)))
 
 returns-3 : tie.Need-returns-3
 returns-3 c =
@@ -195,7 +168,7 @@ returns-3 c =
     let q = c .before .before .before .before .before .before .before .before .before .unit-of2 in
     let t = c .before .before .before .before .before .aligned in
     let ne : magnitude l ≡ magnitude r → ⊥ = λ e. c .before .if2 .left (equal F l r (s .pre .0) (s .pre .1) (s .pre .2) (s .pre .3) (p .result) (q .result) (p .ensures) (q .ensures) (t .result) (t .ensures .0 (sixty F r (s .pre .0) (s .pre .2))) .0 e) in
-    c .rounded2 .ensures (magnitude l - magnitude r) (difference-held F l r (s .pre .0) (s .pre .1) (s .pre .2) (s .pre .3) (p .result) (q .result) (p .ensures) (q .ensures) (t .result) (t .ensures .0 (sixty F r (s .pre .0) (s .pre .2)))) ∙ sym (sum-unlike F (s .args .mode) l r (c .before .before .if1 .left) (omega (arith, s .pre .3, ne)))
+    c .rounded2 .ensures .0 (record { supported = s .pre .0; sign-lt = s .pre .1 .sign-lt; unit-lt = unit-lt F l r (s .pre .0) (s .pre .1) (s .pre .2) (s .pre .3) (p .result) (q .result) (p .ensures) (q .ensures); held-lt = difference-lt F l r (s .pre .0) (s .pre .1) (s .pre .2) (s .pre .3) (p .result) (q .result) (p .ensures) (q .ensures) (t .result) (t .ensures .0 (sixty F r (s .pre .0) (s .pre .2))) }) (magnitude l - magnitude r) (difference-held F l r (s .pre .0) (s .pre .1) (s .pre .2) (s .pre .3) (p .result) (q .result) (p .ensures) (q .ensures) (t .result) (t .ensures .0 (sixty F r (s .pre .0) (s .pre .2)))) ∙ sym (sum-unlike F (s .args .mode) l r (c .before .before .if1 .left) (omega (arith, s .pre .3, ne)))
 
 pub ordered-sum-spec : {M : Type 1} → statement M
 ordered-sum-spec =

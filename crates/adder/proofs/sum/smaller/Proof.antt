@@ -7,9 +7,9 @@ use native.Mathlib.Nat.{le-of-lt}
 use native.Mathlib.Decide.{decLt}
 use lib.Dec.{ltb}
 use Rattle.format.specs.declared.Format.{Format}
-use Rattle.adder.specs.declared.Finite as record-of
-use Rattle.adder.specs.Operand.{magnitude, Canonical}
-use Rattle.adder.proofs.Canonical.{magnitude-lt, magnitude-same}
+use Rattle.word.specs.declared.Finite as record-of
+use Rattle.word.specs.Operand.{magnitude, Canonical}
+use Rattle.word.proofs.Canonical.{magnitude-lt, magnitude-same}
 use Rattle.adder.proofs.sum.smaller.Statement.{statement}
 use Rattle.adder.proofs.sum.smaller.Tie as tie
 

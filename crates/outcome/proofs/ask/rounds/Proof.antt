@@ -8,9 +8,9 @@ use lib.Pow.{pow-pos, pow-mono}
 use Rattle.bits.proofs.Laws.{one-shl}
 use Rattle.mask.specs.declared.Mask.{Mask}
 use Rattle.mask.specs.Mask.{Meets, raised}
-use Rattle.adder.specs.declared.Direction.{Direction}
-use Rattle.adder.specs.declared.Direction.the-variants.{TowardZero, Away}
-use Rattle.adder.specs.Rounding.{roundOff}
+use Rattle.rounding.specs.declared.Direction.{Direction}
+use Rattle.rounding.specs.declared.Direction.the-variants.{TowardZero, Away}
+use Rattle.rounding.specs.Rounding.{roundOff}
 use Rattle.outcome.specs.declared.Aligned as pair
 use Rattle.outcome.specs.Outcome.{Making}
 use Rattle.outcome.proofs.Rounds.{rounds-meets, toward-zero-adds, away-adds}

@@ -8,8 +8,8 @@ use Rattle.bits.specs.Bit.{bit}
 use Rattle.mask.proofs.Bitwise.{bit-case}
 use Rattle.mask.specs.declared.Mask.{Mask}
 use Rattle.mask.specs.Mask.{Meets, raised}
-use Rattle.adder.specs.declared.Direction.the-variants.{Nearest}
-use Rattle.adder.specs.Rounding.{roundOff}
+use Rattle.rounding.specs.declared.Direction.the-variants.{Nearest}
+use Rattle.rounding.specs.Rounding.{roundOff}
 use Rattle.outcome.specs.declared.Aligned as pair
 use Rattle.outcome.specs.Outcome.{Making}
 use Rattle.outcome.proofs.Rounds.{rounds-meets, none-adds}

@@ -5,7 +5,7 @@ use Prim.Native.Nat.{ℕ, _+_, _≤_}
 use native.Mathlib.Omega.{arith}
 use lib.Dec.{ltb}
 use Rattle.mask.specs.Mask.{Meets}
-use Rattle.adder.specs.Word.{signed}
+use Rattle.word.specs.Word.{signed}
 use Rattle.outcome.specs.Width.{alignedBits}
 use Rattle.outcome.specs.Outcome.{boundedHeld}
 use Rattle.outcome.proofs.Room.{columns-lt, unit-short}

@@ -5,9 +5,9 @@ use Prim.Native.Nat.{ℕ, _+_, _%_, _^_, _≤_, _<_}
 use native.Mathlib.Nat.{mod-eq-of-lt}
 use native.Mathlib.Omega.{arith}
 use Rattle.format.specs.declared.Format.{Format}
-use Rattle.adder.specs.declared.Biased.{Biased}
-use Rattle.adder.specs.declared.Unit as exponent
-use Rattle.adder.specs.Word.{fieldOf}
+use Rattle.word.specs.declared.Biased.{Biased}
+use Rattle.word.specs.declared.Unit as exponent
+use Rattle.word.specs.Word.{fieldOf}
 use Rattle.outcome.specs.Width.{sumBits}
 use Rattle.outcome.specs.Outcome.{roundedUnit, InFormat}
 use Rattle.outcome.proofs.Room.{columns-lt, unit-short}

@@ -1,7 +1,7 @@
 -- `outcome::digits::rounded_unit` meets its contract. Assumes nothing.
 use mathlib.Core.Path.{ap}
 use Prim.Native.Nat.{ℕ}
-use Rattle.adder.specs.declared.Unit as exponent
+use Rattle.word.specs.declared.Unit as exponent
 use borrow.Author.Needs.{needs}
 use Rattle.outcome.proofs.digits.rounded_unit.Statement.{statement}
 use Rattle.outcome.proofs.digits.rounded_unit.Tie as tie

@@ -10,7 +10,7 @@ use lib.Arith.{digits-lt}
 use lib.Pow.{pow-add, pow-mono, shr-le}
 use Rattle.mask.specs.declared.Mask.{Mask}
 use Rattle.mask.specs.Mask.{high}
-use Rattle.adder.specs.declared.Unit as exponent
+use Rattle.word.specs.declared.Unit as exponent
 use Rattle.outcome.specs.Width.{columnsOf, shortBits}
 use Rattle.outcome.specs.Question.{topped}
 use Rattle.outcome.proofs.Counted.{counted-asked, counted-refused}

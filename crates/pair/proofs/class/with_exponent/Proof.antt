@@ -7,7 +7,7 @@ use lib.Pow.{pow-pos}
 use Rattle.mask.specs.declared.Mask.{Mask}
 use Rattle.mask.specs.Mask as mask
 use Rattle.mask.proofs.ByBits.{value-below}
-use Rattle.pair.specs.Special.{wordOf}
+use Rattle.word.specs.Word.{wordOf}
 use Rattle.pair.specs.Class.{withExponent}
 use borrow.Author.Needs.{needs}
 use Rattle.pair.proofs.class.with_exponent.Statement.{statement}

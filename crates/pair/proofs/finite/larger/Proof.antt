@@ -9,8 +9,8 @@ use Rattle.mask.specs.Mask.{Meets, meets, WellFormed, low, high}
 use native.Mathlib.Nat.{not-le-of-lt}
 use Rattle.format.specs.declared.Format.{Format}
 use Rattle.format.specs.Format.{Supported, precision}
-use Rattle.adder.specs.declared.Unit as exponent
-use Rattle.adder.specs.Word.{allOnes}
+use Rattle.word.specs.declared.Unit as exponent
+use Rattle.word.specs.Word.{allOnes}
 use Rattle.significand.specs.Significand.{significandMask}
 use Rattle.significand.specs.Tail.{tailMask}
 use Rattle.significand.proofs.Significand.{significand-formed}

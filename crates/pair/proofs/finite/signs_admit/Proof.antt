@@ -12,7 +12,7 @@ use borrow.Author.Tests.{not-true, not-false}
 use lib.Dec.{eqb}
 use Rattle.mask.proofs.ByParts.{fraction-formed}
 use Rattle.job.specs.declared.Job.{Job}
-use Rattle.pair.specs.Asked.{signMask, fractionMask}
+use Rattle.word.specs.Masks.{signMask, fractionMask}
 use Rattle.pair.specs.Pair.{Larger, turned, Posed}
 use borrow.Author.Needs.{needs}
 use Rattle.pair.proofs.finite.signs_admit.Statement.{statement}

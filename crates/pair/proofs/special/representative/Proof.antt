@@ -4,9 +4,10 @@ use Prim.Native.Nat.{_/_, _%_}
 use native.Mathlib.Omega.{arith}
 use Rattle.mask.specs.declared.Mask.{Mask}
 use Rattle.mask.proofs.ByParts.{fraction-formed}
-use Rattle.adder.proofs.Bounds.{word-bits}
-use Rattle.pair.specs.Asked.{fractionMask}
-use Rattle.pair.specs.Special.{wordOf, extreme, representative}
+use Rattle.word.proofs.Widths.{word-bits}
+use Rattle.word.specs.Masks.{fractionMask}
+use Rattle.word.specs.Word.{wordOf}
+use Rattle.pair.specs.Special.{extreme, representative}
 use Rattle.pair.proofs.SpecialWords.{extreme-lt}
 use borrow.Author.Needs.{needs}
 use Rattle.pair.proofs.special.representative.Statement.{statement}

@@ -7,10 +7,9 @@ use lib.Pow.{pow-mono}
 use Rattle.bits.proofs.Laws.{power-exact}
 use Rattle.format.specs.declared.Format.{Format}
 use Rattle.format.specs.Format.{Supported, wordBits}
-use Rattle.adder.proofs.Bounds.{word-bits}
-use Rattle.adder.proofs.Fields.{together-lt}
-use Rattle.adder.proofs.Rounded.{signed-lt}
-use Rattle.pair.specs.Special.{wordOf}
+use Rattle.word.proofs.Widths.{word-bits}
+use Rattle.word.proofs.Fields.{together-lt, signed-lt}
+use Rattle.word.specs.Word.{wordOf}
 use borrow.Author.Needs.{needs}
 use Rattle.pair.proofs.special.word_of.Statement.{statement}
 use Rattle.pair.proofs.special.word_of.Tie as tie

@@ -7,7 +7,7 @@ use lib.Pow.{pow-pos}
 use Rattle.bits.proofs.Laws.{power-exact}
 use Rattle.mask.specs.Mask.{meets}
 use Rattle.mask.proofs.Checks.{meets-true}
-use Rattle.pair.specs.Asked.{fractionMask}
+use Rattle.word.specs.Masks.{fractionMask}
 use Rattle.search.proofs.Keeping.{end-short, end-long}
 use borrow.Author.Needs.{needs}
 use Rattle.search.proofs.classes.class_end.Statement.{statement}

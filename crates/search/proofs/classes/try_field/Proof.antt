@@ -10,7 +10,7 @@ use Rattle.mask.specs.declared.Mask.{Mask}
 use Rattle.mask.specs.Mask.{meets}
 use Rattle.mask.proofs.Checks.{meets-true}
 use Rattle.outcome.specs.Class.{fieldAt}
-use Rattle.pair.specs.Asked.{exponentMask}
+use Rattle.word.specs.Masks.{exponentMask}
 use Rattle.pair.specs.Class.{ClassAsked, ClassAdmits}
 use Rattle.search.specs.Classes.{Never}
 use Rattle.search.proofs.Keeping.{refuse-more, only-asked, only-is}

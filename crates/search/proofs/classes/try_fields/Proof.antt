@@ -6,7 +6,7 @@ use native.Mathlib.Decide.{ℕ-discrete}
 use native.Mathlib.Omega.{arith}
 use Rattle.mask.specs.Mask.{Meets}
 use Rattle.outcome.specs.Class.{fieldAt}
-use Rattle.pair.specs.Asked.{exponentMask}
+use Rattle.word.specs.Masks.{exponentMask}
 use Rattle.search.specs.Classes.{Refuses, Never}
 use Rattle.search.proofs.classes.try_fields.Statement.{statement}
 use Rattle.search.proofs.classes.try_fields.Tie as tie

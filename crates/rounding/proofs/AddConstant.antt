@@ -1,0 +1,67 @@
+-- Rounding off k bits is adding a constant and dropping k bits: nothing toward zero, 2^k - 1 away from zero, and in nearest mode one less
+-- than half a unit and then the last kept bit, which sends a tie to the even neighbour. Assumes nothing.
+use mathlib.Core.Path.{_≡_, sym, ap, _∙_}
+use mathlib.Core.Bool.{cond}
+use Prim.Native.Nat.{ℕ, zero, suc, _+_, _-_, _*_, _/_, _%_, _^_, _<_}
+use native.Mathlib.Nat.{mod-lt, add-zero, div-add-mod', pow-suc, suc-mul}
+use native.Mathlib.Decide.{decLt, ℕ-discrete}
+use native.Mathlib.Omega.{arith}
+use borrow.Author.Tests.{lt-ltb, le-ltb, eq-eqb, ne-eqb}
+use lib.Arith.{digits-div}
+use lib.Dec.{ltb, eqb}
+use lib.Pow.{pow-pos}
+use Rattle.bits.specs.Bit.{bit}
+use Rattle.rounding.specs.declared.Direction.the-variants.{Nearest, TowardZero, Away}
+use Rattle.rounding.specs.Rounding.{increment, roundOff}
+
+pub round-toward-zero : (X k : ℕ) → roundOff TowardZero X k ≡ X / 2 ^ k
+unfolding roundOff increment
+round-toward-zero X k = add-zero (X / 2 ^ k)
+
+-- a number with q units of P and less than a unit more
+quotient : (n q r P : ℕ) → r < P → n ≡ q * P + r → q ≡ n / P
+quotient n q r P h e = sym (ap (λ (m : ℕ). m / P) e ∙ digits-div q h)
+
+pub round-away : (X k : ℕ) → roundOff Away X k ≡ (X + (2 ^ k - 1)) / 2 ^ k
+unfolding roundOff increment
+round-away X k = go (ℕ-discrete (X % 2 ^ k) 0)
+  where
+    go : Dec (X % 2 ^ k ≡ 0) → X / 2 ^ k + cond (eqb (X % 2 ^ k) 0) 0 1 ≡ (X + (2 ^ k - 1)) / 2 ^ k
+    go (yes z) =
+        let pos = pow-pos k in
+        let whole = div-add-mod' X (2 ^ k) in
+        rw (eq-eqb (X % 2 ^ k) 0 z) (add-zero (X / 2 ^ k) ∙ quotient (X + (2 ^ k - 1)) (X / 2 ^ k) (2 ^ k - 1) (2 ^ k) (omega arith) (omega arith))
+    go (no z) =
+        let below = mod-lt X (pow-pos k) in
+        let whole = div-add-mod' X (2 ^ k) in
+        let one = suc-mul (X / 2 ^ k) (2 ^ k) in
+        let n : X / 2 ^ k + 1 ≡ suc (X / 2 ^ k) = omega arith in
+        rw (ne-eqb (X % 2 ^ k) 0 z) (n ∙ quotient (X + (2 ^ k - 1)) (suc (X / 2 ^ k)) (X % 2 ^ k - 1) (2 ^ k) (omega arith) (omega arith))
+
+-- q units of P, twice H, and ρ more: the tests of nearest mode, and the sum with its last kept bit
+module _ (X q ρ H P : ℕ) (halves : P ≡ H * 2) (pos : 0 < H) (below : ρ < P) (whole : q * P + ρ ≡ X) where
+  tie-even : (b : ℕ) → b < 2 → ρ ≡ H → q + b ≡ (X + (H - 1) + b) / P
+  tie-even zero h e = add-zero q ∙ quotient (X + (H - 1) + 0) q (ρ + (H - 1)) P (omega arith) (omega arith)
+  tie-even (suc zero) h e =
+      let n : q + 1 ≡ suc q = omega arith in
+      n ∙ quotient (X + (H - 1) + 1) (suc q) 0 P (omega arith) (omega (arith, suc-mul q P))
+  tie-even (suc (suc b)) h e = absurd (omega arith)
+
+  nearest-by : q + increment Nearest q ρ P ≡ (X + (H - 1) + q % 2) / P
+  unfolding increment
+  nearest-by = go (decLt H ρ) (ℕ-discrete ρ H)
+    where
+      go : Dec (H < ρ) → Dec (ρ ≡ H) → q + cond (ltb P (2 * ρ)) 1 (cond (eqb (2 * ρ) P) (q % 2) 0) ≡ (X + (H - 1) + q % 2) / P
+      go (yes l) e =
+          let n : q + 1 ≡ suc q = omega arith in
+          rw (lt-ltb P (2 * ρ) (omega arith))
+          (n ∙ quotient (X + (H - 1) + q % 2) (suc q) (ρ - H - 1 + q % 2) P (omega arith) (omega (arith, suc-mul q P)))
+      go (no l) (yes e) = rw (le-ltb P (2 * ρ) (omega arith), eq-eqb (2 * ρ) P (omega arith)) (tie-even (q % 2) (omega arith) e)
+      go (no l) (no e) =
+          rw (le-ltb P (2 * ρ) (omega arith), ne-eqb (2 * ρ) P (λ t. omega arith))
+          (add-zero q ∙ quotient (X + (H - 1) + q % 2) q (ρ + (H - 1) + q % 2) P (omega arith) (omega arith))
+
+pub round-nearest : (X j : ℕ) → roundOff Nearest X (suc j) ≡ (X + (2 ^ j - 1) + bit X (suc j)) / 2 ^ suc j
+unfolding roundOff
+round-nearest X j =
+    nearest-by X (X / 2 ^ suc j) (X % 2 ^ suc j) (2 ^ j) (2 ^ suc j) (pow-suc 2 j) (pow-pos j) (mod-lt X (pow-pos (suc j))) (div-add-mod' X (2 ^ suc j))

@@ -1,0 +1,11 @@
+// Rounding a magnitude to a format: directions, significands aligned with a sticky bit, and the rounded word.
+pub mod alignment;
+pub mod mode;
+pub mod round;
+
+// Which neighbour a magnitude is rounded to.
+pub enum Direction {
+    Nearest,
+    TowardZero,
+    Away,
+}

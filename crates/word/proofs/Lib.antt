@@ -1,0 +1,4 @@
+pub mod Bounds
+pub mod Canonical
+pub mod Fields
+pub mod Widths

@@ -1,0 +1,4 @@
+pub mod Word
+pub mod Operand
+pub mod Masks
+pub mod Parts
