@@ -1,6 +1,6 @@
-// Single bits, low parts and quotients of a 64-bit word, for any position.
+// Single bits, low parts and quotients of a 64-bit word, for any position; and a difference that stops at 0.
 ghost use mathlib.Core.Path.{_≡_};
-ghost use Prim.Native.Nat.{_/_, _%_, _^_};
+ghost use Prim.Native.Nat.{_-_, _/_, _%_, _^_};
 ghost use Rattle.bits.specs.Bit.{bit};
 
 // Bit i of x; 0 from position 64 on.
@@ -29,4 +29,11 @@ pub fn low(x: u64, k: u64) -> u64
     ensures { λ r. ⌜ r ≡ x % 2 ^ k ⌝ }
 {
     if k < 64 { x % (1 << k) } else { x }
+}
+
+// a - b, or 0 where b is larger.
+pub fn minus(a: u64, b: u64) -> u64
+    ensures { λ r. ⌜ r ≡ a - b ⌝ }
+{
+    if b < a { a - b } else { 0 }
 }

@@ -19,7 +19,7 @@ use Rattle.columns.proofs.Carry.{carry-zero, sum-high, sum-total}
 use Rattle.mask.specs.declared.Mask.{Mask}
 use Rattle.mask.specs.Mask.{Meets}
 use Rattle.chain.specs.declared.Wires.{Wires}
-use Rattle.chain.specs.Chain.{combined, carryOf, Solved}
+use Rattle.chain.specs.Chain.{combined, carryOf, Solved, Answered}
 use Rattle.chain.specs.Ways.{mem}
 use Rattle.chain.specs.Walk.{servedOf, step}
 use Rattle.chain.proofs.Words.{mem-pow}
@@ -184,8 +184,8 @@ module _ (w : Wires) (n : ℕ) where
           },
         )
 
-  pub sound : Served w n → allows (w .carries .care) (w .carries .value) 0 0 ≡ true → Reached (step w) 4 start n 0 → (l t : ℕ) × Solved w n l t
-  sound v h u =
+  pub sound : Served w n → allows (w .carries .care) (w .carries .value) 0 0 ≡ true → Reached (step w) 4 start n 0 → n < 64 → Answered w n
+  sound v h u few =
       let p = u .L in
       let t = u .R in
       let hc = v .carry-bit in
@@ -193,7 +193,7 @@ module _ (w : Wires) (n : ℕ) where
       let ends : run (step w) (state w p t hc 0) n p t ≡ 0 = ap (λ (s : ℕ). run (step w) s n p t) (sym from) ∙ u .ends in
       let g = alive-good w p t hc h n (subst (λ (s : ℕ). s < 4) (sym ends) (omega arith)) in
       let fit = ends-fit p t hc (u .L-lt) (u .R-lt) (v .constant-lt) .0 (sym (g .0) ∙ ends) in
-      (l-of t (w .subtract) p, t, solved p t hc v (u .R-lt) (fit .0) (fit .1) (g .1))
+      record { columns-lt = few; carry-lt = hc; l = l-of t (w .subtract) p; t = t; solved = solved p t hc v (u .R-lt) (fit .0) (fit .1) (g .1) }
 
   pub complete : w .carry < 2 → (l t : ℕ) → Solved w n l t → Reached (step w) 4 start n 0
   complete hc l t a =

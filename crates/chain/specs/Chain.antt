@@ -31,3 +31,11 @@ pub record Solved (wires : Wires) (n l t : ℕ) : Type 0 where
   pub x-meets : Meets (combined (wires .subtract) l t) (wires .x)
   pub z-meets : Meets (combined (wires .subtract) l t + wires .constant + wires .carry) (wires .z)
   pub carries-allow : (i : ℕ) → i ≤ n → allows (wires .carries .care) (wires .carries .value) i (carryOf (wires .subtract) l t i) ≡ true
+
+-- some l and t answer the question; the carry is a bit, and the columns fit a word of 64 bits
+pub record Answered (wires : Wires) (n : ℕ) : Type 0 where
+  pub columns-lt : n < 64
+  pub carry-lt : wires .carry < 2
+  pub l : ℕ
+  pub t : ℕ
+  pub solved : Solved wires n l t

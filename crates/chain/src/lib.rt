@@ -6,8 +6,9 @@ mod ways;
 
 ghost use mathlib.Core.Path.{_≡_};
 ghost use mathlib.Core.Bool.{true};
-ghost use Prim.Native.Nat.{ℕ, _<_};
-ghost use Rattle.chain.specs.Chain.{Solved};
+ghost use mathlib.Core.Logic.{_↔_};
+ghost use Prim.Native.Nat.{_<_};
+ghost use Rattle.chain.specs.Chain.{Answered};
 ghost use Rattle.chain.specs.Walk.{servedOf};
 
 pub struct Wires {
@@ -37,8 +38,7 @@ fn served(w: Wires, n: u64) -> bool
 
 // Whether there are numbers l and t of n bits that meet every mask; false for 64 bits or more, and for a carry that is no bit.
 pub fn possible(wires: Wires, n: u64) -> bool
-    ensures sound { λ r. ⌜ (r ≡ true → (l t : ℕ) × Solved wires n l t) ⌝ }
-    ensures complete { λ r. ⌜ (n < 64 → wires .carry < 2 → (l t : ℕ) → Solved wires n l t → r ≡ true) ⌝ }
+    ensures { λ r. ⌜ (r ≡ true) ↔ Answered wires n ⌝ }
 {
     if 64 <= n {
         return false;

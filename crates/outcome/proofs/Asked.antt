@@ -18,9 +18,10 @@ use Rattle.mask.specs.Mask.{Meets, raised}
 use Rattle.mask.proofs.ByBits.{value-below}
 use Rattle.columns.specs.Column.{allows}
 use Rattle.chain.specs.declared.Wires.{Wires}
-use Rattle.chain.specs.Chain.{combined, carryOf, Solved}
+use Rattle.chain.specs.Chain.{combined, carryOf, Solved, Answered}
 use Rattle.outcome.specs.declared.Aligned as pair
-use Rattle.outcome.specs.Question.{Formed, Making}
+use Rattle.outcome.specs.Width.{columnsOf, mostRounded, shortBits}
+use Rattle.outcome.specs.Outcome.{Formed, Making}
 
 -- the wires of a question
 abbrev pub wiresOf : pair.Aligned → Mask → Mask → Mask → ℕ → ℕ → Wires
@@ -54,7 +55,7 @@ pub combined-lt : (subtract : Bool) (l t k : ℕ) → l < 2 ^ k → t < 2 ^ k �
 combined-lt true l t k hl ht = lt-of-le-of-lt (sub-le l t) (lt-of-lt-of-le hl (pow-mono {i = k} {j = suc k} (omega arith)))
 combined-lt false l t k hl ht = add-lt-pow k hl ht
 
-module _ (f : ℕ) (A : pair.Aligned) (formed : Formed f A) (most : f ≤ 23) (x z : Mask) (constant carry : ℕ) where
+module _ (f : ℕ) (A : pair.Aligned) (formed : Formed f A) (most : columnsOf f < 64) (x z : Mask) (constant carry : ℕ) where
   below : (n : ℕ) → n < 2 ^ (f + 6) → n < 2 ^ 63
   below n h = lt-of-lt-of-le h (pow-mono {i = f + 6} {j = 63} (omega arith))
 
@@ -126,18 +127,23 @@ module _ (f : ℕ) (A : pair.Aligned) (formed : Formed f A) (most : f ≤ 23) (x
       five k = omega arith
 
 -- an answer of the chain, where the carry mask is moved up by 4 places unless that loses bits
-pub asked : (f : ℕ) (A : pair.Aligned) (carries x z : Mask) (constant carry : ℕ) (r : Bool) → (f ≤ 23) × (constant < 16) × (carry < 2)
-    → (A .carries .care < 2 ^ 60 → A .carries .value < 2 ^ 60 → carries ≡ raised 4 (A .carries))
-    → (r ≡ true → (l t : ℕ) × Solved (wiresOf A carries x z constant carry) (f + 6) l t)
-    → (f + 6 < 64 → carry < 2 → (l t : ℕ) → Solved (wiresOf A carries x z constant carry) (f + 6) l t → r ≡ true)
+pub asked : (f : ℕ) (A : pair.Aligned) (carries x z : Mask) (constant carry : ℕ) (r : Bool) → (columnsOf f < 64) × (constant < 2 ^ mostRounded) × (carry < 2)
+    → (A .carries .care < 2 ^ shortBits → A .carries .value < 2 ^ shortBits → carries ≡ raised 4 (A .carries))
+    → (r ≡ true) ↔ Answered (wiresOf A carries x z constant carry) (columnsOf f)
     → Formed f A → (r ≡ true) ↔ Making f A (λ (n : ℕ). Meets n x × Meets (n + constant + carry) z)
-asked f A carries x z constant carry r pre moved sound complete formed = (
-  (λ e. let s = sound e in asked-sound f A formed (pre .0) x z constant carry (s .0) (s .1) (rw same at (s .2))),
-  λ m. complete (omega arith) (pre .2) (m .made .H) (m .made .T) (rw same (asked-complete f A formed (pre .0) x z constant carry (pre .1) (pre .2) m)),
+asked f A carries x z constant carry r pre moved answer formed = (
+  (λ e. let s = answer .0 e in asked-sound f A formed (pre .0) x z constant carry (s .l) (s .t) (rw same at (s .solved))),
+  λ m. answer .1 (record {
+    columns-lt = pre .0;
+    carry-lt = pre .2;
+    l = m .made .H;
+    t = m .made .T;
+    solved = rw same (asked-complete f A formed (pre .0) x z constant carry (pre .1) (pre .2) m);
+  }),
 )
   where
-    short : 2 ^ (f + 1) ≤ 2 ^ 60
-    short = pow-mono {i = f + 1} {j = 60} (omega arith)
+    short : 2 ^ (f + 1) ≤ 2 ^ shortBits
+    short = pow-mono {i = f + 1} {j = shortBits} (omega arith)
 
     same : carries ≡ raised 4 (A .carries)
     same = moved (lt-of-lt-of-le (formed .carries .below) short) (lt-of-lt-of-le (value-below (f + 1) (A .carries) (formed .carries)) short)

@@ -18,48 +18,47 @@ use Rattle.format.specs.declared.Format.{Format}
 use Rattle.mask.specs.declared.Mask.{Mask}
 use Rattle.mask.specs.Mask.{Meets, meets, high}
 use Rattle.mask.proofs.Checks.{meets-true}
+use Rattle.word.specs.declared.Biased.{Biased}
 use Rattle.rounding.specs.declared.Direction.{Direction}
-use Rattle.word.specs.Word.{signed}
+use Rattle.word.specs.declared.Unit as exponent
+use Rattle.word.specs.Word.{fieldOf, signed}
 use Rattle.rounding.specs.Rounding.{roundOff, direction}
 use Rattle.rounding.proofs.Size.{size-zero}
 use Rattle.outcome.specs.declared.Aligned as pair
 use Rattle.outcome.specs.declared.sought.Fractions as fractions-of
-use Rattle.outcome.specs.Outcome.{boundedHeld, zeroSign, outcome}
-use Rattle.outcome.specs.Question.{Made, Making, topped, OfDigits, keptOf, wordOf, Seeks}
+use Rattle.outcome.specs.Width.{alignedBits, sumBits, columnsOf}
+use Rattle.outcome.specs.Outcome.{roundedUnit, keptOf, boundedHeld, zeroSign, outcome, Made, Making}
+use Rattle.outcome.specs.Question.{topped, OfDigits, wordOf, Seeks}
 use Rattle.outcome.proofs.Topped.{topped-meets, size-none, anything}
-use Rattle.outcome.proofs.Kept.{kept-shifted, kept-lt, quotient-low, quotient-high}
+use Rattle.outcome.proofs.Kept.{roundedBits, addedZeros, kept-shifted, kept-lt, quotient-low, quotient-high}
 use Rattle.outcome.proofs.Fields.{held-word}
 use Rattle.outcome.proofs.Rounds.{zeros-meets}
 use Rattle.outcome.proofs.Making.{some-made, none-made, making-map, making-answer}
 use Rattle.outcome.proofs.Range.{made-most}
 
 -- what is made has fewer bits than the chain has columns
-made-lt : (f : ℕ) (A : pair.Aligned) (n : ℕ) → Made f A n → n < 2 ^ (f + 6)
-made-lt f A n made = lt-of-lt-of-le (size-lt n) (pow-mono {i = size n} {j = f + 6} (omega (arith, made-most f A n made)))
+made-lt : (f : ℕ) (A : pair.Aligned) (n : ℕ) → Made f A n → n < 2 ^ columnsOf f
+made-lt f A n made = lt-of-lt-of-le (size-lt n) (pow-mono {i = size n} {j = columnsOf f} (omega (arith, made-most f A n made)))
 
--- the last kept bit weighs 2 to this power eighths of a step, as bit 0 of x weighs 2^u of them
-abbrev pub placeOf : ℕ → ℕ → ℕ → ℕ
-placeOf f u count = count + u - (f + 4) + 3
-
-module _ (f : ℕ) (d : Direction) (u q : ℕ) (fraction : Mask) (hc : fraction .care < 2 ^ f) (hv : fraction .value < 2 ^ f) where
+module _ (f : ℕ) (d : Direction) (u : exponent.Unit) (q : ℕ) (fraction : Mask) (hc : fraction .care < 2 ^ f) (hv : fraction .value < 2 ^ f) where
   -- for one number
-  pub kept-meets : (n count : ℕ) → 0 < count → count ≤ f + 5 → size n ≡ count
+  pub kept-meets : (n count : ℕ) → 0 < count → count ≤ sumBits f → size n ≡ count
       → ((keptOf f d n u / 2 ^ f ≡ q) × Meets (keptOf f d n u % 2 ^ f) fraction)
-      ↔ ((topped 2 f q fraction .value % 2 ^ (u - placeOf f u count) ≡ 0) × Meets (roundOff d n (placeOf f u count - u)) (high (u - placeOf f u count) (topped 2 f q fraction)))
+      ↔ ((topped 2 f q fraction .value % 2 ^ (addedZeros f count u) ≡ 0) × Meets (roundOff d n (roundedBits f count u)) (high (addedZeros f count u) (topped 2 f q fraction)))
   kept-meets n zero some most digits = absurd (omega arith)
   kept-meets n (suc m) some most digits =
       let top = topped-meets 2 f q (keptOf f d n u) fraction hc hv (kept-lt f d n u m digits most) in
-      let zeros = zeros-meets (u - placeOf f u (suc m)) (roundOff d n (placeOf f u (suc m) - u)) (topped 2 f q fraction) in
+      let zeros = zeros-meets (addedZeros f (suc m) u) (roundOff d n (roundedBits f (suc m) u)) (topped 2 f q fraction) in
       let e = kept-shifted f d n u m digits most in (
         (λ p. zeros .0 (subst (λ (y : ℕ). Meets y (topped 2 f q fraction)) e (top .1 p))),
         λ p. top .0 (subst (λ (y : ℕ). Meets y (topped 2 f q fraction)) (sym e) (zeros .1 p)),
       )
 
-  module _ (A : pair.Aligned) (count : ℕ) (possible : Bool) (some : 0 < count) (most : count ≤ f + 5) (m : Mask) (up : ℕ)
-      (em : m ≡ topped 2 f q fraction) (eup : up ≡ u - placeOf f u count) where
+  module _ (A : pair.Aligned) (count : ℕ) (possible : Bool) (some : 0 < count) (most : count ≤ sumBits f) (m : Mask) (up : ℕ)
+      (em : m ≡ topped 2 f q fraction) (eup : up ≡ addedZeros f count u) where
     -- for any number: the mask leaves the zeros below, and the rest is asked
-    pub counted-asked : (down : ℕ) (x y : Mask) (r : Bool) → possible ≡ true → down ≡ placeOf f u count - u → m .value % 2 ^ up ≡ 0
-        → OfDigits (f + 6) count x → y ≡ high up m
+    pub counted-asked : (down : ℕ) (x y : Mask) (r : Bool) → possible ≡ true → down ≡ roundedBits f count u → m .value % 2 ^ up ≡ 0
+        → OfDigits (columnsOf f) count x → y ≡ high up m
         → ((r ≡ true) ↔ Making f A (λ (n : ℕ). Meets n x × Meets (roundOff d n down) y))
         → (r ≡ true) ↔ Making f A (λ (n : ℕ). (size n ≡ count) × (keptOf f d n u / 2 ^ f ≡ q) × (possible ≡ true) × Meets (keptOf f d n u % 2 ^ f) fraction)
     counted-asked down x y r able edown zeros digits ey asks =
@@ -67,10 +66,10 @@ module _ (f : ℕ) (d : Direction) (u q : ℕ) (fraction : Mask) (hc : fraction 
         (λ (n : ℕ). (size n ≡ count) × (keptOf f d n u / 2 ^ f ≡ q) × (possible ≡ true) × Meets (keptOf f d n u % 2 ^ f) fraction) r
         (λ n made. (there n made, back n made)) asks
       where
-        mask : y ≡ high (u - placeOf f u count) (topped 2 f q fraction)
+        mask : y ≡ high (addedZeros f count u) (topped 2 f q fraction)
         mask = ey ∙ ap₂ high eup em
 
-        none : topped 2 f q fraction .value % 2 ^ (u - placeOf f u count) ≡ 0
+        none : topped 2 f q fraction .value % 2 ^ (addedZeros f count u) ≡ 0
         none = sym (ap₂ (λ (v : Mask) (k : ℕ). v .value % 2 ^ k) em eup) ∙ zeros
 
         there : (n : ℕ) → Made f A n → Meets n x × Meets (roundOff d n down) y
@@ -95,8 +94,8 @@ module _ (f : ℕ) (d : Direction) (u q : ℕ) (fraction : Mask) (hc : fraction 
         never (ap₂ (λ (v : Mask) (k : ℕ). v .value % 2 ^ k) em eup ∙ k .0))
 
 -- the word of a number of so many digits with a quotient above the fraction
-pub quotient-asked : (F : Format) (d : Direction) (s u : ℕ) (A : pair.Aligned) (c : Mask) (count q e : ℕ) (so : fractions-of.Fractions) (r : Bool)
-    → e ≡ count + u - (F .f + 4) + q → Seeks F d s c e so
+pub quotient-asked : (F : Format) (d : Direction) (s : ℕ) (u : exponent.Unit) (A : pair.Aligned) (c : Mask) (count q : ℕ) (e : Biased) (so : fractions-of.Fractions) (r : Bool)
+    → e ≡ fieldOf (roundedUnit (F .f) count u) q → Seeks F d s c e so
     → ((r ≡ true) ↔ Making (F .f) A (λ (n : ℕ). (size n ≡ count) × (keptOf (F .f) d n u / 2 ^ F .f ≡ q) × (so .possible ≡ true) × Meets (keptOf (F .f) d n u % 2 ^ F .f) (so .fraction)))
     → (r ≡ true) ↔ Making (F .f) A (λ (n : ℕ). (size n ≡ count) × (keptOf (F .f) d n u / 2 ^ F .f ≡ q) × Meets (signed F s (boundedHeld F d n u)) c)
 quotient-asked F d s u A c count q e so r ee seeks asks =
@@ -115,24 +114,24 @@ quotient-asked F d s u A c count q e so r ee seeks asks =
     word : (n : ℕ) → size n ≡ count → keptOf (F .f) d n u / 2 ^ F .f ≡ q → signed F s (boundedHeld F d n u) ≡ wordOf F d s e (keptOf (F .f) d n u % 2 ^ F .f)
     word n es eq =
         held-word F d s n u
-        ∙ ap (λ (k : ℕ). wordOf F d s k (keptOf (F .f) d n u % 2 ^ F .f)) (ap₂ (λ (m k : ℕ). m + u - (F .f + 4) + k) es eq ∙ sym ee)
+        ∙ ap (λ (k : Biased). wordOf F d s k (keptOf (F .f) d n u % 2 ^ F .f)) (ap₂ (λ (m k : ℕ). fieldOf (roundedUnit (F .f) m u) k) es eq ∙ sym ee)
 
 -- the two quotients
-module _ (f : ℕ) (d : Direction) (u least : ℕ) where
-  quotients : (n count : ℕ) → 0 < count → count ≤ f + 5 → size n ≡ count → least ≡ cond (ltb (count + u) (f + 4)) 0 1
+module _ (f : ℕ) (d : Direction) (u : exponent.Unit) (least : ℕ) where
+  quotients : (n count : ℕ) → 0 < count → count ≤ sumBits f → size n ≡ count → least ≡ cond (ltb (count + u .0) (alignedBits f)) 0 1
       → (keptOf f d n u / 2 ^ f ≡ least) ⊎ (keptOf f d n u / 2 ^ f ≡ least + 1)
   quotients n zero some most digits e = absurd (omega arith)
-  quotients n (suc m) some most digits e = go (decLt (suc m + u) (f + 4))
+  quotients n (suc m) some most digits e = go (decLt (suc m + u .0) (alignedBits f))
     where
-      go : Dec (suc m + u < f + 4) → (keptOf f d n u / 2 ^ f ≡ least) ⊎ (keptOf f d n u / 2 ^ f ≡ least + 1)
+      go : Dec (suc m + u .0 < alignedBits f) → (keptOf f d n u / 2 ^ f ≡ least) ⊎ (keptOf f d n u / 2 ^ f ≡ least + 1)
       go (yes h) =
-          let l : least ≡ 0 = e ∙ ap (λ (b : Bool). cond b 0 1) (lt-ltb (suc m + u) (f + 4) h) in
+          let l : least ≡ 0 = e ∙ ap (λ (b : Bool). cond b 0 1) (lt-ltb (suc m + u .0) (alignedBits f) h) in
           ⊎-elim (λ z. inl (z ∙ sym l)) (λ z. inr (omega arith)) (quotient-low f d n u m digits most h)
       go (no h) =
-          let l : least ≡ 1 = e ∙ ap (λ (b : Bool). cond b 0 1) (le-ltb (suc m + u) (f + 4) (omega arith)) in
+          let l : least ≡ 1 = e ∙ ap (λ (b : Bool). cond b 0 1) (le-ltb (suc m + u .0) (alignedBits f) (omega arith)) in
           ⊎-elim (λ z. inl (z ∙ sym l)) (λ z. inr (omega arith)) (quotient-high f d n u m digits most (omega arith))
 
-  module _ (A : pair.Aligned) (count : ℕ) (W : ℕ → Type 0) (some : 0 < count) (most : count ≤ f + 5) (e : least ≡ cond (ltb (count + u) (f + 4)) 0 1) (r : Bool)
+  module _ (A : pair.Aligned) (count : ℕ) (W : ℕ → Type 0) (some : 0 < count) (most : count ≤ sumBits f) (e : least ≡ cond (ltb (count + u .0) (alignedBits f)) 0 1) (r : Bool)
       (asks : (r ≡ true) ↔ Making f A (λ (n : ℕ). (size n ≡ count) × (keptOf f d n u / 2 ^ f ≡ least) × W n)) where
     pub first-quotient : r ≡ true → (true ≡ true) ↔ Making f A (λ (n : ℕ). (size n ≡ count) × W n)
     first-quotient t = some-made f A (λ (n : ℕ). (size n ≡ count) × W n) (making-map f A (λ (n : ℕ). (size n ≡ count) × (keptOf f d n u / 2 ^ f ≡ least) × W n) (λ (n : ℕ). (size n ≡ count) × W n) (λ n p. (p .0, p .2)) (asks .0 t))
@@ -148,7 +147,7 @@ module _ (f : ℕ) (d : Direction) (u least : ℕ) where
     )
 
 -- the word of 0, and of any other number
-module _ (F : Format) (mode : ℕ) (like : Bool) (s u : ℕ) where
+module _ (F : Format) (mode : ℕ) (like : Bool) (s : ℕ) (u : exponent.Unit) where
   outcome-zero : (n : ℕ) → size n ≡ 0 → outcome F mode like s u n ≡ signed F (zeroSign mode like s) 0
   unfolding outcome
   outcome-zero n e = ap (outcome F mode like s u) (size-none n .0 e)
@@ -159,7 +158,7 @@ module _ (F : Format) (mode : ℕ) (like : Bool) (s u : ℕ) where
   outcome-some (suc n) h = refl
 
   module _ (A : pair.Aligned) (c : Mask) where
-    pub zero-asked : (word : ℕ) (x : Mask) (r : Bool) → word ≡ signed F (zeroSign mode like s) 0 → meets word c ≡ true → OfDigits (F .f + 6) 0 x
+    pub zero-asked : (word : ℕ) (x : Mask) (r : Bool) → word ≡ signed F (zeroSign mode like s) 0 → meets word c ≡ true → OfDigits (columnsOf (F .f)) 0 x
         → ((r ≡ true) ↔ Making (F .f) A (λ (n : ℕ). Meets n x × Meets (n + 0 + 0) anything))
         → (r ≡ true) ↔ Making (F .f) A (λ (n : ℕ). (size n ≡ 0) × Meets (outcome F mode like s u n) c)
     zero-asked word x r ew met digits asks =

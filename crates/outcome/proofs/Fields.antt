@@ -11,6 +11,7 @@ use native.Mathlib.Omega.{arith}
 use borrow.Author.Tests.{lt-ltb, le-ltb}
 use lib.Bits.{and-zero-r}
 use lib.Dec.{ltb}
+use lib.Ieee.{size}
 use lib.Pow.{pow-pos, pow-add, split, high, low}
 use Rattle.format.specs.declared.Format.{Format}
 use Rattle.mask.specs.declared.Mask.{Mask}
@@ -18,11 +19,13 @@ use Rattle.mask.specs.Mask as mask
 use Rattle.mask.specs.Mask.{Meets}
 use Rattle.mask.proofs.ByParts.{meets-parts}
 use Rattle.mask.proofs.Checks.{meets-true}
+use Rattle.word.specs.declared.Biased.{Biased}
 use Rattle.rounding.specs.declared.Direction.{Direction}
-use Rattle.word.specs.Word.{allOnes, signed, infinityWord}
+use Rattle.word.specs.declared.Unit as exponent
+use Rattle.word.specs.Word.{fieldOf, allOnes, signed, infinityWord}
 use Rattle.rounding.specs.Rounding.{overflowWord}
-use Rattle.outcome.specs.Outcome.{droppedOf, heldWord, boundedHeld}
-use Rattle.outcome.specs.Question.{keptOf, wordOf, Seeks}
+use Rattle.outcome.specs.Outcome.{roundedUnit, keptOf, heldWord, boundedHeld}
+use Rattle.outcome.specs.Question.{wordOf, Seeks}
 use Rattle.outcome.proofs.Topped.{anything}
 
 -- k and a part Y make the exponent field k + Y / 2^f and the fraction Y % 2^f
@@ -32,22 +35,25 @@ apart f k Y =
     let m = add-mul k (Y / 2 ^ f) (2 ^ f) in
     omega arith
 
-pub held-word : (F : Format) (d : Direction) (s x u : ℕ)
-    → signed F s (boundedHeld F d x u) ≡ wordOf F d s (droppedOf F x u + keptOf (F .f) d x u / 2 ^ F .f) (keptOf (F .f) d x u % 2 ^ F .f)
+pub held-word : (F : Format) (d : Direction) (s x : ℕ) (u : exponent.Unit)
+    → signed F s (boundedHeld F d x u) ≡ wordOf F d s (fieldOf (roundedUnit (F .f) (size x) u) (keptOf (F .f) d x u / 2 ^ F .f)) (keptOf (F .f) d x u % 2 ^ F .f)
 unfolding boundedHeld
 held-word F d s x u = ap (signed F s) (go (decLt e (allOnes F)))
   where
     Y : ℕ
     Y = keptOf (F .f) d x u
 
+    k : ℕ
+    k = roundedUnit (F .f) (size x) u .0
+
     e : ℕ
-    e = droppedOf F x u + Y / 2 ^ F .f
+    e = k + Y / 2 ^ F .f
 
     whole : heldWord F d x u ≡ e * 2 ^ F .f + Y % 2 ^ F .f
-    whole = apart (F .f) (droppedOf F x u) Y
+    whole = apart (F .f) k Y
 
     quotient : heldWord F d x u / 2 ^ F .f ≡ e
-    quotient = mul-add-div-right (pow-pos (F .f)) (droppedOf F x u) Y
+    quotient = mul-add-div-right (pow-pos (F .f)) k Y
 
     go : Dec (e < allOnes F)
         → cond (ltb (heldWord F d x u) (infinityWord F)) (heldWord F d x u) (overflowWord F d)
@@ -64,44 +70,44 @@ held-word F d s x u = ap (signed F s) (go (decLt e (allOnes F)))
         past (no l) = omega arith
 
 -- a word within the format, and one past it
-module _ (F : Format) (d : Direction) (s e t : ℕ) (c : Mask) where
-  pub within-meets : e < allOnes F → t < 2 ^ F .f
-      → Meets (wordOf F d s e t) c ↔ (Meets (s * 2 ^ F .w + e) (mask.high (F .f) c) × Meets t (mask.low (F .f) c))
+module _ (F : Format) (d : Direction) (s : ℕ) (e : Biased) (t : ℕ) (c : Mask) where
+  pub within-meets : e .0 < allOnes F → t < 2 ^ F .f
+      → Meets (wordOf F d s e t) c ↔ (Meets (s * 2 ^ F .w + e .0) (mask.high (F .f) c) × Meets t (mask.low (F .f) c))
   within-meets h l = (
     (λ met. let p = parts .0 (rw word at met) in (p .1, p .0)),
     λ p. rw word (parts .1 (p .1, p .0)),
   )
     where
-      word : wordOf F d s e t ≡ (s * 2 ^ F .w + e) * 2 ^ F .f + t
+      word : wordOf F d s e t ≡ (s * 2 ^ F .w + e .0) * 2 ^ F .f + t
       word =
           let p = pow-add 2 (F .w) (F .f) in
           let a = mul-assoc s (2 ^ F .w) (2 ^ F .f) in
-          let m = add-mul (s * 2 ^ F .w) e (2 ^ F .f) in
+          let m = add-mul (s * 2 ^ F .w) (e .0) (2 ^ F .f) in
           let q = ap (_*_ s) p in
-          rw (lt-ltb e (allOnes F) h) (omega arith)
+          rw (lt-ltb (e .0) (allOnes F) h) (omega arith)
 
-      parts : Meets ((s * 2 ^ F .w + e) * 2 ^ F .f + t) c ↔ (Meets t (mask.low (F .f) c) × Meets (s * 2 ^ F .w + e) (mask.high (F .f) c))
-      parts = rw (low (s * 2 ^ F .w + e) (F .f) l, high (s * 2 ^ F .w + e) (F .f) l) at (meets-parts (F .f) ((s * 2 ^ F .w + e) * 2 ^ F .f + t) c)
+      parts : Meets ((s * 2 ^ F .w + e .0) * 2 ^ F .f + t) c ↔ (Meets t (mask.low (F .f) c) × Meets (s * 2 ^ F .w + e .0) (mask.high (F .f) c))
+      parts = rw (low (s * 2 ^ F .w + e .0) (F .f) l, high (s * 2 ^ F .w + e .0) (F .f) l) at (meets-parts (F .f) ((s * 2 ^ F .w + e .0) * 2 ^ F .f + t) c)
 
-  pub past-word : allOnes F ≤ e → wordOf F d s e t ≡ signed F s (overflowWord F d)
-  past-word h = rw (le-ltb e (allOnes F) h)
+  pub past-word : allOnes F ≤ e .0 → wordOf F d s e t ≡ signed F s (overflowWord F d)
+  past-word h = rw (le-ltb (e .0) (allOnes F) h)
 
 -- what is sought of the fraction
-module _ (F : Format) (d : Direction) (s e : ℕ) (c : Mask) (possible : Bool) (fraction : Mask) where
-  pub within-seeks : e < allOnes F → possible ≡ mask.meets (s * 2 ^ F .w + e) (mask.high (F .f) c) → fraction ≡ mask.low (F .f) c
+module _ (F : Format) (d : Direction) (s : ℕ) (e : Biased) (c : Mask) (possible : Bool) (fraction : Mask) where
+  pub within-seeks : e .0 < allOnes F → possible ≡ mask.meets (s * 2 ^ F .w + e .0) (mask.high (F .f) c) → fraction ≡ mask.low (F .f) c
       → Seeks F d s c e (record { possible = possible; fraction = fraction })
   within-seeks h p q = record {
     care-lt = rw q (mod-lt (c .care) (pow-pos (F .f)));
     value-lt = rw q (mod-lt (c .value) (pow-pos (F .f)));
     meets = λ t l.
         let w = within-meets F d s e t c h l in
-        let k = meets-true (s * 2 ^ F .w + e) (mask.high (F .f) c) in (
+        let k = meets-true (s * 2 ^ F .w + e .0) (mask.high (F .f) c) in (
           (λ met. let r = w .0 met in (p ∙ k .1 (r .0), rw q (r .1))),
           λ r. w .1 (k .0 (sym p ∙ r .0), rw q at (r .1)),
         );
   }
 
-  pub past-seeks : allOnes F ≤ e → possible ≡ mask.meets (signed F s (overflowWord F d)) c → fraction ≡ anything
+  pub past-seeks : allOnes F ≤ e .0 → possible ≡ mask.meets (signed F s (overflowWord F d)) c → fraction ≡ anything
       → Seeks F d s c e (record { possible = possible; fraction = fraction })
   past-seeks h p q = record {
     care-lt = rw q (pow-pos (F .f));

@@ -14,10 +14,12 @@ use lib.Ieee.{size}
 use lib.Ieee.Digits.{size-lt, size-reaches}
 use lib.Pow.{pow-pos, pow-add, pow-mono, shl-lt, shr-lt}
 use Rattle.rounding.specs.declared.Direction.{Direction}
+use Rattle.word.specs.declared.Unit as exponent
 use Rattle.rounding.specs.Rounding.{roundOff}
 use Rattle.rounding.specs.Sticky.{keptPart}
 use Rattle.rounding.proofs.RoundOff.{increment-le, round-off-none, round-off-scale}
-use Rattle.outcome.specs.Question.{keptOf}
+use Rattle.outcome.specs.Width.{guardBits, alignedBits, sumBits}
+use Rattle.outcome.specs.Outcome.{roundedUnit, keptOf}
 
 -- nothing or three bits fewer than u - k, and four bits after a carry
 pub kept-scaled : (d : Direction) (x u k : ℕ) → k ≤ suc u → keptPart d x u k ≡ roundOff d x (k + 3 - u) * 2 ^ (u - (k + 3))
@@ -82,23 +84,33 @@ module _ (d : Direction) (x j s : ℕ) (either : (j ≡ 0) ⊎ (s ≡ 0)) where
           let q = le-div-iff-mul-le {k = 2 ^ j} {x = 2 ^ b} {y = x} (pow-pos j) .1 (omega arith) in
           omega arith
 
--- a number x of n + 1 digits, at most f + 5
-module _ (f : ℕ) (d : Direction) (x u n : ℕ) (digits : size x ≡ suc n) (most : suc n ≤ f + 5) where
-  pub kept-shifted : keptOf f d x u ≡ roundOff d x (suc n + u - (f + 4) + 3 - u) * 2 ^ (u - (suc n + u - (f + 4) + 3))
-  kept-shifted = ap (λ (m : ℕ). keptPart d x u (m + u - (f + 4))) digits ∙ kept-scaled d x u (suc n + u - (f + 4)) (omega arith)
+-- the bits of x that are rounded off for a number of N digits, and the zeros that are added
+abbrev pub placeOf : ℕ → ℕ → exponent.Unit → ℕ
+placeOf f N u = roundedUnit f N u .0 + guardBits
 
-  either : (suc n + u - (f + 4) + 3 - u ≡ 0) ⊎ (u - (suc n + u - (f + 4) + 3) ≡ 0)
-  either = go (decLe u (suc n + u - (f + 4) + 3))
+abbrev pub roundedBits : ℕ → ℕ → exponent.Unit → ℕ
+roundedBits f N u = placeOf f N u - u .0
+
+abbrev pub addedZeros : ℕ → ℕ → exponent.Unit → ℕ
+addedZeros f N u = u .0 - placeOf f N u
+
+-- a number x of n + 1 digits
+module _ (f : ℕ) (d : Direction) (x : ℕ) (u : exponent.Unit) (n : ℕ) (digits : size x ≡ suc n) (most : suc n ≤ sumBits f) where
+  pub kept-shifted : keptOf f d x u ≡ roundOff d x (roundedBits f (suc n) u) * 2 ^ (addedZeros f (suc n) u)
+  kept-shifted = ap (λ (m : ℕ). keptPart d x (u .0) (roundedUnit f m u .0)) digits ∙ kept-scaled d x (u .0) (roundedUnit f (suc n) u .0) (omega arith)
+
+  either : (roundedBits f (suc n) u ≡ 0) ⊎ (addedZeros f (suc n) u ≡ 0)
+  either = go (decLe (u .0) (placeOf f (suc n) u))
     where
-      go : Dec (u ≤ suc n + u - (f + 4) + 3) → (suc n + u - (f + 4) + 3 - u ≡ 0) ⊎ (u - (suc n + u - (f + 4) + 3) ≡ 0)
+      go : Dec (u .0 ≤ placeOf f (suc n) u) → (roundedBits f (suc n) u ≡ 0) ⊎ (addedZeros f (suc n) u ≡ 0)
       go (yes h) = inr (omega arith)
       go (no h) = inl (omega arith)
 
   below : x < 2 ^ suc n
   below = subst (λ (m : ℕ). x < 2 ^ m) digits (size-lt x)
 
-  kept-le : (b : ℕ) → suc n + (u - (suc n + u - (f + 4) + 3)) ≤ (suc n + u - (f + 4) + 3 - u) + b → keptOf f d x u ≤ 2 ^ b
-  kept-le b h = rw kept-shifted (shifted-le d x (suc n + u - (f + 4) + 3 - u) (u - (suc n + u - (f + 4) + 3)) either (suc n) b below h)
+  kept-le : (b : ℕ) → suc n + (addedZeros f (suc n) u) ≤ (roundedBits f (suc n) u) + b → keptOf f d x u ≤ 2 ^ b
+  kept-le b h = rw kept-shifted (shifted-le d x (roundedBits f (suc n) u) (addedZeros f (suc n) u) either (suc n) b below h)
 
   pub kept-lt : keptOf f d x u < 2 ^ (2 + f)
   kept-lt =
@@ -109,7 +121,7 @@ module _ (f : ℕ) (d : Direction) (x u n : ℕ) (digits : size x ≡ suc n) (mo
       omega arith
 
   -- what stands above the fraction
-  pub quotient-low : suc n + u < f + 4 → (keptOf f d x u / 2 ^ f ≡ 0) ⊎ (keptOf f d x u / 2 ^ f ≡ 1)
+  pub quotient-low : suc n + u .0 < alignedBits f → (keptOf f d x u / 2 ^ f ≡ 0) ⊎ (keptOf f d x u / 2 ^ f ≡ 1)
   quotient-low small =
       let h = kept-le f (omega arith) in
       let z = pow-pos f in
@@ -121,13 +133,13 @@ module _ (f : ℕ) (d : Direction) (x u n : ℕ) (digits : size x ≡ suc n) (mo
       go (suc zero) l = inr refl
       go (suc (suc q)) l = absurd (omega arith)
 
-  pub quotient-high : f + 4 ≤ suc n + u → (keptOf f d x u / 2 ^ f ≡ 1) ⊎ (keptOf f d x u / 2 ^ f ≡ 2)
+  pub quotient-high : alignedBits f ≤ suc n + u .0 → (keptOf f d x u / 2 ^ f ≡ 1) ⊎ (keptOf f d x u / 2 ^ f ≡ 2)
   quotient-high large =
       let h = kept-le (f + 1) (omega arith) in
       let p = pow-add 2 f 1 in
       let z = pow-pos f in
       let r = size-reaches x n (omega arith) in
-      let l : 2 ^ f ≤ keptOf f d x u = rw kept-shifted (shifted-least d x (suc n + u - (f + 4) + 3 - u) (u - (suc n + u - (f + 4) + 3)) either n f r (omega arith)) in
+      let l : 2 ^ f ≤ keptOf f d x u = rw kept-shifted (shifted-least d x (roundedBits f (suc n) u) (addedZeros f (suc n) u) either n f r (omega arith)) in
       let q = div-lt-iff-lt-mul {k = 2 ^ f} {x = keptOf f d x u} {y = 3} (pow-pos f) .1 (omega arith) in
       let o = le-div-iff-mul-le {k = 2 ^ f} {x = 1} {y = keptOf f d x u} (pow-pos f) .1 (omega arith) in
       go (keptOf f d x u / 2 ^ f) o q

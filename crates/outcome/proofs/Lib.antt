@@ -1,3 +1,4 @@
+pub mod Room
 pub mod Topped
 pub mod Kept
 pub mod Fields
@@ -7,5 +8,4 @@ pub mod Last
 pub mod Asked
 pub mod Range
 pub mod Counted
-pub mod Admitted
 pub mod Moved

@@ -5,7 +5,7 @@ use mathlib.Core.Path.{_≡_, refl}
 use mathlib.Core.Bool.{Bool, true, false, false≢true}
 use Prim.Native.Nat.{ℕ}
 use Rattle.outcome.specs.declared.Aligned as pair
-use Rattle.outcome.specs.Question.{Made, Making}
+use Rattle.outcome.specs.Outcome.{Made, Making}
 
 module _ (f : ℕ) (A : pair.Aligned) (P : ℕ → Type 0) where
   pub some-made : Making f A P → (true ≡ true) ↔ Making f A P

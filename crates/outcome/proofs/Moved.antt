@@ -12,43 +12,50 @@ use borrow.Author.Tests.{lt-ltb, le-ltb}
 use lib.Ieee.{size}
 use lib.Pow.{pow-pos}
 use Rattle.format.specs.declared.Format.{Format}
+use Rattle.word.specs.declared.Biased.{Biased}
 use Rattle.rounding.specs.declared.Direction.{Direction}
-use Rattle.word.specs.Word.{allOnes, signed}
+use Rattle.word.specs.declared.Unit as exponent
+use Rattle.word.specs.Word.{fieldOf, allOnes, signed}
 use Rattle.rounding.specs.Rounding.{direction, overflowWord, roundOff}
 use Rattle.rounding.proofs.Rounded.{cancelled-lt}
 use Rattle.rounding.proofs.Size.{size-zero}
-use Rattle.outcome.specs.Outcome.{boundedHeld, zeroSign, outcome}
-use Rattle.outcome.specs.Question.{keptOf, wordOf}
+use Rattle.outcome.specs.Width.{alignedBits, sumBits}
+use Rattle.outcome.specs.Outcome.{roundedUnit, keptOf, boundedHeld, zeroSign, outcome}
+use Rattle.outcome.specs.Question.{wordOf}
 use Rattle.outcome.specs.Class.{fieldAt}
 use Rattle.outcome.proofs.Topped.{size-none}
 use Rattle.outcome.proofs.Kept.{kept-shifted, quotient-high}
 use Rattle.outcome.proofs.Fields.{held-word}
 
+-- the unit that stands for all others
+abbrev pub classUnit : ℕ → exponent.Unit
+classUnit f = record { 0 = f + 3 }
+
 -- x makes two words that differ in the exponent field only: at the unit u, and at f + 3
-pub record Moved (F : Format) (mode : ℕ) (like : Bool) (s u x : ℕ) : Type 0 where
+pub record Moved (F : Format) (mode : ℕ) (like : Bool) (s : ℕ) (u : exponent.Unit) (x : ℕ) : Type 0 where
   pub sign : ℕ
   pub field : ℕ
   pub fraction : ℕ
   pub sign-lt : sign < 2
   pub most : field ≤ F .f + 6
   pub least : F .f + 3 ≤ size x → F .f + 3 ≤ field
-  pub within : fieldAt (F .f) u field < 2 ^ F .w
+  pub within : fieldAt (F .f) (u .0) field < 2 ^ F .w
   pub fraction-lt : fraction < 2 ^ F .f
-  pub here : outcome F mode like s u x ≡ signed F sign (fieldAt (F .f) u field * 2 ^ F .f + fraction)
-  pub there : outcome F mode like s (F .f + 3) x ≡ signed F sign (field * 2 ^ F .f + fraction)
+  pub here : outcome F mode like s u x ≡ signed F sign (fieldAt (F .f) (u .0) field * 2 ^ F .f + fraction)
+  pub there : outcome F mode like s (classUnit (F .f)) x ≡ signed F sign (field * 2 ^ F .f + fraction)
 
 -- the kept part of a number of n + 1 digits
-kept-moved : (f : ℕ) (d : Direction) (x u n : ℕ) → size x ≡ suc n → suc n ≤ f + 5 → f + 4 ≤ suc n + u → keptOf f d x u ≡ keptOf f d x (f + 3)
+kept-moved : (f : ℕ) (d : Direction) (x : ℕ) (u : exponent.Unit) (n : ℕ) → size x ≡ suc n → suc n ≤ sumBits f → alignedBits f ≤ suc n + u .0 → keptOf f d x u ≡ keptOf f d x (classUnit f)
 kept-moved f d x u n digits most large =
     kept-shifted f d x u n digits most
     ∙ ap₂ (λ (j z : ℕ). roundOff d x j * 2 ^ z) (omega arith) (omega arith)
-    ∙ sym (kept-shifted f d x (f + 3) n digits most)
+    ∙ sym (kept-shifted f d x (classUnit f) n digits most)
 
 -- the word of an exponent field within the format
-word-within : (F : Format) (d : Direction) (s e t : ℕ) → e < allOnes F → wordOf F d s e t ≡ signed F s (e * 2 ^ F .f + t)
-word-within F d s e t h = rw (lt-ltb e (allOnes F) h)
+word-within : (F : Format) (d : Direction) (s : ℕ) (e : Biased) (t : ℕ) → e .0 < allOnes F → wordOf F d s e t ≡ signed F s (e .0 * 2 ^ F .f + t)
+word-within F d s e t h = rw (lt-ltb (e .0) (allOnes F) h)
 
-module _ (F : Format) (mode : ℕ) (like : Bool) (s u : ℕ) (sign-lt : s < 2) (wide : F .f + 9 ≤ allOnes F) where
+module _ (F : Format) (mode : ℕ) (like : Bool) (s : ℕ) (u : exponent.Unit) (sign-lt : s < 2) (wide : F .f + 9 ≤ allOnes F) where
   zero-lt : (b : Bool) → zeroSign mode b s < 2
   zero-lt true = sign-lt
   zero-lt false = cancelled-lt mode
@@ -72,8 +79,8 @@ module _ (F : Format) (mode : ℕ) (like : Bool) (s u : ℕ) (sign-lt : s < 2) (
   }
 
   -- the sum of any digits
-  some-moved : (x n : ℕ) → size (suc x) ≡ suc n → suc n ≤ F .f + 5 → F .f + 4 ≤ suc n + u
-      → (u + 4 ≤ allOnes F) ⊎ (outcome F mode like s u (suc x) ≡ signed F s (overflowWord F (direction mode s)) → ⊥) → Moved F mode like s u (suc x)
+  some-moved : (x n : ℕ) → size (suc x) ≡ suc n → suc n ≤ sumBits (F .f) → alignedBits (F .f) ≤ suc n + u .0
+      → (u .0 + 4 ≤ allOnes F) ⊎ (outcome F mode like s u (suc x) ≡ signed F s (overflowWord F (direction mode s)) → ⊥) → Moved F mode like s u (suc x)
   unfolding outcome
   some-moved x n digits most large within = ⊎-elim (λ e. go 1 e (omega arith) (omega arith)) (λ e. go 2 e (omega arith) (omega arith)) (quotient-high f d (suc x) u n digits most large)
     where
@@ -87,28 +94,35 @@ module _ (F : Format) (mode : ℕ) (like : Bool) (s u : ℕ) (sign-lt : s < 2) (
       t = keptOf f d (suc x) u % 2 ^ f
 
       go : (q : ℕ) → keptOf f d (suc x) u / 2 ^ f ≡ q → 1 ≤ q → q ≤ 2 → Moved F mode like s u (suc x)
-      go q e least at-most = fits (decLt (suc n + u - (f + 4) + q) (allOnes F))
+      go q e least at-most = fits (decLt (here .0) (allOnes F))
         where
-          held : signed F s (boundedHeld F d (suc x) u) ≡ wordOf F d s (suc n + u - (f + 4) + q) t
-          held = held-word F d s (suc x) u ∙ ap₂ (λ (m k : ℕ). wordOf F d s (m + u - (f + 4) + k) t) digits e
+          -- c's exponent field, and that with the unit that stands for all
+          here : Biased
+          here = fieldOf (roundedUnit f (suc n) u) q
 
-          same : keptOf f d (suc x) (f + 3) ≡ keptOf f d (suc x) u
+          there : Biased
+          there = fieldOf (roundedUnit f (suc n) (classUnit f)) q
+
+          held : signed F s (boundedHeld F d (suc x) u) ≡ wordOf F d s here t
+          held = held-word F d s (suc x) u ∙ ap₂ (λ (m k : ℕ). wordOf F d s (fieldOf (roundedUnit f m u) k) t) digits e
+
+          same : keptOf f d (suc x) (classUnit f) ≡ keptOf f d (suc x) u
           same = sym (kept-moved f d (suc x) u n digits most large)
 
-          moved : signed F s (boundedHeld F d (suc x) (f + 3)) ≡ wordOf F d s (suc n + (f + 3) - (f + 4) + q) t
+          moved : signed F s (boundedHeld F d (suc x) (classUnit f)) ≡ wordOf F d s there t
           moved =
-              held-word F d s (suc x) (f + 3)
-              ∙ ap₂ (λ (m k : ℕ). wordOf F d s (m + (f + 3) - (f + 4) + k / 2 ^ f) (k % 2 ^ f)) digits same
-              ∙ ap (λ (k : ℕ). wordOf F d s (suc n + (f + 3) - (f + 4) + k) t) e
+              held-word F d s (suc x) (classUnit f)
+              ∙ ap₂ (λ (m k : ℕ). wordOf F d s (fieldOf (roundedUnit f m (classUnit f)) (k / 2 ^ f)) (k % 2 ^ f)) digits same
+              ∙ ap (λ (k : ℕ). wordOf F d s (fieldOf (roundedUnit f (suc n) (classUnit f)) k) t) e
 
-          at : suc n + (f + 3) - (f + 4) + q ≡ n + q
+          at : there .0 ≡ n + q
           at = omega arith
 
-          shifted : (i : ℕ) → i ≡ n + q → fieldAt f u i ≡ suc n + u - (f + 4) + q
+          shifted : (i : ℕ) → i ≡ n + q → fieldAt f (u .0) i ≡ here .0
           shifted zero ei = absurd (omega arith)
           shifted (suc i) ei = omega arith
 
-          fits : Dec (suc n + u - (f + 4) + q < allOnes F) → Moved F mode like s u (suc x)
+          fits : Dec (here .0 < allOnes F) → Moved F mode like s u (suc x)
           fits (yes h) = record {
             sign = s;
             field = n + q;
@@ -118,15 +132,15 @@ module _ (F : Format) (mode : ℕ) (like : Bool) (s u : ℕ) (sign-lt : s < 2) (
             within = rw (shifted (n + q) refl) (omega arith);
             sign-lt = sign-lt;
             fraction-lt = mod-lt (keptOf f d (suc x) u) (pow-pos f);
-            here = held ∙ word-within F d s (suc n + u - (f + 4) + q) t h ∙ ap (λ (k : ℕ). signed F s (k * 2 ^ f + t)) (sym (shifted (n + q) refl));
-            there = moved ∙ ap (λ (k : ℕ). wordOf F d s k t) at ∙ word-within F d s (n + q) t (omega arith);
+            here = held ∙ word-within F d s here t h ∙ ap (λ (k : ℕ). signed F s (k * 2 ^ f + t)) (sym (shifted (n + q) refl));
+            there = moved ∙ word-within F d s there t (omega arith) ∙ ap (λ (k : ℕ). signed F s (k * 2 ^ f + t)) at;
           }
           fits (no h) =
-              let past : wordOf F d s (suc n + u - (f + 4) + q) t ≡ signed F s (overflowWord F d) = rw (le-ltb (suc n + u - (f + 4) + q) (allOnes F) (omega arith)) in
+              let past : wordOf F d s here t ≡ signed F s (overflowWord F d) = rw (le-ltb (here .0) (allOnes F) (omega arith)) in
               ⊎-elim (λ l. absurd (omega arith)) (λ never. absurd (never (held ∙ past))) within
 
-  pub moved : (x : ℕ) → size x ≤ F .f + 5 → (x ≡ 0) ⊎ (F .f + 4 ≤ size x + u)
-      → (u + 4 ≤ allOnes F) ⊎ (outcome F mode like s u x ≡ signed F s (overflowWord F (direction mode s)) → ⊥) → Moved F mode like s u x
+  pub moved : (x : ℕ) → size x ≤ sumBits (F .f) → (x ≡ 0) ⊎ (alignedBits (F .f) ≤ size x + u .0)
+      → (u .0 + 4 ≤ allOnes F) ⊎ (outcome F mode like s u x ≡ signed F s (overflowWord F (direction mode s)) → ⊥) → Moved F mode like s u x
   moved zero most reach within = zero-moved
   moved (suc x) most reach within = go (size (suc x)) refl
     where

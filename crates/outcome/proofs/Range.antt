@@ -17,7 +17,7 @@ use Rattle.mask.proofs.Checks.{meets-true}
 use Rattle.rounding.proofs.Size.{size-least}
 use Rattle.chain.specs.Chain.{combined}
 use Rattle.outcome.specs.declared.Aligned as pair
-use Rattle.outcome.specs.Question.{Made}
+use Rattle.outcome.specs.Outcome.{Made}
 use Rattle.outcome.proofs.Asked.{combined-lt}
 
 -- a test of the high part

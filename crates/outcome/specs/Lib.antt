@@ -1,3 +1,4 @@
+pub mod Width
 pub mod Outcome
 pub mod Question
 pub mod Class

@@ -3,37 +3,45 @@ use crate::Aligned;
 use crate::ask::ask;
 use crate::ask::rounds;
 use crate::masks;
+use crate::width::ALIGNED;
+use crate::width::COLUMNS;
+use crate::width::GUARD_BITS;
 use crate::sought::Fractions;
 use crate::sought::sought;
 use crate::sought::zero_word;
+use rounding::Direction;
+use word::Unit;
+use word::exponent::field_of;
+use bits::minus;
 use format::Format;
 use mask::Mask;
-use rounding::Direction;
 ghost use mathlib.Core.Bool.{true, cond};
 ghost use mathlib.Core.Logic.{_↔_};
 ghost use mathlib.Core.Path.{_≡_};
-ghost use Prim.Native.Nat.{ℕ, _+_, _-_, _/_, _%_, _^_, _≤_, _<_};
+ghost use Prim.Native.Nat.{ℕ, _+_, _/_, _%_, _^_, _≤_, _<_};
 ghost use lib.Dec.{ltb};
 ghost use lib.Ieee.{size};
 ghost use Rattle.format.specs.Format.{Supported};
 ghost use Rattle.mask.specs.Mask.{Meets};
+ghost use Rattle.word.specs.declared.Unit.{Unit};
 ghost use Rattle.word.specs.Word.{signed};
-ghost use Rattle.outcome.specs.Outcome.{boundedHeld, outcome};
-ghost use Rattle.outcome.specs.Question.{Formed, Making, keptOf};
+ghost use Rattle.outcome.specs.Width.{alignedBits, sumBits, columnsOf};
+ghost use Rattle.outcome.specs.Outcome.{roundedUnit, keptOf, boundedHeld, outcome, InFormat, Formed, Making};
 
-// a - b, or 0 where b is larger.
-fn minus(a: u64, b: u64) -> u64
-    ensures { λ r. ⌜ r ≡ a - b ⌝ }
+// The exponent of the unit of what they make, rounded, where that has so many digits.
+fn rounded_unit(f: u64, count: u64, unit: Unit) -> Unit
+    requires { ⌜ (columnsOf f < 64) × (unit .0 < 2 ^ 63) × (count ≤ sumBits f) ⌝ }
+    ensures { λ r. ⌜ r ≡ roundedUnit f count unit ⌝ }
 {
-    if b < a { a - b } else { 0 }
+    Unit(minus(count + unit.0, f + ALIGNED))
 }
 
 // The smaller of the two numbers that can stand above the fraction.
-fn least_quotient(f: u64, unit: u64, count: u64) -> u64
-    requires { ⌜ (f ≤ 23) × (unit < 2 ^ 8) × (count ≤ f + 5) ⌝ }
-    ensures { λ r. ⌜ r ≡ cond (ltb (count + unit) (f + 4)) 0 1 ⌝ }
+fn least_quotient(f: u64, unit: Unit, count: u64) -> u64
+    requires { ⌜ (columnsOf f < 64) × (unit .0 < 2 ^ 63) × (count ≤ sumBits f) ⌝ }
+    ensures { λ r. ⌜ r ≡ cond (ltb (count + unit .0) (alignedBits f)) 0 1 ⌝ }
 {
-    if count + unit < f + 4 { 0 } else { 1 }
+    if count + unit.0 < f + ALIGNED { 0 } else { 1 }
 }
 
 // Whether they make a number of so many digits whose kept part is `quotient` and below it one of the fractions.
@@ -41,29 +49,29 @@ fn rounds_to(
     aligned: Aligned,
     f: u64,
     direction: Direction,
-    unit: u64,
+    unit: Unit,
     count: u64,
     quotient: u64,
     fractions: Fractions,
 ) -> bool
-    requires { ⌜ (f ≤ 23) × (unit < 2 ^ 8) × (0 < count) × (count ≤ f + 5) × (quotient < 4) × (fractions .fraction .care < 2 ^ f) × (fractions .fraction .value < 2 ^ f) ⌝ }
+    requires { ⌜ (columnsOf f < 64) × (unit .0 < 2 ^ 63) × (0 < count) × (count ≤ sumBits f) × (quotient < 4) × (fractions .fraction .care < 2 ^ f) × (fractions .fraction .value < 2 ^ f) ⌝ }
     ensures { λ r. ⌜ (Formed f aligned → (r ≡ true) ↔ Making f aligned (λ (x : ℕ). (size x ≡ count) × (keptOf f direction x unit / 2 ^ f ≡ quotient) × (fractions .possible ≡ true) × Meets (keptOf f direction x unit % 2 ^ f) (fractions .fraction))) ⌝ }
 {
     if !fractions.possible {
         return false;
     }
     let kept = masks::topped(2, f, quotient, fractions.fraction);
-    let place = minus(count + unit, f + 4) + 3;
-    let up = minus(unit, place);
+    let place = rounded_unit(f, count, unit).0 + GUARD_BITS;
+    let up = minus(unit.0, place);
     if bits::low(kept.value, up) != 0 {
         return false;
     }
-    let x = masks::digits(f + 6, count);
+    let x = masks::digits(f + COLUMNS, count);
     rounds(
         aligned,
         f,
         direction,
-        minus(place, unit),
+        minus(place, unit.0),
         x,
         mask::high(kept, up),
     )
@@ -74,17 +82,17 @@ fn at_quotient(
     format: Format,
     direction: Direction,
     sign: u64,
-    unit: u64,
+    unit: Unit,
     aligned: Aligned,
     c: Mask,
     count: u64,
     quotient: u64,
 ) -> bool
-    requires { ⌜ Supported format × (sign < 2) × (unit < 2 ^ 8) × (0 < count) × (count ≤ format .f + 5) × (quotient < 4) ⌝ }
+    requires { ⌜ InFormat format sign unit × (0 < count) × (count ≤ sumBits (format .f)) × (quotient < 4) ⌝ }
     ensures { λ r. ⌜ (Formed (format .f) aligned → (r ≡ true) ↔ Making (format .f) aligned (λ (x : ℕ). (size x ≡ count) × (keptOf (format .f) direction x unit / 2 ^ format .f ≡ quotient) × Meets (signed format sign (boundedHeld format direction x unit)) c)) ⌝ }
 {
     let f = format.f;
-    let exponent = minus(count + unit, f + 4) + quotient;
+    let exponent = field_of(rounded_unit(f, count, unit), quotient);
     let fractions = sought(format, direction, sign, c, exponent);
     rounds_to(aligned, f, direction, unit, count, quotient, fractions)
 }
@@ -94,12 +102,12 @@ fn at_count(
     format: Format,
     direction: Direction,
     sign: u64,
-    unit: u64,
+    unit: Unit,
     aligned: Aligned,
     c: Mask,
     count: u64,
 ) -> bool
-    requires { ⌜ Supported format × (sign < 2) × (unit < 2 ^ 8) × (0 < count) × (count ≤ format .f + 5) ⌝ }
+    requires { ⌜ InFormat format sign unit × (0 < count) × (count ≤ sumBits (format .f)) ⌝ }
     ensures { λ r. ⌜ (Formed (format .f) aligned → (r ≡ true) ↔ Making (format .f) aligned (λ (x : ℕ). (size x ≡ count) × Meets (signed format sign (boundedHeld format direction x unit)) c)) ⌝ }
 {
     let least = least_quotient(format.f, unit, count);
@@ -112,10 +120,10 @@ fn at_count(
 // Whether they make 0, and the word of a zero sum meets c.
 fn at_zero(format: Format, mode: u64, sign: u64, aligned: Aligned, c: Mask) -> bool
     requires { ⌜ Supported format × (sign < 2) ⌝ }
-    ensures { λ r. ⌜ (Formed (format .f) aligned → (unit : ℕ) → (r ≡ true) ↔ Making (format .f) aligned (λ (x : ℕ). (size x ≡ 0) × Meets (outcome format mode (aligned .like) sign unit x) c)) ⌝ }
+    ensures { λ r. ⌜ (Formed (format .f) aligned → (unit : Unit) → (r ≡ true) ↔ Making (format .f) aligned (λ (x : ℕ). (size x ≡ 0) × Meets (outcome format mode (aligned .like) sign unit x) c)) ⌝ }
 {
     if mask::meets(c, zero_word(format, mode, aligned.like, sign)) {
-        let x = masks::digits(format.f + 6, 0);
+        let x = masks::digits(format.f + COLUMNS, 0);
         let z = Mask { care: 0, value: 0 };
         return ask(aligned, format.f, x, z, 0, 0);
     }
@@ -127,12 +135,12 @@ pub(crate) fn fits(
     format: Format,
     mode: u64,
     sign: u64,
-    unit: u64,
+    unit: Unit,
     aligned: Aligned,
     c: Mask,
     count: u64,
 ) -> bool
-    requires { ⌜ Supported format × (sign < 2) × (unit < 2 ^ 8) × (count ≤ format .f + 5) ⌝ }
+    requires { ⌜ InFormat format sign unit × (count ≤ sumBits (format .f)) ⌝ }
     ensures { λ r. ⌜ (Formed (format .f) aligned → (r ≡ true) ↔ Making (format .f) aligned (λ (x : ℕ). (size x ≡ count) × Meets (outcome format mode (aligned .like) sign unit x) c)) ⌝ }
 {
     if count == 0 {

@@ -1,22 +1,27 @@
 // Whether two aligned significands make a word that meets a mask.
+use word::Unit;
 use digits::fits;
 use format::Format;
 use mask::Mask;
+use width::ALIGNED;
+use width::GUARD_BITS;
+use width::SMALL;
+use width::SUM;
 
 mod ask;
 mod digits;
 mod masks;
+mod width;
 mod sought;
 
 ghost use mathlib.Core.Bool.{true};
 ghost use mathlib.Core.Logic.{_↔_};
 ghost use mathlib.Core.Path.{_≡_};
-ghost use Prim.Native.Nat.{ℕ, _+_, _^_, _≤_, _<_};
+ghost use Prim.Native.Nat.{ℕ, _^_, _≤_, _<_};
 ghost use lib.Ieee.{size};
-ghost use Rattle.format.specs.Format.{Supported};
 ghost use Rattle.mask.specs.Mask.{Meets};
-ghost use Rattle.outcome.specs.Outcome.{outcome, Admits};
-ghost use Rattle.outcome.specs.Question.{Formed, Posed, Made, Making};
+ghost use Rattle.outcome.specs.Width.{alignedBits, smallBits, sumBits, columnsOf};
+ghost use Rattle.outcome.specs.Outcome.{Made, Admits, InFormat, Formed};
 
 // The masks of two aligned significands and of their carries; like tells whether they are added.
 pub struct Aligned {
@@ -26,12 +31,12 @@ pub struct Aligned {
     pub carries: Mask,
 }
 
-// Whether a significand's mask keeps it below a quarter of 2^(f+4).
+// Whether a significand's mask keeps its two top bits 0.
 fn small(m: Mask, f: u64) -> bool
-    requires { ⌜ f ≤ 23 ⌝ }
-    ensures { λ r. ⌜ (r ≡ true → (n : ℕ) → n < 2 ^ (f + 4) → Meets n m → n < 2 ^ (f + 2)) ⌝ }
+    requires { ⌜ columnsOf f < 64 ⌝ }
+    ensures { λ r. ⌜ (r ≡ true → (n : ℕ) → n < 2 ^ alignedBits f → Meets n m → n < 2 ^ smallBits f) ⌝ }
 {
-    let above = mask::high(m, f + 2);
+    let above = mask::high(m, f + SMALL);
     if mask::meets(above, 1) {
         return false;
     }
@@ -44,33 +49,33 @@ fn small(m: Mask, f: u64) -> bool
 // A number of digits that what they make has at least: nearly all of them where the larger significand has its top bit, and the other is
 // added to it or is small.
 fn fewest(aligned: Aligned, f: u64) -> u64
-    requires { ⌜ f ≤ 23 ⌝ }
+    requires { ⌜ columnsOf f < 64 ⌝ }
     ensures { λ r. ⌜ ((x : ℕ) → Made f aligned x → r ≤ size x) ⌝ }
 {
-    if mask::meets(mask::high(aligned.head, f + 3), 0) {
+    if mask::meets(mask::high(aligned.head, f + GUARD_BITS), 0) {
         return 0;
     }
     if aligned.like {
-        return f + 4;
+        return f + ALIGNED;
     }
     if small(aligned.tail, f) {
-        return f + 3;
+        return f + GUARD_BITS;
     }
     0
 }
 
 // A number of digits that what they make has at most.
 fn most(aligned: Aligned, f: u64) -> u64
-    requires { ⌜ f ≤ 23 ⌝ }
-    ensures { λ r. ⌜ (r ≤ f + 5) × ((x : ℕ) → Made f aligned x → size x ≤ r) ⌝ }
+    requires { ⌜ columnsOf f < 64 ⌝ }
+    ensures { λ r. ⌜ (r ≤ sumBits f) × ((x : ℕ) → Made f aligned x → size x ≤ r) ⌝ }
 {
-    if aligned.like { f + 5 } else { f + 4 }
+    if aligned.like { f + SUM } else { f + ALIGNED }
 }
 
 // Whether they make a number whose word meets c.
-fn some_count(format: Format, mode: u64, sign: u64, unit: u64, aligned: Aligned, c: Mask) -> bool
-    requires { ⌜ Supported format × (sign < 2) × (unit < 2 ^ 8) ⌝ }
-    ensures { λ r. ⌜ (Formed (format .f) aligned → (r ≡ true) ↔ Making (format .f) aligned (λ (x : ℕ). Meets (outcome format mode (aligned .like) sign unit x) c)) ⌝ }
+fn some_count(format: Format, mode: u64, sign: u64, unit: Unit, aligned: Aligned, c: Mask) -> bool
+    requires { ⌜ InFormat format sign unit ⌝ }
+    ensures { λ r. ⌜ (Formed (format .f) aligned → (r ≡ true) ↔ Admits format mode sign unit aligned c) ⌝ }
 {
     let last = most(aligned, format.f);
     let mut count = fewest(aligned, format.f);
@@ -84,10 +89,11 @@ fn some_count(format: Format, mode: u64, sign: u64, unit: u64, aligned: Aligned,
 }
 
 // Whether two aligned significands that meet their masks make a word that meets c, for the sign of the larger one and the exponent of its
-// unit; false for a format that is not supported, a sign above 1 and a unit that no exponent field has.
-pub fn admits(format: Format, mode: u64, sign: u64, unit: u64, aligned: Aligned, c: Mask) -> bool
-    ensures sound { λ r. ⌜ (Posed format sign unit aligned → r ≡ true → Admits format mode sign unit aligned c) ⌝ }
-    ensures complete { λ r. ⌜ (Posed format sign unit aligned → Admits format mode sign unit aligned c → r ≡ true) ⌝ }
+// unit; false for a format that is not supported, a sign above 1 and a unit that is too large. Where the masks are not those of aligned
+// significands the answer is free: a caller forms them by crate significand, from masks that it has tested.
+pub fn admits(format: Format, mode: u64, sign: u64, unit: Unit, aligned: Aligned, c: Mask) -> bool
+    ensures in_format { λ r. ⌜ (r ≡ true → InFormat format sign unit) ⌝ }
+    ensures exact { λ r. ⌜ (InFormat format sign unit → Formed (format .f) aligned → (r ≡ true) ↔ Admits format mode sign unit aligned c) ⌝ }
 {
     if format::format_cause(format) != 0 {
         return false;
@@ -95,7 +101,7 @@ pub fn admits(format: Format, mode: u64, sign: u64, unit: u64, aligned: Aligned,
     if 1 < sign {
         return false;
     }
-    if bits::power(format.w) <= unit {
+    if bits::power(format.w) <= unit.0 {
         return false;
     }
     some_count(format, mode, sign, unit, aligned, c)

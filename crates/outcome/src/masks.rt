@@ -3,12 +3,13 @@ use mask::Mask;
 ghost use mathlib.Core.Path.{_≡_};
 ghost use Prim.Native.Nat.{_+_, _^_, _≤_, _<_};
 ghost use Rattle.mask.specs.Mask.{raised};
+ghost use Rattle.outcome.specs.Width.{mostRounded, shortBits};
 ghost use Rattle.outcome.specs.Question.{topped, OfDigits};
 
 // The mask moved up by d places.
 pub(crate) fn raised(m: Mask, d: u64) -> Mask
-    requires { ⌜ d ≤ 4 ⌝ }
-    ensures { λ r. ⌜ (m .care < 2 ^ 60 → m .value < 2 ^ 60 → r ≡ raised d m) ⌝ }
+    requires { ⌜ d ≤ mostRounded ⌝ }
+    ensures { λ r. ⌜ (m .care < 2 ^ shortBits → m .value < 2 ^ shortBits → r ≡ raised d m) ⌝ }
 {
     Mask {
         care: m.care << d,
@@ -18,7 +19,7 @@ pub(crate) fn raised(m: Mask, d: u64) -> Mask
 
 // The mask m on the low k bits, and the number h on r bits above them.
 pub(crate) fn topped(r: u64, k: u64, h: u64, m: Mask) -> Mask
-    requires { ⌜ (r + k ≤ 32) × (h < 2 ^ r) × (m .care < 2 ^ k) × (m .value < 2 ^ k) ⌝ }
+    requires { ⌜ (r + k < 64) × (h < 2 ^ r) × (m .care < 2 ^ k) × (m .value < 2 ^ k) ⌝ }
     ensures { λ n. ⌜ n ≡ topped r k h m ⌝ }
 {
     Mask {
@@ -29,7 +30,7 @@ pub(crate) fn topped(r: u64, k: u64, h: u64, m: Mask) -> Mask
 
 // The mask of the numbers of n bits that have so many binary digits.
 pub(crate) fn digits(n: u64, count: u64) -> Mask
-    requires { ⌜ (n ≤ 32) × (count ≤ n) ⌝ }
+    requires { ⌜ (n < 64) × (count ≤ n) ⌝ }
     ensures { λ r. ⌜ OfDigits n count r ⌝ }
 {
     if count == 0 {

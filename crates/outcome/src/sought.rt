@@ -1,7 +1,8 @@
 // The word c: what its mask leaves open for an exponent field, and the words that need no columns.
+use word::Biased;
+use rounding::Direction;
 use format::Format;
 use mask::Mask;
-use rounding::Direction;
 ghost use mathlib.Core.Path.{_≡_};
 ghost use Prim.Native.Nat.{_<_};
 ghost use Rattle.format.specs.Format.{Supported};
@@ -36,16 +37,16 @@ pub(crate) fn sought(
     direction: Direction,
     sign: u64,
     c: Mask,
-    exponent: u64,
+    exponent: Biased,
 ) -> Fractions
     requires { ⌜ Supported format × (sign < 2) ⌝ }
     ensures { λ r. ⌜ Seeks format direction sign c exponent r ⌝ }
 {
-    if exponent < (1 << format.w) - 1 {
+    if exponent.0 < (1 << format.w) - 1 {
         let above = mask::high(c, format.f);
         let fraction = mask::low(c, format.f);
         return Fractions {
-            possible: mask::meets(above, (sign << format.w) + exponent),
+            possible: mask::meets(above, (sign << format.w) + exponent.0),
             fraction,
         };
     }

@@ -21,7 +21,7 @@ use Rattle.significand.specs.Tail.{tailMask}
 use Rattle.rounding.proofs.Sticky.{with-sticky-bounds}
 use Rattle.significand.proofs.Significand.{significand-formed, significand-meets}
 use Rattle.significand.proofs.Tail.{aligned-zero, tail-complete, tail-far}
-use Rattle.outcome.specs.Question.{Made}
+use Rattle.outcome.specs.Outcome.{Made}
 use Rattle.outcome.proofs.Range.{made-like, made-unlike}
 use Rattle.pair.specs.Pair.{unitAt, alignedOf}
 use Rattle.pair.specs.Class.{lowField, classOf, aField, bField}
@@ -50,7 +50,7 @@ fields-b f ea eb l =
     (rw (lt-leb eb ea l, above), rw (lt-leb eb ea l, above) (omega arith))
 
 -- a gap that is not far is kept
-near-gap : (f e g r : ℕ) → r + e ≡ g + (f + 4) → suc g ≤ e → unitAt e - unitAt (suc g) ≡ unitAt (f + 4) - unitAt (suc r)
+near-gap : (f e g r : ℕ) → r + e ≡ g + (f + 4) → suc g ≤ e → unitAt e .0 - unitAt (suc g) .0 ≡ unitAt (f + 4) .0 - unitAt (suc r) .0
 near-gap f e g r is l = ap (λ (k : ℕ). e - 1 - k) (down g) ∙ middle ∙ ap₂ _-_ up (sym (down r))
   where
     down : (k : ℕ) → suc k - 1 ≡ k
@@ -75,9 +75,9 @@ module _ (F : Format) (ok : Supported F) (m : Mask) (formed : WellFormed (F .f) 
       tail-far (precision F) (significandMask (F .f) m g) d e (omega (arith, ok .f-most)) (significand-formed (F .f) m (omega (arith, ok .f-most)) formed g) (omega arith) (omega arith)
 
   tail-same : (e g : ℕ) → (F .f + 4 ≤ e) ⊎ (1 ≤ g) → g ≤ e
-      → tailMask (precision F) (significandMask (F .f) m g) (unitAt e - unitAt g)
-      ≡ tailMask (precision F) (significandMask (F .f) m (lowField (F .f) e g)) (unitAt (F .f + 4) - unitAt (lowField (F .f) e g))
-  tail-same e zero (inl h) l = far 0 (unitAt e - unitAt 0) (unitAt (F .f + 4) - unitAt 0) (omega arith) (omega arith)
+      → tailMask (precision F) (significandMask (F .f) m g) (unitAt e .0 - unitAt g .0)
+      ≡ tailMask (precision F) (significandMask (F .f) m (lowField (F .f) e g)) (unitAt (F .f + 4) .0 - unitAt (lowField (F .f) e g) .0)
+  tail-same e zero (inl h) l = far 0 (unitAt e .0 - unitAt 0 .0) (unitAt (F .f + 4) .0 - unitAt 0 .0) (omega arith) (omega arith)
   tail-same e zero (inr h) l = absurd (omega arith)
   tail-same e (suc g) h l = go (decLe e (g + (F .f + 4)))
     where
@@ -88,12 +88,12 @@ module _ (F : Format) (ok : Supported F) (m : Mask) (formed : WellFormed (F .f) 
       same = head-same (suc g) (suc r) (omega arith) (omega arith)
 
       go : Dec (e ≤ g + (F .f + 4))
-          → tailMask (precision F) (significandMask (F .f) m (suc g)) (unitAt e - unitAt (suc g))
-          ≡ tailMask (precision F) (significandMask (F .f) m (suc r)) (unitAt (F .f + 4) - unitAt (suc r))
+          → tailMask (precision F) (significandMask (F .f) m (suc g)) (unitAt e .0 - unitAt (suc g) .0)
+          ≡ tailMask (precision F) (significandMask (F .f) m (suc r)) (unitAt (F .f + 4) .0 - unitAt (suc r) .0)
       go (yes near) = ap₂ (tailMask (precision F)) same (near-gap (F .f) e g r (omega arith) l)
       go (no past) =
-          far (suc g) (unitAt e - unitAt (suc g)) (unitAt (F .f + 4) - unitAt (suc r)) (omega arith) (omega arith)
-          ∙ ap (λ (n : Mask). tailMask (precision F) n (unitAt (F .f + 4) - unitAt (suc r))) same
+          far (suc g) (unitAt e .0 - unitAt (suc g) .0) (unitAt (F .f + 4) .0 - unitAt (suc r) .0) (omega arith) (omega arith)
+          ∙ ap (λ (n : Mask). tailMask (precision F) n (unitAt (F .f + 4) .0 - unitAt (suc r) .0)) same
 
 pub aligned-same : (F : Format) → Supported F → (like : Bool) (carries m n : Mask) (e g : ℕ) → WellFormed (F .f) m → WellFormed (F .f) n → 1 ≤ e → (F .f + 4 ≤ e) ⊎ (1 ≤ g) → g ≤ e
     → alignedOf F like carries m e n g ≡ alignedOf F like carries m (F .f + 4) n (lowField (F .f) e g)
@@ -124,10 +124,10 @@ module _ (F : Format) (ok : Supported F) (m : Mask) (formed : WellFormed (F .f) 
       let e : precision F + 1 ≡ F .f + 2 = omega arith in
       subst (λ (k : ℕ). T < 2 ^ k) e (omega (arith, with-sticky-bounds (4 * r .0) d, r .3))
 
-pub made-long : (F : Format) → Supported F → (like : Bool) (carries m n : Mask) (e g x : ℕ) → WellFormed (F .f) m → WellFormed (F .f) n → 2 ≤ unitAt (suc e) - unitAt g
+pub made-long : (F : Format) → Supported F → (like : Bool) (carries m n : Mask) (e g x : ℕ) → WellFormed (F .f) m → WellFormed (F .f) n → 2 ≤ unitAt (suc e) .0 - unitAt g .0
     → Made (F .f) (alignedOf F like carries m (suc e) n g) x → F .f + 3 ≤ size x
 made-long F ok true carries m n e g x fm fn far made =
     let h = made-like (F .f) (alignedOf F true carries m (suc e) n g) x made refl (head-least F ok m fm e (made .H) (made .head-lt) (made .head-meets)) in omega arith
 made-long F ok false carries m n e g x fm fn far made =
     made-unlike (F .f) (alignedOf F false carries m (suc e) n g) x made refl (head-least F ok m fm e (made .H) (made .head-lt) (made .head-meets))
-    (tail-most F ok n fn g (unitAt (suc e) - unitAt g) (made .T) far (made .tail-lt) (made .tail-meets))
+    (tail-most F ok n fn g (unitAt (suc e) .0 - unitAt g .0) (made .T) far (made .tail-lt) (made .tail-meets))

@@ -18,6 +18,7 @@ use Rattle.mask.specs.Mask.{Meets, WellFormed}
 use Rattle.mask.proofs.ByParts.{fraction-formed}
 use Rattle.job.specs.declared.Job.{Job}
 use Rattle.job.specs.Job.{Valid}
+use Rattle.word.specs.declared.Unit as exponent
 use Rattle.word.specs.Word.{allOnes, signed}
 use Rattle.rounding.specs.Rounding.{direction, overflowWord}
 use Rattle.significand.specs.Significand.{significandMask}
@@ -25,12 +26,11 @@ use Rattle.significand.specs.Tail.{tailMask}
 use Rattle.chain.specs.Chain.{combined}
 use Rattle.outcome.specs.declared.Aligned as pair
 use Rattle.outcome.specs.Outcome.{outcome, Admits}
-use Rattle.outcome.specs.Question.{Made}
+use Rattle.outcome.specs.Outcome.{Made}
 use Rattle.outcome.specs.Class.{fieldAt}
 use Rattle.outcome.proofs.Topped.{size-none}
 use Rattle.outcome.proofs.Range.{made-most}
-use Rattle.outcome.proofs.Admitted.{admits-making}
-use Rattle.outcome.proofs.Moved.{Moved, moved}
+use Rattle.outcome.proofs.Moved.{classUnit, Moved, moved}
 use Rattle.word.specs.Masks.{signMask, exponentMask, fractionMask}
 use Rattle.pair.specs.Asked.{PairFits}
 use Rattle.pair.specs.Pair.{unitAt, alignedOf, Larger, turned, Posed, SomeSigns, Finites}
@@ -49,7 +49,7 @@ pub record Reached (j : Job) (E r : ℕ) (P : Mask → Type 0) : Type 0 where
   pub field : ℕ
   pub most : field ≤ j .setting .format .f + 6
   pub least : r ≤ j .setting .format .f + 2 → j .setting .format .f + 3 ≤ field
-  pub meets : Meets (fieldAt (j .setting .format .f) (unitAt E) field) (exponentMask (j .setting .format) (j .c .mask))
+  pub meets : Meets (fieldAt (j .setting .format .f) (unitAt E .0) field) (exponentMask (j .setting .format) (j .c .mask))
   pub holds : P (onlyField (j .setting .format) field)
 
 module _ (j : Job) (valid : Valid j) where
@@ -74,16 +74,16 @@ module _ (j : Job) (valid : Valid j) where
           made-long (j .setting .format) (valid .setting .format) like (j .carries) m n (f + 3) (lowField f e g) x fm fn (omega arith)
           (subst (λ (t : ℕ). Made f (alignedOf (j .setting .format) like (j .carries) m t n (lowField f e g)) x) four made)
 
-      reach : Dec (x ≡ 0) → (x ≡ 0) ⊎ (f + 4 ≤ size x + unitAt e)
+      reach : Dec (x ≡ 0) → (x ≡ 0) ⊎ (f + 4 ≤ size x + unitAt e .0)
       reach (yes z) = inl z
       reach (no z) = inr (digits (size x) refl)
         where
-          digits : (d : ℕ) → size x ≡ d → f + 4 ≤ size x + unitAt e
+          digits : (d : ℕ) → size x ≡ d → f + 4 ≤ size x + unitAt e .0
           digits zero z′ = absurd (z (size-none x .0 z′))
           digits (suc d) z′ = ⊎-elim (λ h. omega arith) (λ h. let l = long (low-two f e g (h .0) (h .1)) in omega arith) (classed .normal)
 
       -- the word of a sum moves with the unit
-      pub sum-moved : (unitAt e + 4 ≤ allOnes (j .setting .format)) ⊎ (outcome (j .setting .format) (j .setting .mode) like s (unitAt e) x ≡ signed (j .setting .format) s (overflowWord (j .setting .format) (direction (j .setting .mode) s)) → ⊥)
+      pub sum-moved : (unitAt e .0 + 4 ≤ allOnes (j .setting .format)) ⊎ (outcome (j .setting .format) (j .setting .mode) like s (unitAt e) x ≡ signed (j .setting .format) s (overflowWord (j .setting .format) (direction (j .setting .mode) s)) → ⊥)
           → Moved (j .setting .format) (j .setting .mode) like s (unitAt e) x
       sum-moved within = moved (j .setting .format) (j .setting .mode) like s (unitAt e) hs (classed .wide) x (made-most f standing x made) (reach (ℕ-discrete x 0)) within
 
@@ -96,12 +96,12 @@ module _ (j : Job) (valid : Valid j) where
     meets = own .1;
     holds = (
       lower g under,
-      subst (λ (u : ℕ). Admits F (j .setting .mode) s u A′ (withExponent F (j .c .mask) (onlyField F (w .field)))) up (admits-making F (j .setting .mode) s (f + 3) A′ (withExponent F (j .c .mask) (onlyField F (w .field))) .1 (record {
+      record {
         x = k .x;
         made = k .made;
-        holds = subst (λ (v : ℕ). Meets v (withExponent F (j .c .mask) (onlyField F (w .field)))) (sym (w .there))
+        holds = subst (λ (v : ℕ). Meets v (withExponent F (j .c .mask) (onlyField F (w .field)))) (sym (w .there) ∙ ap (λ (u : exponent.Unit). outcome F (j .setting .mode) like s u (k .x)) up)
             (asking-meets F (j .c .mask) (onlyField F (w .field)) (valid .c .mask) formed (w .sign) (w .field) (w .fraction) small (w .fraction-lt) .1 (own .0, only-formed F (w .field) (omega (arith, w .most, classed .wide)) .inside, own .2));
-      })),
+      },
     );
   }
     where
@@ -117,10 +117,8 @@ module _ (j : Job) (valid : Valid j) where
       A′ : pair.Aligned
       A′ = alignedOf F like (j .carries) m (f + 4) n (lowField f e g)
 
-      k : Rattle.outcome.specs.Question.Making f A′ (λ (x : ℕ). Meets (outcome F (j .setting .mode) like s (unitAt e) x) (j .c .mask))
-      k =
-          admits-making F (j .setting .mode) s (unitAt e) A′ (j .c .mask) .0
-          (subst (λ (A : pair.Aligned). Admits F (j .setting .mode) s (unitAt e) A (j .c .mask)) (class-aligned like s e m g n hs fm fn classed under) a)
+      k : Rattle.outcome.specs.Outcome.Making f A′ (λ (x : ℕ). Meets (outcome F (j .setting .mode) like s (unitAt e) x) (j .c .mask))
+      k = subst (λ (A : pair.Aligned). Admits F (j .setting .mode) s (unitAt e) A (j .c .mask)) (class-aligned like s e m g n hs fm fn classed under) a
 
       w : Moved F (j .setting .mode) like s (unitAt e) (k .x)
       w =
@@ -130,18 +128,21 @@ module _ (j : Job) (valid : Valid j) where
       formed : WellFormed (F .w) (onlyField F (w .field))
       formed = only-formed F (w .field) (omega (arith, w .most, classed .wide))
 
-      own : Meets (w .sign) (signMask F (j .c .mask)) × Meets (fieldAt f (unitAt e) (w .field)) (exponentMask F (j .c .mask)) × Meets (w .fraction) (fractionMask F (j .c .mask))
+      own : Meets (w .sign) (signMask F (j .c .mask)) × Meets (fieldAt f (unitAt e .0) (w .field)) (exponentMask F (j .c .mask)) × Meets (w .fraction) (fractionMask F (j .c .mask))
       own =
-          own-meets F (j .c .mask) (onlyField F (w .field)) (valid .c .mask) formed (w .sign) (fieldAt f (unitAt e) (w .field)) (w .fraction) (w .sign-lt) (w .within) (w .fraction-lt) .0
+          own-meets F (j .c .mask) (onlyField F (w .field)) (valid .c .mask) formed (w .sign) (fieldAt f (unitAt e .0) (w .field)) (w .fraction) (w .sign-lt) (w .within) (w .fraction-lt) .0
           (subst (λ (v : ℕ). Meets v (j .c .mask)) (w .here) (k .holds))
 
       small : w .field < 2 ^ F .w
       small = omega (arith, w .most, classed .wide)
 
-      up : f + 3 ≡ unitAt (f + 4)
-      up = omega arith
+      up : classUnit f ≡ unitAt (f + 4)
+      up = ap unit (omega arith)
+        where
+          unit : ℕ → exponent.Unit
+          unit n = record { 0 = n }
 
-      lower : (g : ℕ) → g ≤ e → unitAt (lowField f e g) ≤ unitAt (f + 4)
+      lower : (g : ℕ) → g ≤ e → unitAt (lowField f e g) .0 ≤ unitAt (f + 4) .0
       lower zero l = omega arith
       lower (suc g) l = omega arith
 
@@ -231,7 +232,7 @@ pub record ClassReached (j : Job) (E k : ℕ) : Type 0 where
   pub field : ℕ
   pub most : field ≤ j .setting .format .f + 6
   pub least : leastField (j .setting .format .f) k ≤ field
-  pub meets : Meets (fieldAt (j .setting .format .f) (unitAt E) field) (exponentMask (j .setting .format) (j .c .mask))
+  pub meets : Meets (fieldAt (j .setting .format .f) (unitAt E .0) field) (exponentMask (j .setting .format) (j .c .mask))
   pub holds : ClassAdmits j k (onlyField (j .setting .format) field)
 
 -- ---- a pair that fits, and its class
@@ -285,15 +286,9 @@ module _ (j : Job) (k i : ℕ) (valid : Valid j) (l : i ≤ allOnes (j .setting 
   larger-less like s e m g n (order, a) = (
     order,
     record {
-      H = a .H;
-      T = a .T;
-      head-lt = a .head-lt;
-      tail-lt = a .tail-lt;
-      head-meets = a .head-meets;
-      tail-meets = a .tail-meets;
-      ordered = a .ordered;
-      carries-allow = a .carries-allow;
-      c-meets = asking-less (j .setting .format) (j .c .mask) (onlyField (j .setting .format) i) (valid .c .mask) (only-formed (j .setting .format) i l) (outcome (j .setting .format) (j .setting .mode) like s (unitAt e) (combined (not like) (a .H) (a .T))) (a .c-meets);
+      x = a .x;
+      made = a .made;
+      holds = asking-less (j .setting .format) (j .c .mask) (onlyField (j .setting .format) i) (valid .c .mask) (only-formed (j .setting .format) i l) (outcome (j .setting .format) (j .setting .mode) like s (unitAt e) (a .x)) (a .holds);
     },
   )
 
@@ -319,10 +314,10 @@ module _ (j : Job) (E e g : ℕ) (some : 1 ≤ e) (other : 1 ≤ g) (far-e : e +
       F : Format
       F = j .setting .format
 
-      same : tailMask (precision F) (significandMask (F .f) n g) (unitAt E - unitAt g) ≡ tailMask (precision F) (significandMask (F .f) n e) (unitAt E - unitAt e)
+      same : tailMask (precision F) (significandMask (F .f) n g) (unitAt E .0 - unitAt g .0) ≡ tailMask (precision F) (significandMask (F .f) n e) (unitAt E .0 - unitAt e .0)
       same =
-          far F (valid .setting .format) n formed g (unitAt E - unitAt g) (unitAt E - unitAt e) (omega arith) (omega arith)
-          ∙ ap (λ (k : Mask). tailMask (precision F) k (unitAt E - unitAt e)) (head-same F (valid .setting .format) n formed g e other some)
+          far F (valid .setting .format) n formed g (unitAt E .0 - unitAt g .0) (unitAt E .0 - unitAt e .0) (omega arith) (omega arith)
+          ∙ ap (λ (k : Mask). tailMask (precision F) k (unitAt E .0 - unitAt e .0)) (head-same F (valid .setting .format) n formed g e other some)
 
   pub far-a : Finites j E g → Finites j E e → PairFits j E g → PairFits j E e
   far-a fin-g fin-e p =

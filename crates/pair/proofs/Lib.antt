@@ -11,4 +11,3 @@ pub mod Aligning
 pub mod ClassMasks
 pub mod Classes
 pub mod LikeSigns
-pub mod ClassBack

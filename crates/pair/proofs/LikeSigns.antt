@@ -17,13 +17,14 @@ use Rattle.mask.proofs.ByParts.{meets-fields}
 use Rattle.job.specs.declared.Job.{Job}
 use Rattle.job.specs.Job.{Valid}
 use Rattle.rounding.specs.declared.Direction.{Direction}
+use Rattle.word.specs.declared.Unit as exponent
 use Rattle.word.specs.Word.{signed, infinityWord}
 use Rattle.rounding.specs.Rounding.{direction, overflowWord}
 use Rattle.word.proofs.Bounds.{infinity-lt}
 use Rattle.rounding.proofs.Rounded.{overflow-le}
 use Rattle.word.proofs.Fields.{signed-sign}
 use Rattle.outcome.specs.declared.Aligned as pair
-use Rattle.outcome.specs.Outcome.{heldWord, boundedHeld, zeroSign, outcome, Admits}
+use Rattle.outcome.specs.Outcome.{heldWord, boundedHeld, outcome, Admits}
 use Rattle.word.specs.Masks.{signMask}
 use Rattle.pair.specs.Asked.{PairFits}
 use Rattle.pair.specs.Pair.{turned, Posed, SomeSigns, Finites}
@@ -31,7 +32,7 @@ use Rattle.pair.specs.Signs.{signLeft, signsLeft}
 use Rattle.pair.proofs.Finites.{pair-signs}
 
 module _ (F : Format) (ok : Supported F) where
-  bounded-lt : (d : Direction) (x u : ℕ) → boundedHeld F d x u < 2 ^ (F .w + F .f)
+  bounded-lt : (d : Direction) (x : ℕ) (u : exponent.Unit) → boundedHeld F d x u < 2 ^ (F .w + F .f)
   unfolding boundedHeld
   bounded-lt d x u = go (ltb (heldWord F d x u) (infinityWord F)) refl
     where
@@ -43,15 +44,15 @@ module _ (F : Format) (ok : Supported F) where
   word-sign : (s m : ℕ) (c : Mask) → WellFormed (wordBits F) c → s < 2 → m < 2 ^ (F .w + F .f) → Meets (signed F s m) c → Meets s (signMask F c)
   word-sign s m c h hs hm met = subst (λ (n : ℕ). Meets n (signMask F c)) (signed-sign F s m hs hm) (meets-fields (F .w) (F .f) c h (signed F s m) .0 met .0)
 
-  like-outcome : (mode s u x : ℕ) (c : Mask) → WellFormed (wordBits F) c → s < 2 → Meets (outcome F mode true s u x) c → Meets s (signMask F c)
+  like-outcome : (mode s : ℕ) (u : exponent.Unit) (x : ℕ) (c : Mask) → WellFormed (wordBits F) c → s < 2 → Meets (outcome F mode true s u x) c → Meets s (signMask F c)
   unfolding outcome
   like-outcome mode s u zero c h hs met = word-sign s 0 c h hs (lib.Pow.pow-pos (F .w + F .f)) met
   like-outcome mode s u (suc x) c h hs met = word-sign s (boundedHeld F (direction mode s) (suc x) u) c h hs (bounded-lt (direction mode s) (suc x) u) met
 
   -- a sum of operands of like sign
-  like-sign : (mode s u : ℕ) (A : pair.Aligned) (c : Mask) → WellFormed (wordBits F) c → s < 2 → A .like ≡ true → Admits F mode s u A c → Meets s (signMask F c)
+  like-sign : (mode s : ℕ) (u : exponent.Unit) (A : pair.Aligned) (c : Mask) → WellFormed (wordBits F) c → s < 2 → A .like ≡ true → Admits F mode s u A c → Meets s (signMask F c)
   like-sign mode s u A c h hs like a =
-      like-outcome mode s u _ c h hs (subst (λ (t : Bool). Meets (outcome F mode t s u (Rattle.chain.specs.Chain.combined (not (A .like)) (a .H) (a .T))) c) like (a .c-meets))
+      like-outcome mode s u (a .x) c h hs (subst (λ (t : Bool). Meets (outcome F mode t s u (a .x)) c) like (a .holds))
 
 module _ (j : Job) (v : Valid j) (ea eb : ℕ) where
   posed-left : (sa sb : ℕ) → sa < 2 → sb < 2 → Posed j ea eb sa sb → signLeft j sa sb ≡ true

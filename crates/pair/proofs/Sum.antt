@@ -16,6 +16,7 @@ use Rattle.format.specs.declared.Format.{Format}
 use Rattle.format.specs.Format.{Supported, precision}
 use Rattle.rounding.specs.declared.Direction.{Direction}
 use Rattle.word.specs.declared.Finite as record-of
+use Rattle.word.specs.declared.Unit as exponent
 use Rattle.word.specs.Word.{unitOf, signed, infinityWord}
 use Rattle.word.specs.Operand.{magnitude, Canonical}
 use Rattle.rounding.specs.Rounding.{direction, dropped, roundOff, magnitudeWord, boundedWord, rounded, cancelledSign}
@@ -31,30 +32,30 @@ use Rattle.adder.proofs.FiniteSum.{sum-like, sum-unlike, sum-cancelled}
 use Rattle.adder.proofs.RowBit.{row-bit}
 use Rattle.adder.proofs.RowLaws.{gather-bit}
 use Rattle.chain.specs.Chain.{combined, carryOf}
-use Rattle.outcome.specs.Outcome.{droppedOf, heldWord, boundedHeld, zeroSign, outcome}
+use Rattle.outcome.specs.Outcome.{roundedUnit, heldWord, boundedHeld, outcome}
 use Rattle.pair.proofs.Tail.{tail-whole, tail-sticky}
 use Rattle.pair.proofs.Columns.{flag, column-carry}
 
 -- a magnitude and the number that holds it round to the same word
-pub bounded-held : (F : Format) (d : Direction) (X x u : ℕ) → 0 < X → Held F X x u → x < 2 ^ (F .f + 5) → boundedWord F d X ≡ boundedHeld F d x u
+pub bounded-held : (F : Format) (d : Direction) (X x : ℕ) (u : exponent.Unit) → 0 < X → Held F X x (u .0) → x < 2 ^ (F .f + 5) → boundedWord F d X ≡ boundedHeld F d x u
 unfolding boundedWord boundedHeld magnitudeWord
 bounded-held F d X x u pos held below = ap (λ (n : ℕ). cond (ltb n (infinityWord F)) n (Rattle.rounding.specs.Rounding.overflowWord F d)) word
   where
-    drop : dropped F X ≡ droppedOf F x u
-    drop = omega (arith, held-size F X x u pos held)
+    drop : dropped F X ≡ roundedUnit (F .f) (size x) u .0
+    drop = omega (arith, held-size F X x (u .0) pos held)
 
     word : dropped F X * 2 ^ F .f + roundOff d X (dropped F X) ≡ heldWord F d x u
-    word = ap₂ _+_ (ap (λ (n : ℕ). n * 2 ^ F .f) drop) (sym (held-part F X x u pos held d below) ∙ ap (keptPart d x u) drop)
+    word = ap₂ _+_ (ap (λ (n : ℕ). n * 2 ^ F .f) drop) (sym (held-part F X x (u .0) pos held d below) ∙ ap (keptPart d x (u .0)) drop)
 
 -- and to the outcome that x holds
-outcome-held : (F : Format) → Supported F → (mode s X x u : ℕ) (like : Bool) → Held F X x u → x < 2 ^ (F .f + 5) → (like ≡ true) ⊎ (x ≡ 0 → ⊥)
+outcome-held : (F : Format) → Supported F → (mode s X x : ℕ) (u : exponent.Unit) (like : Bool) → Held F X x (u .0) → x < 2 ^ (F .f + 5) → (like ≡ true) ⊎ (x ≡ 0 → ⊥)
     → rounded F mode s X ≡ outcome F mode like s u x
 unfolding outcome
 outcome-held F ok mode s X zero u true held below t =
-    ap (rounded F mode s) (held-zero F X u held) ∙ rounded-zero F ok mode s
+    ap (rounded F mode s) (held-zero F X (u .0) held) ∙ rounded-zero F ok mode s
 outcome-held F ok mode s X zero u false held below t = absurd (mathlib.Core.Logic.⊎-elim (λ e. mathlib.Core.Bool.false≢true e) (λ ne. ne refl) t)
 outcome-held F ok mode s X (suc x) u like held below t =
-    ap (signed F s) (bounded-held F (direction mode s) X (suc x) u (held-pos F X (suc x) u held (suc-ne-zero x)) held below)
+    ap (signed F s) (bounded-held F (direction mode s) X (suc x) u (held-pos F X (suc x) (u .0) held (suc-ne-zero x)) held below)
 
 -- above a number of units, and so with the sticky bit
 with-sticky-lt : (L Z d : ℕ) → L * 2 ^ d < Z → 2 * L < withSticky Z d
@@ -106,16 +107,16 @@ module _ (F : Format) (ok : Supported F) (x y : record-of.Finite) (cx : Canonica
       go h (no l) = omega arith
 
   pub sum-outcome : (mode : ℕ) → (eqb (x .sign) (y .sign) ≡ false → magnitude y ≤ magnitude x)
-      → finiteSum F mode x y ≡ outcome F mode (eqb (x .sign) (y .sign)) (x .sign) (unitOf (x .exponent) .0) (combined (not (eqb (x .sign) (y .sign))) (8 * x .significand) tailOf)
+      → finiteSum F mode x y ≡ outcome F mode (eqb (x .sign) (y .sign)) (x .sign) (unitOf (x .exponent)) (combined (not (eqb (x .sign) (y .sign))) (8 * x .significand) tailOf)
   unfolding u v d outcome
   sum-outcome mode le = go (ℕ-discrete (x .sign) (y .sign)) (ℕ-discrete (magnitude x) (magnitude y))
     where
       go : Dec (x .sign ≡ y .sign) → Dec (magnitude x ≡ magnitude y)
-          → finiteSum F mode x y ≡ outcome F mode (eqb (x .sign) (y .sign)) (x .sign) (unitOf (x .exponent) .0) (combined (not (eqb (x .sign) (y .sign))) (8 * x .significand) tailOf)
+          → finiteSum F mode x y ≡ outcome F mode (eqb (x .sign) (y .sign)) (x .sign) (unitOf (x .exponent)) (combined (not (eqb (x .sign) (y .sign))) (8 * x .significand) tailOf)
       go (yes e) m =
           rw (eq-eqb _ _ e)
           (sum-like F mode x y e
-          ∙ outcome-held F ok mode (x .sign) (magnitude x + magnitude y) (8 * x .significand + tailOf) u true
+          ∙ outcome-held F ok mode (x .sign) (magnitude x + magnitude y) (8 * x .significand + tailOf) (unitOf (x .exponent)) true
           (align.sum-held F (x .significand) (y .significand) u v d gap (cx .significand-lt) (cy .significand-lt) normal)
           (align.sum-lt F (x .significand) (y .significand) u v d gap (cx .significand-lt) (cy .significand-lt) normal) (inl refl))
       go (no e) (yes m) =
@@ -129,7 +130,7 @@ module _ (F : Format) (ok : Supported F) (x y : record-of.Finite) (cx : Canonica
           let ne : (8 * x .significand - tailOf ≡ 0 → ⊥) = λ z. m (align.equal-tail F (x .significand) (y .significand) u v d gap (cx .significand-lt) (cy .significand-lt) normal .1 (omega arith)) in
           rw (ne-eqb _ _ e)
           (sum-unlike F mode x y e (omega (arith, m))
-          ∙ outcome-held F ok mode (x .sign) (magnitude x - magnitude y) (8 * x .significand - tailOf) u false
+          ∙ outcome-held F ok mode (x .sign) (magnitude x - magnitude y) (8 * x .significand - tailOf) (unitOf (x .exponent)) false
           (align.difference-held F (x .significand) (y .significand) u v d gap (cx .significand-lt) (cy .significand-lt) normal l)
           (omega arith) (inr ne))
 

@@ -62,7 +62,7 @@ pub record Summed (F : Format) (mode s e t g : ℕ) (m n carries c : Mask) : Typ
   pub sum-meets : Meets (finiteSum F mode (number (F .f) s e p) (number (F .f) t g q)) c
 
 module _ (F : Format) (ok : Supported F) (mode s e t g : ℕ) (m n carries c : Mask) (hs : s < 2) (ht : t < 2) (he : e < allOnes F) (hg : g < allOnes F)
-    (fm : WellFormed (F .f) m) (fn : WellFormed (F .f) n) (fr : WellFormed (precision F) carries) (units : unitAt g ≤ unitAt e) where
+    (fm : WellFormed (F .f) m) (fn : WellFormed (F .f) n) (fr : WellFormed (precision F) carries) (units : unitAt g .0 ≤ unitAt e .0) where
   p-most : precision F ≤ 60
   p-most = omega (arith, ok .f-most)
 
@@ -76,7 +76,7 @@ module _ (F : Format) (ok : Supported F) (mode s e t g : ℕ) (m n carries c : M
   tail = significandMask (F .f) n g
 
   gap : ℕ
-  gap = unitAt e - unitAt g
+  gap = unitAt e .0 - unitAt g .0
 
   pub summed-admits : Summed F mode s e t g m n carries c → Admits F mode s (unitAt e) (alignedOf F (eqb s t) carries m e n g) c
   unfolding head tail gap
@@ -93,21 +93,26 @@ module _ (F : Format) (ok : Supported F) (mode s e t g : ℕ) (m n carries c : M
       let zero = aligned-zero (x .significand) in
       let row = meets-allowed (precision F) (finiteRow F x y) carries fr (finite-row-lt F x y) .0 (S .row-meets) in
       record {
-        H = 8 * x .significand;
-        T = withSticky (4 * y .significand) gap;
-        head-lt = subst (λ (n : ℕ). 8 * x .significand < 2 ^ n) up (rw zero at (hs .1));
-        tail-lt = subst (λ (n : ℕ). withSticky (4 * y .significand) gap < 2 ^ n) up (ts .1);
-        head-meets = rw zero at (hs .0);
-        tail-meets = ts .0;
-        ordered = λ u. tail-ordered F ok x y cx cy units .1 (S .ordered u);
-        carries-allow = λ i h.
-            subst (λ (b : ℕ). allows (carries .care) (carries .value) i b ≡ true) (row-columns F ok x y cx cy units (S .ordered) i h) (row i h);
-        c-meets = subst (λ (w : ℕ). Meets w c) (sum-outcome F ok x y cx cy units mode (S .ordered)) (S .sum-meets);
+        x = combined (not (eqb s t)) (8 * x .significand) (withSticky (4 * y .significand) gap);
+        made = record {
+          H = 8 * x .significand;
+          T = withSticky (4 * y .significand) gap;
+          head-lt = subst (λ (n : ℕ). 8 * x .significand < 2 ^ n) up (rw zero at (hs .1));
+          tail-lt = subst (λ (n : ℕ). withSticky (4 * y .significand) gap < 2 ^ n) up (ts .1);
+          head-meets = rw zero at (hs .0);
+          tail-meets = ts .0;
+          ordered = λ u. tail-ordered F ok x y cx cy units .1 (S .ordered u);
+          carries-allow = λ i h.
+              subst (λ (b : ℕ). allows (carries .care) (carries .value) i b ≡ true) (row-columns F ok x y cx cy units (S .ordered) i h) (row i h);
+          makes = refl;
+        };
+        holds = subst (λ (w : ℕ). Meets w c) (sum-outcome F ok x y cx cy units mode (S .ordered)) (S .sum-meets);
       }
 
   pub admits-summed : Admits F mode s (unitAt e) (alignedOf F (eqb s t) carries m e n g) c → Summed F mode s e t g m n carries c
   unfolding head tail gap
-  admits-summed A =
+  admits-summed admitted =
+      let A = admitted .made in
       let wide : (v : ℕ) → v < 2 ^ (F .f + 4) → v < 2 ^ 63 = λ v h. lt-of-lt-of-le h (pow-mono {i = F .f + 4} {j = 63} (omega (arith, ok .f-most))) in
       let hc = tail-complete (precision F) head 0 p-most (significand-formed (F .f) m f-most fm e) (A .H) (wide (A .H) (A .head-lt)) (A .head-meets) in
       let tc = tail-complete (precision F) tail gap p-most (significand-formed (F .f) n f-most fn g) (A .T) (wide (A .T) (A .tail-lt)) (A .tail-meets) in
@@ -133,6 +138,8 @@ module _ (F : Format) (ok : Supported F) (mode s e t g : ℕ) (m n carries c : M
             subst (λ (b : ℕ). allows (carries .care) (carries .value) i b ≡ true)
             (sym (row-columns F ok x y cx cy units ordered i h ∙ ap₂ (λ (a b : ℕ). carryOf (not (eqb s t)) a b (i + 4)) H T)) (A .carries-allow i h));
         sum-meets = subst (λ (w : ℕ). Meets w c)
-            (sym (sum-outcome F ok x y cx cy units mode ordered ∙ ap₂ (λ (a b : ℕ). outcome F mode (eqb s t) s (unitAt e) (combined (not (eqb s t)) a b)) H T))
-            (A .c-meets);
+            (sym
+            (sum-outcome F ok x y cx cy units mode ordered
+            ∙ ap (outcome F mode (eqb s t) s (unitAt e)) (ap₂ (combined (not (eqb s t))) H T ∙ A .makes)))
+            (admitted .holds);
       }

@@ -72,9 +72,9 @@ pub record Summing (j : Job) (ea eb sa sb : ℕ) : Type 0 where
   pub sb-lt : sb < 2
   pub a-sign : Meets sa (signMask (j .setting .format) (j .a .mask))
   pub b-sign : Meets sb (signMask (j .setting .format) (j .b .mask))
-  pub sums : ((unitAt eb ≤ unitAt ea)
+  pub sums : ((unitAt eb .0 ≤ unitAt ea .0)
       × Summed (j .setting .format) (j .setting .mode) sa ea (turned (j .setting .operation) sb) eb (fractionMask (j .setting .format) (j .a .mask)) (fractionMask (j .setting .format) (j .b .mask)) (j .carries) (j .c .mask))
-      ⊎ ((unitAt ea ≤ unitAt eb)
+      ⊎ ((unitAt ea .0 ≤ unitAt eb .0)
       × Summed (j .setting .format) (j .setting .mode) (turned (j .setting .operation) sb) eb sa ea (fractionMask (j .setting .format) (j .b .mask)) (fractionMask (j .setting .format) (j .a .mask)) (j .carries) (j .c .mask))
 
 module _ (j : Job) (valid : Valid j) where
@@ -130,9 +130,9 @@ module _ (j : Job) (valid : Valid j) where
       carries = subst (λ (r : row.Row). RowMeets r (j .carries)) (row-numbers F (j .setting .operation) (j .setting .mode) a b na nb) (h .satisfies .row)
 
       go : Dec (magnitude x < magnitude y)
-          → ((unitAt (biased F b .0) ≤ unitAt (biased F a .0))
+          → ((unitAt (biased F b .0) .0 ≤ unitAt (biased F a .0) .0)
           × Summed F (j .setting .mode) (sign F a) (biased F a .0) (turned (j .setting .operation) (sign F b)) (biased F b .0) (fractionMask F (j .a .mask)) (fractionMask F (j .b .mask)) (j .carries) (j .c .mask))
-          ⊎ ((unitAt (biased F a .0) ≤ unitAt (biased F b .0))
+          ⊎ ((unitAt (biased F a .0) .0 ≤ unitAt (biased F b .0) .0)
           × Summed F (j .setting .mode) (turned (j .setting .operation) (sign F b)) (biased F b .0) (sign F a) (biased F a .0) (fractionMask F (j .b .mask)) (fractionMask F (j .a .mask)) (j .carries) (j .c .mask))
       go (no l) =
           let le : magnitude y ≤ magnitude x = omega arith in
@@ -271,12 +271,12 @@ module _ (j : Job) (valid : Valid j) where
           ht : t < 2
           ht = mod-lt (sb + j .setting .operation) (omega arith)
 
-          first-larger : (unitAt eb ≤ unitAt ea) × Summed F (j .setting .mode) sa ea t eb (fractionMask F (j .a .mask)) (fractionMask F (j .b .mask)) (j .carries) (j .c .mask) → PairFits j ea eb
+          first-larger : (unitAt eb .0 ≤ unitAt ea .0) × Summed F (j .setting .mode) sa ea t eb (fractionMask F (j .a .mask)) (fractionMask F (j .b .mask)) (j .carries) (j .c .mask) → PairFits j ea eb
           first-larger S =
               fits-from sa sb (S .1 .p) (S .1 .q) (Q .sa-lt) (Q .sb-lt) (S .1 .p-lt) (S .1 .q-lt) (Q .a-sign) (Q .b-sign) (S .1 .p-meets) (S .1 .q-meets) (S .1 .row-meets)
               (S .1 .sum-meets)
 
-          second-larger : (unitAt ea ≤ unitAt eb) × Summed F (j .setting .mode) t eb sa ea (fractionMask F (j .b .mask)) (fractionMask F (j .a .mask)) (j .carries) (j .c .mask) → PairFits j ea eb
+          second-larger : (unitAt ea .0 ≤ unitAt eb .0) × Summed F (j .setting .mode) t eb sa ea (fractionMask F (j .b .mask)) (fractionMask F (j .a .mask)) (j .carries) (j .c .mask) → PairFits j ea eb
           second-larger S =
               let y = number (F .f) t eb (S .1 .p) in
               let x = number (F .f) sa ea (S .1 .q) in

@@ -11,7 +11,7 @@ use Rattle.mask.specs.Mask.{Meets}
 use Rattle.job.specs.declared.Job.{Job}
 use Rattle.job.specs.Job.{Valid}
 use Rattle.word.specs.Word.{unitOf, allOnes}
-use Rattle.word.specs.declared.Biased.{Biased}
+use Rattle.word.specs.declared.Unit as exponent
 use Rattle.significand.specs.Significand.{significandMask}
 use Rattle.significand.specs.Tail.{tailMask}
 use Rattle.outcome.specs.declared.Aligned as pair
@@ -19,22 +19,22 @@ use Rattle.outcome.specs.Outcome.{Admits}
 use Rattle.word.specs.Masks.{signMask, exponentMask, fractionMask}
 
 -- the exponent of the unit that goes with an exponent field
-abbrev pub unitAt : ℕ → ℕ
-unitAt e = unitOf (record { 0 = e }) .0
+abbrev pub unitAt : ℕ → exponent.Unit
+unitAt e = unitOf (record { 0 = e })
 
 -- the masks of two aligned significands: the larger operand has the exponent field e and the fraction mask m, the other g and n
 abbrev pub alignedOf : Format → Bool → Mask → Mask → ℕ → Mask → ℕ → pair.Aligned
 alignedOf F like carries m e n g = record {
   like = like;
   head = tailMask (precision F) (significandMask (F .f) m e) 0;
-  tail = tailMask (precision F) (significandMask (F .f) n g) (unitAt e - unitAt g);
+  tail = tailMask (precision F) (significandMask (F .f) n g) (unitAt e .0 - unitAt g .0);
   carries = carries;
 }
 
 -- the operand of sign s, exponent field e and fraction mask m is the larger, the other has g and n: its unit is not the smaller one,
 -- and aligned significands make a word and carries that meet the job's masks
 abbrev pub Larger : Job → Bool → ℕ → ℕ → Mask → ℕ → Mask → Type 0
-Larger j like s e m g n = (unitAt g ≤ unitAt e) × Admits (j .setting .format) (j .setting .mode) s (unitAt e) (alignedOf (j .setting .format) like (j .carries) m e n g) (j .c .mask)
+Larger j like s e m g n = (unitAt g .0 ≤ unitAt e .0) × Admits (j .setting .format) (j .setting .mode) s (unitAt e) (alignedOf (j .setting .format) like (j .carries) m e n g) (j .c .mask)
 
 -- the sign of b in the effective addition
 abbrev pub turned : ℕ → ℕ → ℕ

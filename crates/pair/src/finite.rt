@@ -1,4 +1,9 @@
 // Two finite operands.
+use word::masks::fraction_mask;
+use word::masks::sign_mask;
+use word::Biased;
+use word::Unit;
+use word::exponent::unit_of;
 use job::Job;
 use mask::Mask;
 use mask::meets;
@@ -6,10 +11,6 @@ use outcome::Aligned;
 use outcome::admits;
 use significand::significand_mask;
 use significand::tail_mask;
-use word::Biased;
-use word::exponent::unit_of;
-use word::masks::fraction_mask;
-use word::masks::sign_mask;
 ghost use mathlib.Core.Bool.{true};
 ghost use mathlib.Core.Path.{_≡_};
 ghost use Prim.Native.Nat.{_≤_, _<_};
@@ -23,10 +24,10 @@ ghost use Rattle.pair.specs.Asked.{PairFits};
 ghost use Rattle.pair.specs.Pair.{unitAt, alignedOf, FinitePair, SomeSigns, Finites, Larger, turned, Posed};
 
 // The exponent of the unit that goes with an exponent field.
-fn unit_at(e: u64) -> u64
+fn unit_at(e: u64) -> Unit
     ensures { λ r. ⌜ r ≡ unitAt e ⌝ }
 {
-    unit_of(Biased(e)).0
+    unit_of(Biased(e))
 }
 
 // Whether two operands, the one with the exponent field e and the fraction mask m the larger, sum as the job asks; `sign` is the
@@ -37,12 +38,12 @@ fn larger(job: Job, like: bool, sign: u64, e: u64, m: Mask, g: u64, n: Mask) -> 
 {
     let u = unit_at(e);
     let v = unit_at(g);
-    if u < v {
+    if u.0 < v.0 {
         return false;
     }
     let p = job.setting.format.f + 1;
     let head = tail_mask(p, significand_mask(job.setting.format.f, m, e), 0);
-    let tail = tail_mask(p, significand_mask(job.setting.format.f, n, g), u - v);
+    let tail = tail_mask(p, significand_mask(job.setting.format.f, n, g), u.0 - v.0);
     let carries = job.carries;
     let aligned = Aligned {
         like,

@@ -1,5 +1,6 @@
 // Answers by class of pairs, kept during one pass over the exponent fields.
 use bits::bit_at;
+use bits::minus;
 use bits::power;
 use job::Job;
 use mask::Mask;
@@ -23,13 +24,6 @@ ghost use Rattle.search.specs.Classes.{Never, Refuses, Kept, ClassOf, No
 pub struct Known {
     pub possible: bool,
     pub refused: u64,
-}
-
-// a - b, or 0 where b is larger.
-fn minus(a: u64, b: u64) -> u64
-    ensures { λ r. ⌜ r ≡ a - b ⌝ }
-{
-    if b < a { a - b } else { 0 }
 }
 
 // c's exponent field with the unit u, where it is i with the unit that stands for all.

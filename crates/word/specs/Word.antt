@@ -23,6 +23,11 @@ sign F x = x / 2 ^ (F .w + F .f) % 2
 abbrev pub unitOf : Biased → exponent.Unit
 unitOf e = record { 0 = e .0 - 1 }
 
+-- the exponent field of a number of q * 2^f + t units: q is 0 where e = 0, else 1, and 2 stands for a significand that was rounded up to the
+-- next exponent
+abbrev pub fieldOf : exponent.Unit → ℕ → Biased
+fieldOf u q = record { 0 = u .0 + q }
+
 -- the significand: t where e = 0, else 2^f + t
 unfoldable pub significand : ℕ → ℕ → ℕ → ℕ
 significand f zero t = t

@@ -26,7 +26,7 @@ gate w n {a} {b} p q e =
     (served-sound w n (sym p ∙ o .0), sym q ∙ o .1)
 
 returns : tie.Need-returns
-returns c = (λ e. absurd (false≢true e), λ h. absurd (omega arith))
+returns c = (λ e. absurd (false≢true e), λ a. absurd (omega (arith, a .columns-lt)))
 
 served-requires : tie.Need-served-requires
 served-requires c κs = search needs
@@ -63,8 +63,8 @@ returns-2 c =
     ap (λ (u : ℕ). eqb u 1) (c .bit-at .ensures)
     ∙ c .before .walk .ensures 0 (omega arith)
     ∙ ap (λ (u : ℕ). sets (step w) 4 (mem u) n 0) (one-shl (2 * w .carry) (omega (arith, v .0 .carry-bit))) in (
-      λ e. sound w n (v .0) (v .1) (reach-sound (step w) 4 (start w n) n 0 (omega arith) (sym is ∙ e)),
-      λ h hc l t s. is ∙ reach-complete (step w) 4 (start w n) (step-live w) n 0 (omega arith) (complete w n hc l t s),
+      λ e. sound w n (v .0) (v .1) (reach-sound (step w) 4 (start w n) n 0 (omega arith) (sym is ∙ e)) (omega (arith, at-test .before .before .before .if1 .left)),
+      λ s. is ∙ reach-complete (step w) 4 (start w n) (step-live w) n 0 (omega arith) (complete w n (s .carry-lt) (s .l) (s .t) (s .solved)),
     )
 
 returns-3 : tie.Need-returns-3
@@ -72,9 +72,10 @@ returns-3 c =
     let a = c .before .before .before .before .args in
     let w = a .wires in (
       λ e. absurd (false≢true e),
-      λ h hc l t s.
+      λ s.
           sym (c .if2 .left)
-          ∙ and-both (c .before .before .served .ensures ∙ served-complete w (a .n) (solved-served w (a .n) hc l t s)) (c .before .allows .ensures ∙ solved-start w (a .n) l t s),
+          ∙ and-both (c .before .before .served .ensures ∙ served-complete w (a .n) (solved-served w (a .n) (s .carry-lt) (s .l) (s .t) (s .solved)))
+          (c .before .allows .ensures ∙ solved-start w (a .n) (s .l) (s .t) (s .solved)),
     )
 
 pub possible-spec : {M : Type 1} → statement M

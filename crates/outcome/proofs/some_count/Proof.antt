@@ -7,8 +7,8 @@ use native.Mathlib.Decide.{decLt}
 use native.Mathlib.Omega.{arith}
 use lib.Ieee.{size}
 use Rattle.mask.specs.Mask.{Meets}
-use Rattle.outcome.specs.Outcome.{outcome}
-use Rattle.outcome.specs.Question.{Formed, Making}
+use Rattle.outcome.specs.Outcome.{outcome, Formed, Making}
+use Rattle.outcome.proofs.Room.{columns-lt}
 use Rattle.outcome.proofs.some_count.Statement.{statement}
 use Rattle.outcome.proofs.some_count.Tie as tie
 
@@ -29,10 +29,10 @@ abbrev μ-loop : tie.MeasureT-loop
 μ-loop format mode sign unit aligned c last count₀ count = last + 1 - count
 
 most-requires : tie.Need-most-requires Inv-loop μ-loop
-most-requires c κs = omega (arith, c .pre .0 .f-most)
+most-requires c κs = columns-lt (c .args .format) (c .pre .supported)
 
 fewest-requires : tie.Need-fewest-requires Inv-loop μ-loop
-fewest-requires c κs = omega (arith, c .before .pre .0 .f-most)
+fewest-requires c κs = columns-lt (c .before .args .format) (c .before .pre .supported)
 
 loop-holds : tie.Need-loop-holds Inv-loop μ-loop
 loop-holds c = (omega arith, λ n l h formed m. absurd (omega arith))
@@ -40,7 +40,7 @@ loop-holds c = (omega arith, λ n l h formed m. absurd (omega arith))
 fits-requires : tie.Need-fits-requires Inv-loop μ-loop
 fits-requires c κs =
     let s = c .before .before .before .before in
-    (s .pre .0, s .pre .1, s .pre .2, omega (arith, c .loop-test .taken, c .before .before .before .most .ensures .0))
+    (s .pre, omega (arith, c .loop-test .taken, c .before .before .before .most .ensures .0))
 
 returns : tie.Need-returns Inv-loop μ-loop
 returns c =
@@ -51,7 +51,8 @@ returns c =
 
 add-count : tie.Need-add-count Inv-loop μ-loop
 add-count c =
-    omega (arith, c .before .before .loop-test .taken, c .before .before .before .before .before .most .ensures .0, c .before .before .before .before .before .before .pre .0 .f-most)
+    let s = c .before .before .before .before .before .before in
+    omega (arith, c .before .before .loop-test .taken, c .before .before .before .before .before .most .ensures .0, columns-lt (s .args .format) (s .pre .supported))
 
 loop-less : tie.Need-loop-less Inv-loop μ-loop
 loop-less c = omega (arith, c .before .before .loop-test .taken)

@@ -4,6 +4,9 @@ use borrow.Author.Needs.{needs}
 use Rattle.outcome.proofs.ask.ask.Statement.{statement}
 use Rattle.outcome.proofs.ask.ask.Tie as tie
 
+add-raised : tie.Need-add-raised
+add-raised c = search needs
+
 raised-requires : tie.Need-raised-requires
 raised-requires c κs = search needs
 
@@ -18,7 +21,7 @@ returns c =
     let s = c .before .before .before .before .before in
     let a = s .args in
     let k = c .before .before .raised in
-    asked (a .f) (a .aligned) (k .result) (a .x) (a .z) (a .constant) (a .carry) (c .possible .result) (s .pre) (k .ensures) (c .possible .ensures .0) (c .possible .ensures .1)
+    asked (a .f) (a .aligned) (k .result) (a .x) (a .z) (a .constant) (a .carry) (c .possible .result) (s .pre) (k .ensures) (c .possible .ensures)
 
 pub ask-spec : {M : Type 1} → statement M
-ask-spec = tie.close (tie.spec raised-requires add-possible possible-requires returns)
+ask-spec = tie.close (tie.spec add-raised raised-requires add-possible possible-requires returns)

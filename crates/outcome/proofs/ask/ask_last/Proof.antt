@@ -13,7 +13,7 @@ use Rattle.mask.specs.declared.Joined.the-variants as reply
 use Rattle.mask.specs.Mask.{Inside, Meets}
 use Rattle.mask.specs.Join.{join}
 use Rattle.outcome.specs.declared.Aligned as pair
-use Rattle.outcome.specs.Question.{Making}
+use Rattle.outcome.specs.Outcome.{Making}
 use Rattle.outcome.proofs.Making.{none-made, making-answer}
 use Rattle.outcome.proofs.Last.{oneBit, last-joined, last-refused}
 use borrow.Author.Needs.{needs}

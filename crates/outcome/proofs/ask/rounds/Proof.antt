@@ -12,7 +12,7 @@ use Rattle.rounding.specs.declared.Direction.{Direction}
 use Rattle.rounding.specs.declared.Direction.the-variants.{TowardZero, Away}
 use Rattle.rounding.specs.Rounding.{roundOff}
 use Rattle.outcome.specs.declared.Aligned as pair
-use Rattle.outcome.specs.Question.{Making}
+use Rattle.outcome.specs.Outcome.{Making}
 use Rattle.outcome.proofs.Rounds.{rounds-meets, toward-zero-adds, away-adds}
 use Rattle.outcome.proofs.Making.{making-answer}
 use borrow.Author.Needs.{needs}

@@ -11,7 +11,7 @@ use Rattle.mask.specs.Mask.{Meets, raised}
 use Rattle.rounding.specs.declared.Direction.the-variants.{Nearest}
 use Rattle.rounding.specs.Rounding.{roundOff}
 use Rattle.outcome.specs.declared.Aligned as pair
-use Rattle.outcome.specs.Question.{Making}
+use Rattle.outcome.specs.Outcome.{Making}
 use Rattle.outcome.proofs.Rounds.{rounds-meets, none-adds}
 use Rattle.outcome.proofs.Making.{some-made, making-map, making-answer}
 use Rattle.outcome.proofs.Last.{nearest-meets}

@@ -6,7 +6,9 @@ use native.Mathlib.Omega.{arith}
 use lib.Dec.{ltb}
 use Rattle.mask.specs.Mask.{Meets}
 use Rattle.word.specs.Word.{signed}
+use Rattle.outcome.specs.Width.{alignedBits}
 use Rattle.outcome.specs.Outcome.{boundedHeld}
+use Rattle.outcome.proofs.Room.{columns-lt, unit-short}
 use Rattle.outcome.proofs.Counted.{first-quotient, second-quotient}
 use borrow.Author.Needs.{needs}
 use Rattle.outcome.proofs.digits.at_count.Statement.{statement}
@@ -17,14 +19,17 @@ small true n e = omega arith
 small false n e = omega arith
 
 least-quotient-requires : tie.Need-least-quotient-requires
-least-quotient-requires c κs = search needs
+least-quotient-requires c κs =
+    let a = c .args in
+    let given = c .pre .0 in
+    (columns-lt (a .format) (given .supported), unit-short (a .format) (a .sign) (a .unit) given, c .pre .2)
 
 at-quotient-requires : tie.Need-at-quotient-requires
 at-quotient-requires c κs =
     let s = c .before in
     let a = s .args in
     let q = c .least-quotient in
-    (s .pre .0, s .pre .1, s .pre .2, s .pre .3, s .pre .4, omega (arith, small (ltb (a .count + a .unit) (a .format .f + 4)) (q .result) (q .ensures)))
+    (s .pre .0, s .pre .1, s .pre .2, omega (arith, small (ltb (a .count + a .unit .0) (alignedBits (a .format .f))) (q .result) (q .ensures)))
 
 returns : tie.Need-returns
 returns c =
@@ -32,20 +37,20 @@ returns c =
     let a = s .args in
     let q = c .before .before .least-quotient in
     λ formed. first-quotient (a .format .f) (a .direction) (a .unit) (q .result) (a .aligned) (a .count) (λ (n : ℕ). Meets (signed (a .format) (a .sign) (boundedHeld (a .format) (a .direction) n (a .unit))) (a .c))
-    (s .pre .3) (s .pre .4) (q .ensures) (c .before .at-quotient .result) (c .before .at-quotient .ensures formed) (c .if1 .taken)
+    (s .pre .1) (s .pre .2) (q .ensures) (c .before .at-quotient .result) (c .before .at-quotient .ensures formed) (c .if1 .taken)
 
 add-at-quotient : tie.Need-add-at-quotient
 add-at-quotient c =
     let a = c .before .before .before .args in
     let q = c .before .before .least-quotient in
-    omega (arith, small (ltb (a .count + a .unit) (a .format .f + 4)) (q .result) (q .ensures))
+    omega (arith, small (ltb (a .count + a .unit .0) (alignedBits (a .format .f))) (q .result) (q .ensures))
 
 at-quotient-requires-2 : tie.Need-at-quotient-requires-2
 at-quotient-requires-2 c κs =
     let s = c .before .before .before in
     let a = s .args in
     let q = c .before .before .least-quotient in
-    (s .pre .0, s .pre .1, s .pre .2, s .pre .3, s .pre .4, omega (arith, small (ltb (a .count + a .unit) (a .format .f + 4)) (q .result) (q .ensures)))
+    (s .pre .0, s .pre .1, s .pre .2, omega (arith, small (ltb (a .count + a .unit .0) (alignedBits (a .format .f))) (q .result) (q .ensures)))
 
 returns-2 : tie.Need-returns-2
 returns-2 c =
@@ -53,7 +58,7 @@ returns-2 c =
     let a = s .args in
     let q = c .before .before .before .least-quotient in
     λ formed. second-quotient (a .format .f) (a .direction) (a .unit) (q .result) (a .aligned) (a .count) (λ (n : ℕ). Meets (signed (a .format) (a .sign) (boundedHeld (a .format) (a .direction) n (a .unit))) (a .c))
-    (s .pre .3) (s .pre .4) (q .ensures) (c .before .before .at-quotient .result) (c .before .before .at-quotient .ensures formed) (c .before .if1 .left)
+    (s .pre .1) (s .pre .2) (q .ensures) (c .before .before .at-quotient .result) (c .before .before .at-quotient .ensures formed) (c .before .if1 .left)
     (c .at-quotient2 .result) (c .at-quotient2 .ensures formed)
 
 pub at-count-spec : {M : Type 1} → statement M

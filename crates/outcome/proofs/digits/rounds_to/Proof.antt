@@ -10,6 +10,8 @@ use lib.Arith.{digits-lt}
 use lib.Pow.{pow-add, pow-mono, shr-le}
 use Rattle.mask.specs.declared.Mask.{Mask}
 use Rattle.mask.specs.Mask.{high}
+use Rattle.word.specs.declared.Unit as exponent
+use Rattle.outcome.specs.Width.{columnsOf, shortBits}
 use Rattle.outcome.specs.Question.{topped}
 use Rattle.outcome.proofs.Counted.{counted-asked, counted-refused}
 use borrow.Author.Needs.{needs}
@@ -17,14 +19,14 @@ use Rattle.outcome.proofs.digits.rounds_to.Statement.{statement}
 use Rattle.outcome.proofs.digits.rounds_to.Tie as tie
 
 -- the mask of the kept part is short
-module _ (f q : ℕ) (fraction : Mask) (short : f ≤ 23) where
-  below : (t n : ℕ) → t < 2 ^ 2 → n < 2 ^ f → t * 2 ^ f + n < 2 ^ 60
+module _ (f q : ℕ) (fraction : Mask) (short : columnsOf f < 64) where
+  below : (t n : ℕ) → t < 2 ^ 2 → n < 2 ^ f → t * 2 ^ f + n < 2 ^ shortBits
   below t n ht hn =
       lt-of-lt-of-le (digits-lt {q = t} {m = 2 ^ 2} {r = n} {c = 2 ^ f} ht hn)
-      (subst (λ (m : ℕ). m ≤ 2 ^ 60) (pow-add 2 2 f) (pow-mono {i = 2 + f} {j = 60} (omega arith)))
+      (subst (λ (m : ℕ). m ≤ 2 ^ shortBits) (pow-add 2 2 f) (pow-mono {i = 2 + f} {j = shortBits} (omega arith)))
 
   moved : (m y : Mask) (up : ℕ) → q < 4 → fraction .care < 2 ^ f → fraction .value < 2 ^ f → m ≡ topped 2 f q fraction → y ≡ high up m
-      → (y .care < 2 ^ 60) × (y .value < 2 ^ 60)
+      → (y .care < 2 ^ shortBits) × (y .value < 2 ^ shortBits)
   moved m y up hq hc hv em ey =
       rw (ey, em) (
         lt-of-le-of-lt (shr-le ((2 ^ 2 - 1) * 2 ^ f + fraction .care) up) (below (2 ^ 2 - 1) (fraction .care) (omega arith) hc),
@@ -39,33 +41,30 @@ returns c =
 topped-requires : tie.Need-topped-requires
 topped-requires c κs = search needs
 
-add-minus : tie.Need-add-minus
-add-minus c = search needs
+rounded-unit-requires : tie.Need-rounded-unit-requires
+rounded-unit-requires c κs = search needs
 
-add-minus-2 : tie.Need-add-minus-2
-add-minus-2 c = search needs
+add-place : tie.Need-add-place
+add-place c =
+    let s = c .before .before .before .before .before in
+    let k = c .before .rounded-unit in
+    omega (arith, ap (λ (n : exponent.Unit). n .0) (k .ensures), s .pre .1, s .pre .3)
 
 minus-requires : tie.Need-minus-requires
 minus-requires c κs = search needs
-
-add-place : tie.Need-add-place
-add-place c = search needs
-
-minus-requires-2 : tie.Need-minus-requires-2
-minus-requires-2 c κs = search needs
 
 low-requires : tie.Need-low-requires
 low-requires c κs = search needs
 
 returns-2 : tie.Need-returns-2
 returns-2 c =
-    let s = c .before .before .before .before .before .before .before in
+    let s = c .before .before .before .before .before .before .before .before in
     let a = s .args in
-    let k = c .before .before .before .minus in
-    let up = c .before .before .minus2 in
-    let top = c .before .before .before .before .topped in
+    let k = c .before .before .before .before .rounded-unit in
+    let up = c .before .before .minus in
+    let top = c .before .before .before .before .before .topped in
     λ formed. counted-refused (a .f) (a .direction) (a .unit) (a .quotient) (a .fractions .fraction) (s .pre .5) (s .pre .6) (a .aligned) (a .count) (a .fractions .possible) (s .pre .2) (s .pre .3)
-    (top .result) (up .result) (top .ensures) (up .ensures ∙ ap (λ (n : ℕ). a .unit - (n + 3)) (k .ensures))
+    (top .result) (up .result) (top .ensures) (up .ensures ∙ ap (λ (n : exponent.Unit). a .unit .0 - (n .0 + 3)) (k .ensures))
     (λ z. c .if2 .taken (c .before .low .ensures ∙ z))
 
 add-digits : tie.Need-add-digits
@@ -74,36 +73,35 @@ add-digits c = search needs
 digits-requires : tie.Need-digits-requires
 digits-requires c κs = search needs
 
-minus-requires-3 : tie.Need-minus-requires-3
-minus-requires-3 c κs = search needs
+minus-requires-2 : tie.Need-minus-requires-2
+minus-requires-2 c κs = search needs
 
 high-requires : tie.Need-high-requires
 high-requires c κs = search needs
 
 rounds-requires : tie.Need-rounds-requires
 rounds-requires c κs =
-    let s = c .before .before .before .before .before .before .before .before .before .before in
+    let s = c .before .before .before .before .before .before .before .before .before .before .before in
     let a = s .args in
-    let k = c .before .before .before .before .before .before .minus in
-    let up = c .before .before .before .before .before .minus2 in
-    let top = c .before .before .before .before .before .before .before .topped in
+    let k = c .before .before .before .before .before .before .before .rounded-unit in
+    let up = c .before .before .before .before .before .minus in
+    let top = c .before .before .before .before .before .before .before .before .topped in
     let m = moved (a .f) (a .quotient) (a .fractions .fraction) (s .pre .0) (top .result) (c .high .result) (up .result) (s .pre .4) (s .pre .5) (s .pre .6) (top .ensures) (c .high .ensures) in
-    (s .pre .0, omega (arith, c .before .minus3 .ensures, k .ensures, s .pre .3), c .before .before .digits .ensures .inside, m .0, m .1)
+    (s .pre .0, omega (arith, c .before .minus2 .ensures, ap (λ (n : exponent.Unit). n .0) (k .ensures), s .pre .3), c .before .before .digits .ensures .inside, m .0, m .1)
 
 returns-3 : tie.Need-returns-3
 returns-3 c =
-    let s = c .before .before .before .before .before .before .before .before .before .before .before in
+    let s = c .before .before .before .before .before .before .before .before .before .before .before .before in
     let a = s .args in
-    let k = c .before .before .before .before .before .before .before .minus in
-    let up = c .before .before .before .before .before .before .minus2 in
-    let top = c .before .before .before .before .before .before .before .before .topped in
-    let low = c .before .before .before .before .before .low in
+    let k = c .before .before .before .before .before .before .before .before .rounded-unit in
+    let up = c .before .before .before .before .before .before .minus in
+    let top = c .before .before .before .before .before .before .before .before .before .topped in
     λ formed. counted-asked (a .f) (a .direction) (a .unit) (a .quotient) (a .fractions .fraction) (s .pre .5) (s .pre .6) (a .aligned) (a .count) (a .fractions .possible) (s .pre .2) (s .pre .3)
-    (top .result) (up .result) (top .ensures) (up .ensures ∙ ap (λ (n : ℕ). a .unit - (n + 3)) (k .ensures))
-    (c .before .before .minus3 .result) (c .before .before .before .digits .result) (c .before .high .result) (c .rounds .result)
-    (not-false (a .fractions .possible) (c .before .before .before .before .before .before .before .before .before .if1 .left))
-    (c .before .before .minus3 .ensures ∙ ap (λ (n : ℕ). n + 3 - a .unit) (k .ensures))
-    (sym (low .ensures) ∙ c .before .before .before .before .if2 .left)
+    (top .result) (up .result) (top .ensures) (up .ensures ∙ ap (λ (n : exponent.Unit). a .unit .0 - (n .0 + 3)) (k .ensures))
+    (c .before .before .minus2 .result) (c .before .before .before .digits .result) (c .before .high .result) (c .rounds .result)
+    (not-false (a .fractions .possible) (c .before .before .before .before .before .before .before .before .before .before .if1 .left))
+    (c .before .before .minus2 .ensures ∙ ap (λ (n : exponent.Unit). n .0 + 3 - a .unit .0) (k .ensures))
+    (sym (c .before .before .before .before .before .low .ensures) ∙ c .before .before .before .before .if2 .left)
     (c .before .before .before .digits .ensures) (c .before .high .ensures) (c .rounds .ensures formed)
 
 pub rounds-to-spec : {M : Type 1} → statement M
@@ -112,16 +110,14 @@ rounds-to-spec =
     (tie.spec
     returns
     topped-requires
-    add-minus
-    add-minus-2
-    minus-requires
+    rounded-unit-requires
     add-place
-    minus-requires-2
+    minus-requires
     low-requires
     returns-2
     add-digits
     digits-requires
-    minus-requires-3
+    minus-requires-2
     high-requires
     rounds-requires
     returns-3)

@@ -1,4 +1,4 @@
--- `outcome::masks::topped` meets its contract: no shift and no sum reaches 2^32. Assumes nothing.
+-- `outcome::masks::topped` meets its contract: no shift and no sum reaches 2^64. Assumes nothing.
 use mathlib.Core.Path.{_≡_, ap, ap₂, _∙_, subst}
 use Prim.Native.Nat.{ℕ, _+_, _-_, _*_, _%_, _^_, _≤_, _<_}
 use native.Mathlib.Nat.{lt-of-lt-of-le}
@@ -11,7 +11,7 @@ use Rattle.outcome.proofs.masks.topped.Statement.{statement}
 use Rattle.outcome.proofs.masks.topped.Tie as tie
 
 -- the parts, with no bit lost
-module _ (r k : ℕ) (short : r + k ≤ 32) where
+module _ (r k : ℕ) (short : r + k < 64) where
   ones : ((1 * 2 ^ r) % 2 ^ 64 - 1) * 2 ^ k % 2 ^ 64 ≡ (2 ^ r - 1) * 2 ^ k
   ones = ap (λ (n : ℕ). (n - 1) * 2 ^ k % 2 ^ 64) (one-shl r (omega arith)) ∙ shl-exact r k 64 (ones-lt r) (omega arith)
 

@@ -8,8 +8,9 @@ use lib.Pow.{pow-pos, shl-exact}
 use Rattle.bits.proofs.Laws.{one-shl}
 use Rattle.format.specs.declared.Format.{Format}
 use Rattle.format.specs.Format.{Supported}
+use Rattle.format.proofs.Room.{exponent-room}
 use Rattle.mask.specs.Mask.{meets}
-use Rattle.word.proofs.Widths.{exponent-power}
+use Rattle.outcome.proofs.Room.{exponents-lt}
 use Rattle.outcome.proofs.Fields.{within-seeks, past-seeks}
 use borrow.Author.Needs.{needs}
 use Rattle.outcome.proofs.sought.sought.Statement.{statement}
@@ -17,15 +18,15 @@ use Rattle.outcome.proofs.sought.sought.Tie as tie
 
 module _ (F : Format) (ok : Supported F) where
   ones : (1 * 2 ^ F .w) % 2 ^ 64 ≡ 2 ^ F .w
-  ones = one-shl (F .w) (omega (arith, ok .w-most))
+  ones = one-shl (F .w) (omega (arith, exponent-room F ok))
 
   placed : (s : ℕ) → s < 2 → s * 2 ^ F .w % 2 ^ 64 ≡ s * 2 ^ F .w
-  placed s h = shl-exact 1 (F .w) 64 h (omega (arith, ok .w-most))
+  placed s h = shl-exact 1 (F .w) 64 h (omega (arith, exponent-room F ok))
 
-  short : (s : ℕ) → s < 2 → s * 2 ^ F .w ≤ 2 ^ 8
+  short : (s : ℕ) → s < 2 → s * 2 ^ F .w ≤ 2 ^ 16
   short s h =
       let l = mul-le-mul-right {m = s} {n = 1} (2 ^ F .w) (omega arith) in
-      omega (arith, one-mul (2 ^ F .w), exponent-power F ok)
+      omega (arith, one-mul (2 ^ F .w), exponents-lt F ok)
 
   within : (e : ℕ) → e < (1 * 2 ^ F .w) % 2 ^ 64 - 1 → e < 2 ^ F .w - 1
   within e h = rw ones at h
@@ -50,23 +51,23 @@ shl-meets c = search needs
 
 add-meets : tie.Need-add-meets
 add-meets c =
-    let s = c .before .before .before .before .before in
+    let s = c .before .before .before .before .before .before .before in
     let F = s .args .format in
-    let e = within F (s .pre .0) (s .args .exponent) (c .before .before .before .if1 .taken) in
-    record { fits = rw (placed F (s .pre .0) (s .args .sign) (s .pre .1)) (omega (arith, short F (s .pre .0) (s .args .sign) (s .pre .1), exponent-power F (s .pre .0))) }
+    let e = within F (s .pre .0) (s .args .exponent .0) (c .before .before .before .before .if1 .taken) in
+    record { fits = rw (placed F (s .pre .0) (s .args .sign) (s .pre .1)) (omega (arith, short F (s .pre .0) (s .args .sign) (s .pre .1), exponents-lt F (s .pre .0))) }
 
 meets-requires : tie.Need-meets-requires
 meets-requires c κs = search needs
 
 returns : tie.Need-returns
 returns c =
-    let s = c .before .before .before .before .before .before in
+    let s = c .before .before .before .before .before .before .before .before in
     let a = s .args in
     let F = a .format in
-    within-seeks F (a .direction) (a .sign) (a .exponent) (a .c) (c .meets .result) (c .before .before .low .result)
-    (within F (s .pre .0) (a .exponent) (c .before .before .before .before .if1 .taken))
-    (c .meets .ensures ∙ ap₂ meets (ap (λ (n : ℕ). n + a .exponent) (placed F (s .pre .0) (a .sign) (s .pre .1))) (c .before .before .before .high .ensures))
-    (c .before .before .low .ensures)
+    within-seeks F (a .direction) (a .sign) (a .exponent) (a .c) (c .meets .result) (c .before .before .before .low .result)
+    (within F (s .pre .0) (a .exponent .0) (c .before .before .before .before .before .if1 .taken))
+    (c .meets .ensures ∙ ap₂ meets (ap (λ (n : ℕ). n + a .exponent .0) (placed F (s .pre .0) (a .sign) (s .pre .1))) (c .before .before .before .before .high .ensures))
+    (c .before .before .before .low .ensures)
 
 past-word-requires : tie.Need-past-word-requires
 past-word-requires c κs = search needs
@@ -76,11 +77,11 @@ meets-requires-2 c κs = search needs
 
 returns-2 : tie.Need-returns-2
 returns-2 c =
-    let s = c .before .before .before .before in
+    let s = c .before .before .before .before .before in
     let a = s .args in
     let F = a .format in
     past-seeks F (a .direction) (a .sign) (a .exponent) (a .c) (c .meets2 .result) (record { care = 0; value = 0 })
-    (past F (s .pre .0) (a .exponent) (c .before .before .if1 .left))
+    (past F (s .pre .0) (a .exponent .0) (c .before .before .if1 .left))
     (c .meets2 .ensures ∙ ap (λ (n : ℕ). meets n (a .c)) (c .before .past-word .ensures))
     refl
 

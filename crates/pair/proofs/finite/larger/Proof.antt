@@ -1,4 +1,5 @@
 -- `pair::finite::larger` meets its contract: the masks it builds are those of the definition, and `admits` decides. Assumes nothing.
+use mathlib.Core.Logic.{_↔_}
 use mathlib.Core.Path.{_≡_, refl, sym, ap, ap₂, _∙_, subst}
 use Prim.Native.Nat.{ℕ, zero, suc, _+_, _-_, _*_, _/_, _%_, _^_, _≤_, _<_}
 use native.Mathlib.Omega.{arith}
@@ -8,14 +9,14 @@ use Rattle.mask.specs.Mask.{Meets, meets, WellFormed, low, high}
 use native.Mathlib.Nat.{not-le-of-lt}
 use Rattle.format.specs.declared.Format.{Format}
 use Rattle.format.specs.Format.{Supported, precision}
+use Rattle.word.specs.declared.Unit as exponent
 use Rattle.word.specs.Word.{allOnes}
 use Rattle.significand.specs.Significand.{significandMask}
 use Rattle.significand.specs.Tail.{tailMask}
 use Rattle.significand.proofs.Significand.{significand-formed}
 use Rattle.significand.proofs.Tail.{tail-below}
 use Rattle.outcome.specs.declared.Aligned as pair
-use Rattle.outcome.specs.Outcome.{Bounded, Admits}
-use Rattle.outcome.specs.Question.{Posed}
+use Rattle.outcome.specs.Outcome.{Bounded, Admits, InFormat, Formed}
 use Rattle.pair.specs.Pair.{unitAt, alignedOf}
 use borrow.Author.Needs.{needs}
 use Rattle.pair.proofs.finite.larger.Statement.{statement}
@@ -25,22 +26,19 @@ pair-of : Bool → Mask → Mask → Mask → pair.Aligned
 pair-of like head tail carries = record { like = like; head = head; tail = tail; carries = carries }
 
 -- what `admits` tells of the unit and the masks that it is handed, it tells of those that they equal
-decided : (F : Format) (mode s : ℕ) (c : Mask) (r : Bool) {u v : ℕ} {A B : pair.Aligned} → u ≡ v → A ≡ B
-    → (Posed F s u A → r ≡ true → Admits F mode s u A c) × (Posed F s u A → Admits F mode s u A c → r ≡ true)
-    → (Posed F s v B → r ≡ true → Admits F mode s v B c) × (Posed F s v B → Admits F mode s v B c → r ≡ true)
+decided : (F : Format) (mode s : ℕ) (c : Mask) (r : Bool) {u v : exponent.Unit} {A B : pair.Aligned} → u ≡ v → A ≡ B
+    → (InFormat F s u → Formed (F .f) A → (r ≡ true) ↔ Admits F mode s u A c) → InFormat F s v → Formed (F .f) B → (r ≡ true) ↔ Admits F mode s v B c
 decided F mode s c r {u} {v} {A} {B} e q h =
-    subst (λ (n : ℕ). (Posed F s n B → r ≡ true → Admits F mode s n B c) × (Posed F s n B → Admits F mode s n B c → r ≡ true)) e
-    (subst (λ (n : pair.Aligned). (Posed F s u n → r ≡ true → Admits F mode s u n c) × (Posed F s u n → Admits F mode s u n c → r ≡ true)) q h)
+    subst (λ (n : exponent.Unit). InFormat F s n → Formed (F .f) B → (r ≡ true) ↔ Admits F mode s n B c) e
+    (subst (λ (n : pair.Aligned). InFormat F s u → Formed (F .f) n → (r ≡ true) ↔ Admits F mode s u n c) q h)
 
 -- what is asked of `admits` is in order
-posed : (F : Format) → Supported F → (like : Bool) (carries m n : Mask) (s e g : ℕ) → s < 2 → e < allOnes F → WellFormed (precision F) carries
-    → WellFormed (F .f) m → WellFormed (F .f) n → Posed F s (unitAt e) (alignedOf F like carries m e n g)
-posed F ok like carries m n s e g hs he fr fm fn = record {
-  supported = ok;
-  sign-lt = hs;
-  unit-lt = omega arith;
-  formed = record { head = bounded m e fm 0; tail = bounded n g fn (unitAt e - unitAt g); carries = fr };
-}
+in-format : (F : Format) → Supported F → (s e : ℕ) → s < 2 → e < allOnes F → InFormat F s (unitAt e)
+in-format F ok s e hs he = record { supported = ok; sign-lt = hs; unit-lt = omega arith }
+
+formed : (F : Format) → Supported F → (like : Bool) (carries m n : Mask) (e g : ℕ) → WellFormed (precision F) carries
+    → WellFormed (F .f) m → WellFormed (F .f) n → Formed (F .f) (alignedOf F like carries m e n g)
+formed F ok like carries m n e g fr fm fn = record { head = bounded m e fm 0; tail = bounded n g fn (unitAt e .0 - unitAt g .0); carries = fr }
   where
     bounded : (m : Mask) (e : ℕ) → WellFormed (F .f) m → (d : ℕ) → Bounded (F .f) (tailMask (precision F) (significandMask (F .f) m e) d)
     bounded m e fm d x below met =
@@ -54,10 +52,14 @@ unit-at-requires c κs = search needs
 unit-at-requires-2 : tie.Need-unit-at-requires-2
 unit-at-requires-2 c κs = search needs
 
+-- the exponent that a unit holds
+at : exponent.Unit → ℕ
+at u = u .0
+
 returns : tie.Need-returns
+unfolding at
 returns c =
-    let s = c .before .before .before in
-    (λ e. absurd (false≢true e), λ l. absurd (not-le-of-lt (omega (arith, c .if1 .taken, c .before .unit-at2 .ensures, c .before .before .unit-at .ensures)) (l .0)))
+    (λ e. absurd (false≢true e), λ l. absurd (not-le-of-lt (omega (arith, c .if1 .taken, ap at (c .before .before .before .unit-at2 .ensures), ap at (c .before .before .before .before .unit-at .ensures))) (l .0)))
 
 add-p : tie.Need-add-p
 add-p c = search needs
@@ -78,24 +80,25 @@ admits-requires : tie.Need-admits-requires
 admits-requires c κs = search needs
 
 returns-2 : tie.Need-returns-2
-unfolding pair-of
+unfolding pair-of at
 returns-2 c =
-    let s = c .before .before .before .before .before .before .before .before .before .before in
+    let s = c .before .before .before .before .before .before .before .before .before .before .before .before .before .before in
     let j = s .args .job in
     let F = j .setting .format in
-    let hm = c .before .before .before .before .before .significand-mask in
-    let head = c .before .before .before .before .tail-mask in
-    let tm = c .before .before .before .significand-mask2 in
+    let hm = c .before .before .before .before .before .before .before .significand-mask in
+    let head = c .before .before .before .before .before .before .tail-mask in
+    let tm = c .before .before .before .before .before .significand-mask2 in
     let tail = c .before .before .tail-mask2 in
-    let u = c .before .before .before .before .before .before .before .before .before .unit-at in
-    let v = c .before .before .before .before .before .before .before .before .unit-at2 in
+    let u = c .before .before .before .before .before .before .before .before .before .before .before .before .before .unit-at in
+    let v = c .before .before .before .before .before .before .before .before .before .before .before .before .unit-at2 in
     let eh = head .ensures ∙ ap (λ (m : Mask). tailMask (precision F) m 0) (hm .ensures) in
-    let et = tail .ensures ∙ ap₂ (tailMask (precision F)) (tm .ensures) (ap₂ _-_ (u .ensures) (v .ensures)) in
+    let et = tail .ensures ∙ ap₂ (tailMask (precision F)) (tm .ensures) (ap₂ (λ (k n : exponent.Unit). k .0 - n .0) (u .ensures) (v .ensures)) in
     let same : pair-of (s .args .like) (head .result) (tail .result) (j .carries) ≡ alignedOf F (s .args .like) (j .carries) (s .args .m) (s .args .e) (s .args .n) (s .args .g) =
     ap₂ (λ (h t : Mask). pair-of (s .args .like) h t (j .carries)) eh et in
-    let ok = posed F (s .pre .0 .setting .format) (s .args .like) (j .carries) (s .args .m) (s .args .n) (s .args .sign) (s .args .e) (s .args .g) (s .pre .1) (s .pre .2) (s .pre .0 .carries) (s .pre .4) (s .pre .5) in
-    let d = decided F (j .setting .mode) (s .args .sign) (j .c .mask) (c .admits .result) (u .ensures) same (c .admits .ensures) in
-    (λ e. (omega (arith, c .before .before .before .before .before .before .before .if1 .left, u .ensures, v .ensures), d .0 ok e), λ l. d .1 ok (l .1))
+    let d = decided F (j .setting .mode) (s .args .sign) (j .c .mask) (c .admits .result) (u .ensures) same (c .admits .ensures .1)
+    (in-format F (s .pre .0 .setting .format) (s .args .sign) (s .args .e) (s .pre .1) (s .pre .2))
+    (formed F (s .pre .0 .setting .format) (s .args .like) (j .carries) (s .args .m) (s .args .n) (s .args .e) (s .args .g) (s .pre .0 .carries) (s .pre .4) (s .pre .5)) in
+    (λ e. (omega (arith, c .before .before .before .before .before .before .before .before .before .if1 .left, ap at (u .ensures), ap at (v .ensures)), d .0 e), λ l. d .1 (l .1))
 
 pub larger-spec : {M : Type 1} → statement M
 larger-spec =
