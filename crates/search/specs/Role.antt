@@ -1,4 +1,5 @@
 -- The two operands of a case, one definition for each use of "a, b" (document 01, "Masks and choice"). Assumes nothing.
+-- Internal: no public contract cites this.
 use Prim.Native.Nat.{ℕ}
 use Rattle.mask.specs.declared.Mask.{Mask}
 use Rattle.job.specs.declared.Job.{Job}
