@@ -1,6 +1,7 @@
 -- The walk over the columns, as the contracts of src/walk.rt speak of it. The machine reads t and the number that t is added to, which is
 -- l for x = l + t and x for x = l - t: a borrow of l - t is a carry of x + t. A state is the first adder's carry plus twice the second's.
 -- No public contract cites this file. Assumes nothing.
+-- Internal: no public contract cites this.
 use mathlib.Core.Bool.{Bool, _&&_, cond}
 use Prim.Native.Nat.{ℕ, zero, suc, _+_, _*_, _/_, _%_, _^_}
 use lib.Dec.{ltb}

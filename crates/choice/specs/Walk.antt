@@ -1,6 +1,7 @@
 -- What a bit walk goes through and where it ends, over any kind of case (document 01, "each bit .. follows the .. random word"): C are the
 -- cases, `number` the number of a case that is settled, P the cases that are left. Nothing here is needed to read a choice.
 -- Assumes nothing.
+-- Internal: no public contract cites this.
 use mathlib.Core.Path.{_≡_}
 use mathlib.Core.Logic.{_↔_}
 use Prim.Native.Nat.{ℕ, _≤_, _<_}

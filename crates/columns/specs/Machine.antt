@@ -1,5 +1,6 @@
 -- A machine that reads two numbers a column of bits at a time, lowest first, and the sets of states that it can be in.
 -- A state is a number below S; a result of S or more is dead. What a state stands for is the user's. Assumes nothing.
+-- Internal: no public contract cites this.
 use mathlib.Core.Path.{_≡_}
 use mathlib.Core.Bool.{Bool, true, false, _&&_, _||_}
 use Prim.Native.Nat.{ℕ, zero, suc, _^_, _<_}

@@ -3,6 +3,7 @@
 -- an exponent field that meet a mask: of either sign, with the least fraction, which is 0 where a fraction of 0 meets the mask, and with the
 -- greatest, which is not 0 where another one does. Whether some case fits is then whether one of the pairs of these words fits.
 -- Assumes nothing.
+-- Internal: no public contract cites this.
 use mathlib.Core.Path.{_≡_}
 use mathlib.Core.Logic.{_⊎_}
 use mathlib.Core.Bool.{Bool, false, _||_}

@@ -1,6 +1,7 @@
 -- What is kept of the classes of pairs during a pass over the exponent fields (`Rattle.pair.specs.Class`): a word for each class, with bit i
 -- for c's exponent field i where the pair that stands for the class is asked. A bit is an answer: no case has that field there. Nothing here
 -- is needed to read the choice. Assumes nothing.
+-- Internal: no public contract cites this.
 use mathlib.Core.List.{List}
 use mathlib.Core.Logic.{_⊎_}
 use mathlib.Core.Path.{_≡_}

@@ -1,5 +1,6 @@
 -- What the bit walk asks and promises (document 01, "each bit of a, from the top, follows the first random word": recursion over the bits
 -- still open). Nothing here is needed to read the choice. Assumes nothing.
+-- Internal: no public contract cites this.
 use mathlib.Core.Path.{_≡_}
 use Prim.Native.Nat.{ℕ, _^_, _≤_, _<_}
 use Rattle.format.specs.Format.{wordBits}

@@ -1,5 +1,6 @@
 -- How the search reads one column: the machine whose state is the carry. What it decides is told in Fits, and nothing here is needed to
 -- read the reply. Assumes nothing.
+-- Internal: no public contract cites this.
 use mathlib.Core.Bool.{Bool, _&&_, cond}
 use Prim.Native.Nat.{ℕ, _+_, _/_, _%_}
 use lib.Dec.{ltb}

@@ -1,5 +1,6 @@
 -- What the bit walk asks and promises (document 01, "each bit .. follows the .. random word": recursion over the bits still open).
 -- Nothing here is needed to read the reply. Assumes nothing.
+-- Internal: no public contract cites this.
 use Prim.Native.Nat.{ℕ, _+_, _%_, _≤_}
 use lib.Bits.{bitXor}
 use Rattle.format.specs.Limits.{leastLength, mostLength}
