@@ -1,5 +1,4 @@
 // Whether two aligned significands make a word that meets a mask.
-use word::Unit;
 use digits::fits;
 use format::Format;
 use mask::Mask;
@@ -7,12 +6,13 @@ use width::ALIGNED;
 use width::GUARD_BITS;
 use width::SMALL;
 use width::SUM;
+use word::Unit;
 
 mod ask;
 mod digits;
 mod masks;
-mod width;
 mod sought;
+mod width;
 
 ghost use mathlib.Core.Bool.{true};
 ghost use mathlib.Core.Logic.{_↔_};

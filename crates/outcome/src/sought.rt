@@ -1,8 +1,8 @@
 // The word c: what its mask leaves open for an exponent field, and the words that need no columns.
-use word::Biased;
-use rounding::Direction;
 use format::Format;
 use mask::Mask;
+use rounding::Direction;
+use word::Biased;
 ghost use mathlib.Core.Path.{_≡_};
 ghost use Prim.Native.Nat.{_<_};
 ghost use Rattle.format.specs.Format.{Supported};

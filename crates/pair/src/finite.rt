@@ -1,9 +1,4 @@
 // Two finite operands.
-use word::masks::fraction_mask;
-use word::masks::sign_mask;
-use word::Biased;
-use word::Unit;
-use word::exponent::unit_of;
 use job::Job;
 use mask::Mask;
 use mask::meets;
@@ -11,6 +6,11 @@ use outcome::Aligned;
 use outcome::admits;
 use significand::significand_mask;
 use significand::tail_mask;
+use word::Biased;
+use word::Unit;
+use word::exponent::unit_of;
+use word::masks::fraction_mask;
+use word::masks::sign_mask;
 ghost use mathlib.Core.Bool.{true};
 ghost use mathlib.Core.Path.{_≡_};
 ghost use Prim.Native.Nat.{_≤_, _<_};

@@ -9,7 +9,12 @@ use Rattle.job.specs.declared.Job.{Job}
 use Rattle.job.specs.declared.Role.{Role}
 use Rattle.job.specs.Role.{member, wanted}
 use Rattle.fit.specs.Fit.{Fits}
+use Rattle.mask.specs.Mask.{Meets}
+use Rattle.word.specs.Masks.{exponentMask}
 use Rattle.pair.specs.Asked.{PairFits}
+use Rattle.pair.specs.Signs.{signsLeft}
+use Rattle.search.specs.declared.Pass.{Pass}
+use Rattle.search.specs.Classes.{ClassEnd}
 use Rattle.search.specs.Left.{Left, Ready}
 
 -- a case is left, and the word's bits from position k on are fixed
@@ -21,6 +26,20 @@ pub record Open (j : Job) (role : Role) (k : ℕ) : Type 0 where
 -- no pair of exponent fields of which a's is below n admits a case
 abbrev pub NoneBelow : Job → ℕ → Type 0
 NoneBelow j n = (d e : ℕ) → d < n → PairFits j d e → ⊥
+
+-- what a pass over the exponent fields asks: the masks on them, one past the last one, whether signs are left for finite operands, and
+-- one past the fields that the classes of pairs answer for
+pub record PassOf (j : Job) (p : Pass) : Type 0 where
+  pub a : p .a ≡ exponentMask (j .setting .format) (j .a .mask)
+  pub b : p .b ≡ exponentMask (j .setting .format) (j .b .mask)
+  pub past : p .past ≡ 2 ^ j .setting .format .w
+  pub signs : p .signs ≡ signsLeft j
+  pub end : ClassEnd j (p .end)
+
+-- no pair of a's exponent field e with one of b's below n admits a case, and where n is a field of b, a's meets its mask
+pub record RowStart (j : Job) (e n : ℕ) : Type 0 where
+  pub none : (d : ℕ) → d < n → PairFits j e d → ⊥
+  pub meets : n < 2 ^ j .setting .format .w → Meets e (exponentMask (j .setting .format) (j .a .mask))
 
 -- r is the first exponent field of a that a case left has, or one past them all
 pub record FirstRow (j : Job) (r : ℕ) : Type 0 where

@@ -9,6 +9,7 @@ use classes::may_admit;
 use job::Job;
 use job::Role;
 use job::job_cause;
+use mask::Mask;
 use mask::meets;
 use pair::pair_admits;
 use pair::signs::signs_left;
@@ -16,14 +17,14 @@ use word::masks::exponent_mask;
 ghost use mathlib.Core.Path.{_≡_};
 ghost use mathlib.Core.Bool.{true};
 ghost use mathlib.Core.Logic.{_↔_};
-ghost use Prim.Native.Nat.{ℕ, _^_, _<_};
+ghost use Prim.Native.Nat.{_≤_, _<_};
+ghost use Rattle.job.specs.declared.Job.{Job};
 ghost use Rattle.job.specs.Job.{Valid};
 ghost use Rattle.mask.specs.Mask.{Meets};
 ghost use Rattle.word.specs.Masks.{exponentMask};
 ghost use Rattle.pair.specs.Asked.{PairFits};
-ghost use Rattle.search.specs.Classes.{Kept, ClassEnd};
-ghost use Rattle.search.specs.Left.{Ready};
-ghost use Rattle.search.specs.Walk.{NoneBelow, FirstRow};
+ghost use Rattle.search.specs.Classes.{Kept};
+ghost use Rattle.search.specs.Walk.{NoneBelow, FirstRow, PassOf, RowStart};
 ghost use Rattle.search.specs.Choice.{Chosen};
 
 // The operands of a case.
@@ -38,16 +39,41 @@ pub enum Choice {
     Nothing,
 }
 
+// What a pass over the exponent fields asks of each of them, and is the same for all.
+pub struct Pass {
+    pub a: Mask,
+    pub b: Mask,
+    pub past: u64,
+    pub signs: bool,
+    pub end: u64,
+}
+
+// The masks on the exponent fields of a and b, one past the last field, whether signs are left for finite operands, and one past the
+// fields that the classes of pairs answer for.
+fn pass_of(job: Job) -> Pass
+    requires { ⌜ Valid job ⌝ }
+    ensures { λ r. ⌜ PassOf job r ⌝ }
+{
+    let format = job.setting.format;
+    Pass {
+        a: exponent_mask(format, job.a.mask),
+        b: exponent_mask(format, job.b.mask),
+        past: power(format.w),
+        signs: signs_left(job),
+        end: class_end(job),
+    }
+}
+
 // Whether some case whose operands have these exponent fields fits; the question is put only where b's meets its mask and the class of the
 // pair leaves it open.
-fn admits(job: Job, ea: u64, eb: u64, end: u64, table: &mut [u64; 128]) -> bool
-    requires { ⌜ Valid job × (ea < 2 ^ job .setting .format .w) × (eb < 2 ^ job .setting .format .w) × Meets ea (exponentMask (job .setting .format) (job .a .mask)) × ClassEnd job end × Kept job (now table) ⌝ }
+fn admits(job: Job, pass: Pass, ea: u64, eb: u64, table: &mut [u64; 128]) -> bool
+    requires { ⌜ Valid job × PassOf job pass × (ea < pass .past) × (eb < pass .past) × Meets ea (exponentMask (job .setting .format) (job .a .mask)) × Kept job (now table) ⌝ }
     ensures { λ r. ⌜ Kept job (now (table .exit)) × ((r ≡ true) ↔ PairFits job ea eb) ⌝ }
 {
-    if !meets(exponent_mask(job.setting.format, job.b.mask), eb) {
+    if !meets(pass.b, eb) {
         return false;
     }
-    if !may_admit(job, ea, eb, end, table) {
+    if !may_admit(job, ea, eb, pass.end, table) {
         return false;
     }
     if pair_admits(job, ea, eb) {
@@ -57,30 +83,20 @@ fn admits(job: Job, ea: u64, eb: u64, end: u64, table: &mut [u64; 128]) -> bool
     false
 }
 
-// The first exponent field of b that is asked about: all ones, which no finite operand has, where a's is finite and no signs are left for
-// finite operands.
-fn first_field(job: Job, ea: u64) -> u64
-    requires { ⌜ Valid job ⌝ }
-    ensures { λ r. ⌜ ((e : ℕ) → e < r → PairFits job ea e → ⊥) ⌝ }
+// Where the row of pairs of an exponent field of a begins: past its last one where the field does not meet its mask, at b's field of
+// infinities and NaNs where a's is finite and no signs are left for finite operands, else at its first one.
+fn row_start(pass: Pass, ea: u64) -> u64
+    requires { ⌜ 1 ≤ pass .past ⌝ }
+    ensures { λ r. ⌜ ((job : Job) → Valid job → PassOf job pass → RowStart job ea r) ⌝ }
 {
-    let first = 0;
-    if signs_left(job) {
-        return first;
+    if !meets(pass.a, ea) {
+        return pass.past;
     }
-    let ones = power(job.setting.format.w) - 1;
-    if ea < ones { ones } else { first }
-}
-
-// Where a row of pairs begins: at its first pair, or past its last one where the exponent field of a does not meet its mask.
-fn row_start(job: Job, ea: u64, count: u64) -> u64
-    requires { ⌜ Valid job ⌝ }
-    ensures { λ r. ⌜ ((e : ℕ) → e < r → PairFits job ea e → ⊥) × (r < count → Meets ea (exponentMask (job .setting .format) (job .a .mask))) ⌝ }
-{
-    if meets(exponent_mask(job.setting.format, job.a.mask), ea) {
-        first_field(job, ea)
-    } else {
-        count
+    if pass.signs {
+        return 0;
     }
+    let ones = pass.past - 1;
+    if ea < ones { ones } else { 0 }
 }
 
 // The first exponent field of a that some case left has, or one past them all. Those below `start` are known to have none. The loops are
@@ -89,14 +105,14 @@ pub(crate) fn first_row(job: Job, start: u64) -> u64
     requires { ⌜ Valid job × NoneBelow job start ⌝ }
     ensures { λ r. ⌜ FirstRow job r ⌝ }
 {
-    let count = power(job.setting.format.w);
-    let end = class_end(job);
+    let pass = pass_of(job);
+    let past = pass.past;
     let mut table = [0; 128];
     let mut ea = start;
-    'pairs: while ea < count {
-        let mut eb = row_start(job, ea, count);
-        while eb < count {
-            if admits(job, ea, eb, end, &mut table) {
+    'pairs: while ea < past {
+        let mut eb = row_start(pass, ea);
+        while eb < past {
+            if admits(job, pass, ea, eb, &mut table) {
                 break 'pairs;
             }
             eb += 1;
@@ -104,16 +120,6 @@ pub(crate) fn first_row(job: Job, start: u64) -> u64
         ea += 1;
     }
     ea
-}
-
-// Whether the job is valid and a case is left.
-pub fn case_left(job: Job) -> bool
-    ensures { λ r. ⌜ (r ≡ true) ↔ Ready job ⌝ }
-{
-    if job_cause(job) != 0 {
-        return false;
-    }
-    first_row(job, 0) < power(job.setting.format.w)
 }
 
 // The operands that the random words choose: each bit of a, from the top, follows the first, and then each bit of b the second.

@@ -1,5 +1,6 @@
 -- `search::admits` meets its contract: a pair whose exponent field of b does not meet its mask admits no case, by `pair-asked`, and none whose class admits nothing. Assumes nothing.
-use mathlib.Core.Path.{refl, sym, _∙_}
+use mathlib.Core.Path.{refl, sym, _∙_, subst}
+use Prim.Native.Nat.{ℕ, _<_}
 use mathlib.Core.Bool.{false≢true}
 use borrow.Author.Tests.{not-true, not-false}
 use Rattle.pair.specs.Asked.{Asked}
@@ -10,22 +11,19 @@ use Rattle.search.proofs.admits.Tie as tie
 
 -- what is asked of the pair
 asked-at : (c : tie.After-pair-admits)
-    → Asked (c .before .before .before .before .before .before .before .args .job) (c .before .before .before .before .before .before .before .args .ea) (c .before .before .before .before .before .before .before .args .eb)
+    → Asked (c .before .before .before .before .before .before .args .job) (c .before .before .before .before .before .before .args .ea) (c .before .before .before .before .before .before .args .eb)
 asked-at c =
     let i = c .before .before .before .before in
     let b = i .before in
-    let s = b .before .before in
+    let s = b .before in
     let a = s .args in
     record {
       valid = s .pre .0;
-      a-lt = s .pre .1;
-      b-lt = s .pre .2;
-      a-exponent = s .pre .3;
-      b-exponent = tested (a .job .setting .format) (a .job .b .mask) (a .eb) (b .before .exponent-mask .ensures) (b .meets .ensures) .0 (not-false (b .meets .result) (i .if1 .left));
+      a-lt = subst (λ (n : ℕ). a .ea < n) (s .pre .1 .past) (s .pre .2);
+      b-lt = subst (λ (n : ℕ). a .eb < n) (s .pre .1 .past) (s .pre .3);
+      a-exponent = s .pre .4;
+      b-exponent = tested (a .job .setting .format) (a .job .b .mask) (a .eb) (s .pre .1 .b) (b .meets .ensures) .0 (not-false (b .meets .result) (i .if1 .left));
     }
-
-exponent-mask-requires : tie.Need-exponent-mask-requires
-exponent-mask-requires c κs = search needs
 
 meets-requires : tie.Need-meets-requires
 meets-requires c κs = search needs
@@ -33,19 +31,27 @@ meets-requires c κs = search needs
 returns : tie.Need-returns
 returns c =
     let m = c .before in
-    let s = m .before .before in
+    let s = m .before in
     let a = s .args in (
       s .pre .5,
       (
         λ e. absurd (false≢true e),
         λ p.
             absurd (false≢true (sym (not-true (m .meets .result) (c .if1 .taken))
-            ∙ tested (a .job .setting .format) (a .job .b .mask) (a .eb) (m .before .exponent-mask .ensures) (m .meets .ensures) .1 (pair-asked (a .job) (a .ea) (a .eb) (s .pre .0) p .b-exponent))),
+            ∙ tested (a .job .setting .format) (a .job .b .mask) (a .eb) (s .pre .1 .b) (m .meets .ensures) .1 (pair-asked (a .job) (a .ea) (a .eb) (s .pre .0) p .b-exponent))),
       ),
     )
 
 may-admit-requires : tie.Need-may-admit-requires
-may-admit-requires c κs = search needs
+may-admit-requires c κs =
+    let s = c .before .before .before in
+    let a = s .args in (
+      s .pre .0,
+      subst (λ (n : ℕ). a .ea < n) (s .pre .1 .past) (s .pre .2),
+      subst (λ (n : ℕ). a .eb < n) (s .pre .1 .past) (s .pre .3),
+      s .pre .1 .end,
+      s .pre .5,
+    )
 
 returns-2 : tie.Need-returns-2
 returns-2 c =
@@ -77,7 +83,6 @@ pub admits-spec : {M : Type 1} → statement M
 admits-spec =
     tie.close
     (tie.spec
-    exponent-mask-requires
     meets-requires
     returns
     may-admit-requires

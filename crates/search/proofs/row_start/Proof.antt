@@ -1,38 +1,61 @@
--- `search::row_start` meets its contract: a pair whose exponent field of a does not meet its mask admits no case, by `pair-asked`.
--- Assumes nothing.
+-- `search::row_start` meets its contract: a pair whose exponent field of a does not meet its mask admits no case, by `pair-asked`, and where
+-- no signs are left for finite operands no pair of finite ones does, by `signs-none`. Assumes nothing.
 use mathlib.Core.Path.{sym, _∙_}
 use mathlib.Core.Bool.{false≢true}
 use native.Mathlib.Omega.{arith}
+use borrow.Author.Tests.{not-true, not-false}
+use Rattle.job.specs.declared.Job.{Job}
+use Rattle.job.specs.Job.{Valid}
+use Rattle.pair.proofs.LikeSigns.{signs-none}
+use Rattle.search.specs.Walk.{PassOf, RowStart}
 use Rattle.search.proofs.Pairs.{pair-asked, tested}
 use borrow.Author.Needs.{needs}
 use Rattle.search.proofs.row_start.Statement.{statement}
 use Rattle.search.proofs.row_start.Tie as tie
 
-exponent-mask-requires : tie.Need-exponent-mask-requires
-exponent-mask-requires c κs = search needs
+-- where the field meets its mask, the row may begin at its first pair
+first-pair : (c : tie.Else1) (job : Job) → Valid job → PassOf job (c .before .before .args .pass) → RowStart job (c .before .before .args .ea) 0
+first-pair c job valid is = record {
+  none = λ d h p. absurd (omega arith);
+  meets = λ h.
+      let m = c .before in
+      tested (job .setting .format) (job .a .mask) (m .before .args .ea) (is .a) (m .meets .ensures) .0 (not-false (m .meets .result) (c .if1 .left));
+}
 
 meets-requires : tie.Need-meets-requires
 meets-requires c κs = search needs
 
-first-field-requires : tie.Need-first-field-requires
-first-field-requires c κs = c .before .before .before .pre
-
 returns : tie.Need-returns
 returns c =
-    let t = c .before in
-    let m = t .before in
-    let a = m .before .before .args in
-    (c .first-field .ensures, λ h. tested (a .job .setting .format) (a .job .a .mask) (a .ea) (m .before .exponent-mask .ensures) (m .meets .ensures) .0 (t .if1 .taken))
+    let m = c .before in
+    let a = m .before .args in
+    λ job valid is. record {
+      none = λ d h p. absurd (false≢true (sym (not-true (m .meets .result) (c .if1 .taken))
+          ∙ tested (job .setting .format) (job .a .mask) (a .ea) (is .a) (m .meets .ensures) .1 (pair-asked job (a .ea) d valid p .a-exponent)));
+      meets = λ h. absurd (omega (arith, is .past));
+    }
 
 returns-2 : tie.Need-returns-2
-returns-2 c =
-    let m = c .before in
-    let st = m .before .before in
-    let a = st .args in (
-      λ e h p. false≢true (sym (c .if1 .left)
-          ∙ tested (a .job .setting .format) (a .job .a .mask) (a .ea) (m .before .exponent-mask .ensures) (m .meets .ensures) .1 (pair-asked (a .job) (a .ea) e (st .pre) p .a-exponent)),
-      λ h. absurd (omega arith),
-    )
+returns-2 c = first-pair (c .before)
+
+sub-ones : tie.Need-sub-ones
+sub-ones c = search needs
+
+returns-3 : tie.Need-returns-3
+returns-3 c =
+    let t = c .before .before .before in
+    let a = t .before .before .args in
+    λ job valid is. record {
+      none = λ d h p.
+          let asked = pair-asked job (a .ea) d valid p in
+          signs-none job (a .ea) d
+          (record { valid = valid; a-finite = omega (arith, is .past, c .if3 .taken); b-finite = omega (arith, is .past); a-exponent = asked .a-exponent; b-exponent = asked .b-exponent })
+          (sym (is .signs) ∙ c .before .before .if2 .left) p;
+      meets = λ h. first-pair t job valid is .meets (omega arith);
+    }
+
+returns-4 : tie.Need-returns-4
+returns-4 c = first-pair (c .before .before .before)
 
 pub row-start-spec : {M : Type 1} → statement M
-row-start-spec = tie.close (tie.spec exponent-mask-requires meets-requires first-field-requires returns returns-2)
+row-start-spec = tie.close (tie.spec meets-requires returns returns-2 sub-ones returns-3 returns-4)

@@ -1,0 +1,46 @@
+-- `search::pass_of` meets its contract. Assumes nothing.
+use Rattle.search.proofs.Pairs.{count-is}
+use borrow.Author.Needs.{needs}
+use Rattle.search.proofs.pass_of.Statement.{statement}
+use Rattle.search.proofs.pass_of.Tie as tie
+
+exponent-mask-requires : tie.Need-exponent-mask-requires
+exponent-mask-requires c κs = search needs
+
+exponent-mask-requires-2 : tie.Need-exponent-mask-requires-2
+exponent-mask-requires-2 c κs = search needs
+
+power-requires : tie.Need-power-requires
+power-requires c κs = search needs
+
+signs-left-requires : tie.Need-signs-left-requires
+signs-left-requires c κs = search needs
+
+class-end-requires : tie.Need-class-end-requires
+class-end-requires c κs = search needs
+
+returns : tie.Need-returns
+returns c =
+    let g = c .before in
+    let w = g .before in
+    let b = w .before in
+    let a = b .before in
+    let s = a .before .before in
+    record {
+      a = a .exponent-mask .ensures;
+      b = b .exponent-mask2 .ensures;
+      past = count-is (s .args .job) (w .power .result) (s .pre) (w .power .ensures);
+      signs = g .signs-left .ensures (s .pre);
+      end = c .class-end .ensures;
+    }
+
+pub pass-of-spec : {M : Type 1} → statement M
+pass-of-spec =
+    tie.close
+    (tie.spec
+    exponent-mask-requires
+    exponent-mask-requires-2
+    power-requires
+    signs-left-requires
+    class-end-requires
+    returns)
