@@ -1,9 +1,9 @@
--- What it means that no cause stands against an entry: the job is valid and the random words have their width, so every number fits
--- its field. And what a reply of reading tells. Assumes nothing.
+-- What it means that no cause stands against an entry: the job is valid and the random words have their width, so every number fits its
+-- byte count. And what a reply of reading says of the bytes. Assumes nothing.
 use mathlib.Core.Path.{_≡_, refl, sym, ap, _∙_}
 use mathlib.Core.Logic.{_↔_}
 use mathlib.Core.Bool.{Bool, false, not}
-use Prim.Native.Nat.{ℕ, zero, suc, _^_, _≤_, _<_}
+use Prim.Native.Nat.{ℕ, zero, suc, _*_, _^_, _≤_, _<_}
 use native.Mathlib.Nat.{lt-of-lt-of-le}
 use native.Mathlib.Omega.{arith}
 use borrow.Author.Tests.{ltb-true, leb-true, lt-ltb, le-leb, not-true}
@@ -21,81 +21,87 @@ use Rattle.mask.specs.Mask.{WellFormed}
 use Rattle.mask.proofs.ByBits.{value-below}
 use Rattle.job.specs.Job.{Request}
 use Rattle.job.proofs.Laws.{request-none}
-use Rattle.records.specs.Fields.{mapOf, saysDefault}
-use Rattle.records.specs.Record.{words, shapes, maskNumbers, fields, recordCause, recordBytes, recordLength, fieldsOf, entryIn, readCause, answer, firstIn}
+use Rattle.records.specs.Layout.{saysDefault}
+use Rattle.records.specs.Record.{wordBytes, fieldCount, layout, entryNumbers, fieldSizes, entryMap, recordCause, recordBytes, recordLength, numbersIn, entryIn, readCause, readReply, firstIn}
 use Rattle.records.specs.declared.Entry.{Entry}
 use Rattle.records.specs.declared.First.the-variants as found
-use Rattle.records.proofs.OneField as field
-use Rattle.records.proofs.OneField.{Fits}
-use Rattle.records.proofs.AllFields as all
-use Rattle.records.proofs.AllFields.{AllFit, body-length}
-use Rattle.records.proofs.Places.{body-most}
+use Rattle.records.proofs.BySizes.{Fits, none, more, length-bytes}
+use Rattle.records.proofs.ByMap.{counts, map-absent, fits-map}
+use Rattle.records.proofs.JobLayout.{length-most}
 
--- ---- every number fits its field
+-- ---- every number fits its byte count
 
--- a word of a supported format has 4 bytes
-word-fits : (F : Format) → Supported F → (width x : ℕ) → width ≤ wordBits F → x < 2 ^ width → x < 256 ^ 4
-word-fits F h width x le lt = lt-of-lt-of-le lt (pow-mono {i = width} {j = 32} (omega arith))
+-- a word of a supported format
+word-fits : (F : Format) → Supported F → (width x : ℕ) → width ≤ wordBits F → x < 2 ^ width → x < 256 ^ wordBytes
+word-fits F h width x le lt = lt-of-lt-of-le lt (pow-mono {i = width} {j = 8 * wordBytes} (omega arith))
 
-mask-fits : (F : Format) → Supported F → (width : ℕ) (m : Mask) → width ≤ wordBits F → WellFormed width m → Fits words (maskNumbers m)
-mask-fits F h width m le w =
-    field.more (word-fits F h width (m .care) le (w .below)) (field.more (word-fits F h width (m .value) le (value-below width m w)) field.none)
+-- the two numbers of a mask, before others
+mask-fits : (F : Format) → Supported F → (width : ℕ) (m : Mask) → width ≤ wordBits F → WellFormed width m
+    → {ks ns : List ℕ} → Fits ks ns → Fits (wordBytes ∷ wordBytes ∷ ks) (m .care ∷ m .value ∷ ns)
+mask-fits F h width m le w f =
+    more (word-fits F h width (m .care) le (w .below)) (more (word-fits F h width (m .value) le (value-below width m w)) f)
 
-pub entry-fits : (e : Entry) → Request (e .job) (e .r1) (e .r2) → AllFit shapes (fields e)
+pub entry-fits : (e : Entry) → Request (e .job) (e .r1) (e .r2) → Fits (counts (layout wordBytes)) (entryNumbers e)
+unfolding layout
 entry-fits e v =
     let F : Format = e .job .setting .format in
     let h : Supported F = v .valid .setting .format in
     let W : ℕ = wordBits F in
-    all.more (mask-fits F h W (e .job .a .mask) (omega arith) (v .valid .a .mask))
-    (all.more (mask-fits F h W (e .job .b .mask) (omega arith) (v .valid .b .mask))
-    (all.more (mask-fits F h W (e .job .c .mask) (omega arith) (v .valid .c .mask))
-    (all.more (mask-fits F h (precision F) (e .job .carries) (omega arith) (v .valid .carries))
-    (all.more (field.more {k = 1} {n = e .job .setting .mode} (omega (arith, v .valid .setting .mode)) field.none)
-    (all.more (field.more (word-fits F h W (e .r1) (omega arith) (v .first-word)) (field.more (word-fits F h W (e .r2) (omega arith) (v .second-word)) field.none)) all.none)))))
+    mask-fits F h W (e .job .a .mask) (omega arith) (v .valid .a .mask)
+    (mask-fits F h W (e .job .b .mask) (omega arith) (v .valid .b .mask)
+    (mask-fits F h W (e .job .c .mask) (omega arith) (v .valid .c .mask)
+    (mask-fits F h (precision F) (e .job .carries) (omega arith) (v .valid .carries)
+    (more {k = 1} {n = e .job .setting .mode} (omega (arith, v .valid .setting .mode))
+    (more (word-fits F h W (e .r1) (omega arith) (v .first-word)) (more (word-fits F h W (e .r2) (omega arith) (v .second-word)) none))))))
+
+-- in a record it has these bytes, or it is 0
+pub record-fits : (e : Entry) → recordCause e ≡ 0 → Fits (fieldSizes (entryMap e)) (entryNumbers e)
+record-fits e ok =
+    let ns : List ℕ = entryNumbers e in
+    fits-map (entryMap e) (layout wordBytes) ns (entry-fits e (request-none (e .job) (e .r1) (e .r2) .0 ok)) (map-absent (layout wordBytes) ns)
 
 -- the length by the map is the record's length, 45 at most
-pub record-length : (e : Entry) → recordCause e ≡ 0 → recordLength (mapOf (fields e)) ≡ length (recordBytes e)
+pub record-length : (e : Entry) → recordCause e ≡ 0 → recordLength (entryMap e) ≡ length (recordBytes e)
 unfolding recordLength recordBytes
-record-length e ok = omega (arith, body-length (entry-fits e (request-none (e .job) (e .r1) (e .r2) .0 ok)))
+record-length e ok = omega (arith, length-bytes (record-fits e ok))
 
 pub record-most : (e : Entry) → recordCause e ≡ 0 → length (recordBytes e) ≤ 45
-unfolding recordLength
-record-most e ok = omega (arith, record-length e ok, body-most (mapOf (fields e)))
+record-most e ok = omega (arith, record-length e ok, length-most (entryMap e))
 
--- ---- what reading tells
+-- ---- what reading says
 
 -- no cause stands against reading these bytes
 pub record Readable (s : List ℕ) : Type 0 where
-  pub map : getD s 0 0 < 64
+  pub map : getD s 0 0 < 2 ^ fieldCount
   pub whole : recordLength (getD s 0 0) ≤ length s
   pub sound : recordCause (entryIn s) ≡ 0
-  pub told : saysDefault (getD s 0 0) (fieldsOf s) ≡ false
+  pub no-default : saysDefault fieldCount (getD s 0 0) (layout wordBytes) (numbersIn s) ≡ false
 
 pub read-none : (s : List ℕ) → (readCause s ≡ 0) ↔ Readable s
 unfolding readCause
 read-none s =
     let m : ℕ = getD s 0 0 in
-    let d : Bool = saysDefault m (fieldsOf s) in
+    let d : Bool = saysDefault fieldCount m (layout wordBytes) (numbersIn s) in
     let n : ℕ = recordLength m in
     let last = first-none (recordCause (entryIn s)) (unless (not d) cause.default) in
     let cut = first-none (unless (leb n (length s)) cause.cut) (first (recordCause (entryIn s)) (unless (not d) cause.default)) in
-    let map = first-none (unless (ltb m 64) cause.map) (first (unless (leb n (length s)) cause.cut) (first (recordCause (entryIn s)) (unless (not d) cause.default))) in (
+    let map = first-none (unless (ltb m (2 ^ fieldCount)) cause.map) (first (unless (leb n (length s)) cause.cut) (first (recordCause (entryIn s)) (unless (not d) cause.default))) in (
       (λ z.
           let y = map .0 z in
           let x = cut .0 (y .1) in
           let w = last .0 (x .1) in
           record {
-            map = ltb-true m 64 (unless-none (ltb m 64) 8 .0 (y .0));
+            map = ltb-true m (2 ^ fieldCount) (unless-none (ltb m (2 ^ fieldCount)) 8 .0 (y .0));
             whole = leb-true n (length s) (unless-none (leb n (length s)) 7 .0 (x .0));
             sound = w .0;
-            told = not-true d (unless-none (not d) 9 .0 (w .1));
+            no-default = not-true d (unless-none (not d) 9 .0 (w .1));
           }),
       λ r.
           map .1 (
-            unless-none (ltb m 64) 8 .1 (lt-ltb m 64 (r .map)),
+            unless-none (ltb m (2 ^ fieldCount)) 8 .1 (lt-ltb m (2 ^ fieldCount) (r .map)),
             cut .1 (
               unless-none (leb n (length s)) 7 .1 (le-leb n (length s) (r .whole)),
-              last .1 (r .sound, unless-none (not d) 9 .1 (ap not (r .told))),
+              last .1 (r .sound, unless-none (not d) 9 .1 (ap not (r .no-default))),
             ),
           ),
     )
@@ -111,7 +117,7 @@ unfolding firstIn
 first-job [] e n q = absurd (let z : _≡_ {A = ℕ} 0 1 = cc in omega arith)
 first-job (b ∷ bs) e n q = go (readCause (b ∷ bs)) refl q
   where
-    go : (k : ℕ) → readCause (b ∷ bs) ≡ k → answer k (entryIn (b ∷ bs)) (recordLength b) ≡ found.Job e n → Taken (b ∷ bs) e n
+    go : (k : ℕ) → readCause (b ∷ bs) ≡ k → readReply k (entryIn (b ∷ bs)) (recordLength b) ≡ found.Job e n → Taken (b ∷ bs) e n
     go zero z q = record { readable = read-none (b ∷ bs) .0 z; entry = cc; count = cc }
     go (suc k) z q = absurd (let z : _≡_ {A = ℕ} 0 1 = cc in omega arith)
 
@@ -120,7 +126,7 @@ unfolding firstIn
 first-end [] q = refl
 first-end (b ∷ bs) q = go (readCause (b ∷ bs)) q
   where
-    go : (k : ℕ) → answer k (entryIn (b ∷ bs)) (recordLength b) ≡ found.End → b ∷ bs ≡ []
+    go : (k : ℕ) → readReply k (entryIn (b ∷ bs)) (recordLength b) ≡ found.End → b ∷ bs ≡ []
     go zero q = absurd (let z : _≡_ {A = ℕ} 0 1 = cc in omega arith)
     go (suc k) q = absurd (let z : _≡_ {A = ℕ} 0 1 = cc in omega arith)
 
@@ -130,45 +136,45 @@ unfolding firstIn
 first-none-left [] e = refl
 first-none-left (b ∷ bs) e = absurd (omega arith)
 
-first-some-left : (s : List ℕ) → (length s ≡ 0 → ⊥) → firstIn s ≡ answer (readCause s) (entryIn s) (recordLength (getD s 0 0))
+first-some-left : (s : List ℕ) → (length s ≡ 0 → ⊥) → firstIn s ≡ readReply (readCause s) (entryIn s) (recordLength (getD s 0 0))
 unfolding firstIn
 first-some-left [] h = absurd (h refl)
 first-some-left (b ∷ bs) h = refl
 
-pub answer-refused : (k : ℕ) (e : Entry) (n : ℕ) → (k ≡ 0 → ⊥) → found.Refused k ≡ answer k e n
-answer-refused zero e n h = absurd (h refl)
-answer-refused (suc k) e n h = refl
+pub reply-refused : (k : ℕ) (e : Entry) (n : ℕ) → (k ≡ 0 → ⊥) → found.Refused k ≡ readReply k e n
+reply-refused zero e n h = absurd (h refl)
+reply-refused (suc k) e n h = refl
 
 first-assoc : (k m n : ℕ) → first k (first m n) ≡ first (first k m) n
 first-assoc zero m n = refl
 first-assoc (suc k) m n = refl
 
--- a map with bit 6 or 7, or a record that is cut short; and any other
+-- a map with a bit above those of the fields, or a record that is cut short; and any other
 abbrev pub earlyCause : List ℕ → ℕ
-earlyCause s = first (unless (ltb (getD s 0 0) 64) cause.map) (unless (leb (recordLength (getD s 0 0)) (length s)) cause.cut)
+earlyCause s = first (unless (ltb (getD s 0 0) (2 ^ fieldCount)) cause.map) (unless (leb (recordLength (getD s 0 0)) (length s)) cause.cut)
 
 abbrev pub lateCause : List ℕ → ℕ
-lateCause s = first (recordCause (entryIn s)) (unless (not (saysDefault (getD s 0 0) (fieldsOf s))) cause.default)
+lateCause s = first (recordCause (entryIn s)) (unless (not (saysDefault fieldCount (getD s 0 0) (layout wordBytes) (numbersIn s))) cause.default)
 
 cause-split : (s : List ℕ) → readCause s ≡ first (earlyCause s) (lateCause s)
 unfolding readCause
-cause-split s = first-assoc (unless (ltb (getD s 0 0) 64) cause.map) (unless (leb (recordLength (getD s 0 0)) (length s)) cause.cut) (lateCause s)
+cause-split s = first-assoc (unless (ltb (getD s 0 0) (2 ^ fieldCount)) cause.map) (unless (leb (recordLength (getD s 0 0)) (length s)) cause.cut) (lateCause s)
 
 module _ (s : List ℕ) (some : length s ≡ 0 → ⊥) where
-  by-cause : (k : ℕ) → readCause s ≡ k → firstIn s ≡ answer k (entryIn s) (recordLength (getD s 0 0))
-  by-cause k e = first-some-left s some ∙ ap (λ (j : ℕ). answer j (entryIn s) (recordLength (getD s 0 0))) e
+  by-cause : (k : ℕ) → readCause s ≡ k → firstIn s ≡ readReply k (entryIn s) (recordLength (getD s 0 0))
+  by-cause k e = first-some-left s some ∙ ap (λ (j : ℕ). readReply j (entryIn s) (recordLength (getD s 0 0))) e
 
   pub first-early : (earlyCause s ≡ 0 → ⊥) → firstIn s ≡ found.Refused (earlyCause s)
   first-early h =
       by-cause (earlyCause s) (cause-split s ∙ first-some (earlyCause s) (lateCause s) h)
-      ∙ sym (answer-refused (earlyCause s) (entryIn s) (recordLength (getD s 0 0)) h)
+      ∙ sym (reply-refused (earlyCause s) (entryIn s) (recordLength (getD s 0 0)) h)
 
-  pub first-late : earlyCause s ≡ 0 → firstIn s ≡ answer (lateCause s) (entryIn s) (recordLength (getD s 0 0))
+  pub first-late : earlyCause s ≡ 0 → firstIn s ≡ readReply (lateCause s) (entryIn s) (recordLength (getD s 0 0))
   first-late e = by-cause (lateCause s) (cause-split s ∙ ap (λ (k : ℕ). first k (lateCause s)) e)
 
-pub early-none : (s : List ℕ) → earlyCause s ≡ 0 → (getD s 0 0 < 64) × (recordLength (getD s 0 0) ≤ length s)
+pub early-none : (s : List ℕ) → earlyCause s ≡ 0 → (getD s 0 0 < 2 ^ fieldCount) × (recordLength (getD s 0 0) ≤ length s)
 early-none s e =
     let m : ℕ = getD s 0 0 in
     let n : ℕ = recordLength m in
-    let both = first-none (unless (ltb m 64) cause.map) (unless (leb n (length s)) cause.cut) .0 e in
-    (ltb-true m 64 (unless-none (ltb m 64) 8 .0 (both .0)), leb-true n (length s) (unless-none (leb n (length s)) 7 .0 (both .1)))
+    let both = first-none (unless (ltb m (2 ^ fieldCount)) cause.map) (unless (leb n (length s)) cause.cut) .0 e in
+    (ltb-true m (2 ^ fieldCount) (unless-none (ltb m (2 ^ fieldCount)) 8 .0 (both .0)), leb-true n (length s) (unless-none (leb n (length s)) 7 .0 (both .1)))

@@ -1,8 +1,7 @@
 pub mod Numbers
-pub mod OneField
-pub mod AllFields
-pub mod Places
-pub mod Prefixes
+pub mod BySizes
+pub mod ByMap
+pub mod JobLayout
 pub mod Causes
 pub mod RoundTrip
 pub mod Files

@@ -1,18 +1,16 @@
 -- Writing, test by test: what is replied and what the buffer holds for each cause, and for none; and reading that buffer.
 -- Assumes nothing.
 use mathlib.Core.Path.{_≡_, refl, sym, ap, _∙_}
-use Prim.Native.Nat.{ℕ, zero, suc, _+_, _≤_, _<_}
+use Prim.Native.Nat.{ℕ, zero, suc, _≤_, _<_}
 use native.Mathlib.Omega.{arith}
 use borrow.Author.Tests.{le-leb, lt-leb}
-use mathlib.Core.List.{List, _∷_, _++_}
+use mathlib.Core.List.{List, _++_}
 use lib.ListN.{length, drop}
-use lib.Seq.{drop-drop}
 use lib.Dec.{leb}
 use Rattle.format.specs.Cause as cause
 use Rattle.format.specs.Cause.{unless}
 use Rattle.format.proofs.Laws.{first-none, first-some}
-use Rattle.records.specs.Number.{put}
-use Rattle.records.specs.Record.{recordCause, recordBytes, firstIn, rest, writeCause, told, writing, kept, written}
+use Rattle.records.specs.Record.{recordCause, recordBytes, firstIn, rest, writeCause, writeReply, writing, bufferAfter, written}
 use Rattle.records.specs.declared.Entry.{Entry}
 use Rattle.records.specs.declared.First.the-variants as found
 use Rattle.records.specs.declared.Writing.the-variants as reply
@@ -23,7 +21,7 @@ module _ (e : Entry) (s : List ℕ) where
   refused : (k : ℕ) → (k ≡ 0 → ⊥) → writeCause e (length s) ≡ k → (reply.Refused k ≡ writing e s) × (s ≡ written e s)
   unfolding writing written
   refused zero h q = absurd (h refl)
-  refused (suc k) h q = (sym (ap (λ (j : ℕ). told j (length (recordBytes e))) q), sym (ap (λ (j : ℕ). kept j (recordBytes e) s) q))
+  refused (suc k) h q = (sym (ap (λ (j : ℕ). writeReply j (length (recordBytes e))) q), sym (ap (λ (j : ℕ). bufferAfter j (recordBytes e) s) q))
 
   -- a cause against the entry
   pub write-refused : (recordCause e ≡ 0 → ⊥) → (reply.Refused (recordCause e) ≡ writing e s) × (s ≡ written e s)
@@ -41,27 +39,21 @@ module _ (e : Entry) (s : List ℕ) where
   unfolding writing written writeCause
   write-whole ok h =
       let none : writeCause e (length s) ≡ 0 = rw (ok, le-leb (length (recordBytes e)) (length s) h) in
-      (sym (ap (λ (j : ℕ). told j (length (recordBytes e))) none), sym (ap (λ (j : ℕ). kept j (recordBytes e) s) none))
-
--- the body put after a header that is stored
-pub put-after : (m w f o : ℕ) (bs s : List ℕ) → put (m ∷ w ∷ f ∷ o ∷ drop 4 s) 4 bs ≡ m ∷ w ∷ f ∷ o ∷ (bs ++ drop (4 + length bs) s)
-put-after m w f o bs s =
-    let four : 4 + length bs ≡ suc (suc (suc (suc (length bs)))) = omega arith in
-    ap (λ (t : List ℕ). m ∷ w ∷ f ∷ o ∷ (bs ++ t)) (ap (λ (n : ℕ). drop n (m ∷ w ∷ f ∷ o ∷ drop 4 s)) four ∙ drop-drop (length bs) 4 s)
+      (sym (ap (λ (j : ℕ). writeReply j (length (recordBytes e))) none), sym (ap (λ (j : ℕ). bufferAfter j (recordBytes e) s) none))
 
 -- what a buffer holds after the reply n reads as the entry, and the bytes after the first n are the rest
-told-written : (k n m : ℕ) → told k n ≡ reply.Written m → (k ≡ 0) × (n ≡ m)
-told-written zero n m q = (refl, cc)
-told-written (suc k) n m q = absurd (let z : _≡_ {A = ℕ} 0 1 = cc in omega arith)
+reply-written : (k n m : ℕ) → writeReply k n ≡ reply.Written m → (k ≡ 0) × (n ≡ m)
+reply-written zero n m q = (refl, cc)
+reply-written (suc k) n m q = absurd (let z : _≡_ {A = ℕ} 0 1 = cc in omega arith)
 
 pub read-after-write : (e : Entry) (s : List ℕ) (n : ℕ) → writing e s ≡ reply.Written n
     → (firstIn (written e s) ≡ found.Job e n) × (rest (written e s) ≡ drop n s)
 unfolding writing written writeCause
 read-after-write e s n q =
-    let t = told-written (writeCause e (length s)) (length (recordBytes e)) n q in
+    let t = reply-written (writeCause e (length s)) (length (recordBytes e)) n q in
     let ok : recordCause e ≡ 0 = first-none (recordCause e) (unless (leb (length (recordBytes e)) (length s)) cause.buffer) .0 (t .0) .0 in
     let tail : List ℕ = drop (length (recordBytes e)) s in
-    let holds : written e s ≡ recordBytes e ++ tail = ap (λ (k : ℕ). kept k (recordBytes e) s) (t .0) in (
+    let holds : written e s ≡ recordBytes e ++ tail = ap (λ (k : ℕ). bufferAfter k (recordBytes e) s) (t .0) in (
       ap firstIn holds ∙ read-written e tail ok ∙ ap (found.Job e) (t .1),
       ap rest holds ∙ rest-written e tail ok ∙ ap (λ (k : ℕ). drop k s) (t .1),
     )

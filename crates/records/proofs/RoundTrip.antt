@@ -2,7 +2,7 @@
 -- what writing that job gives. So different entries have different records, and no record is the start of another. Assumes nothing.
 use mathlib.Core.Path.{_≡_, refl, sym, ap, ap₂, _∙_}
 use mathlib.Core.Bool.{Bool}
-use Prim.Native.Nat.{ℕ, suc, _+_, _≤_, _<_}
+use Prim.Native.Nat.{ℕ, suc, _+_, _^_, _≤_, _<_}
 use native.Mathlib.Omega.{arith}
 use mathlib.Core.List.{List, [], _∷_, _++_, append-nil}
 use lib.Dec.{eqb}
@@ -12,95 +12,86 @@ use Rattle.format.specs.Cause as cause
 use Rattle.format.specs.Cause.{unless, first}
 use Rattle.format.specs.declared.Format.{Format}
 use Rattle.records.specs.Number.{Bytes}
-use Rattle.records.specs.Fields.{mapOf, body, bodyLength, fieldsIn, saysDefault}
-use Rattle.records.specs.Record.{shapes, fields, entryOf, recordCause, recordBytes, recordLength, fieldsOf, entryIn, readCause, answer, firstIn, rest, after}
+use Rattle.records.specs.Numbers.{total, numberBytes, numbers}
+use Rattle.records.specs.Layout.{sizes, mapOf, saysDefault}
+use Rattle.records.specs.Record.{wordBytes, headerBytes, fieldCount, layout, entryNumbers, entryWith, fieldSizes, entryMap, recordCause, recordBytes, recordLength, numbersIn, entryIn, readCause, readReply, firstIn, rest, restAfter}
 use Rattle.records.specs.declared.Entry.{Entry}
 use Rattle.records.specs.declared.First.{First}
 use Rattle.records.specs.declared.First.the-variants as found
-use Rattle.records.proofs.Numbers.{bytes-drop}
-use Rattle.records.proofs.OneField as field
-use Rattle.records.proofs.AllFields as all
-use Rattle.records.proofs.AllFields.{AllFit, map-lt, fields-back, fields-fit, map-no-default, map-back, default-map, body-back}
-use Rattle.job.proofs.Laws.{request-none}
-use Rattle.records.proofs.Causes.{entry-fits, record-length, read-none, Readable, first-job, lateCause}
+use Rattle.records.proofs.BySizes.{numbers-back, bytes-back}
+use Rattle.records.proofs.ByMap.{map-lt, map-no-default, read-absent, map-back, default-map}
+use Rattle.records.proofs.JobLayout.{layout-bits}
+use Rattle.records.proofs.Causes.{record-fits, record-length, read-none, Readable, first-job, lateCause}
 
 -- ---- written and read back
 module _ (e : Entry) (t : List ℕ) (ok : recordCause e ≡ 0) where
-  same-fields : fieldsIn shapes (mapOf (fields e)) (body shapes (fields e) ++ t) ≡ fields e
-  same-fields = fields-back (entry-fits e (request-none (e .job) (e .r1) (e .r2) .0 ok)) t
+  same-numbers : numbers (fieldSizes (entryMap e)) (numberBytes (fieldSizes (entryMap e)) (entryNumbers e) ++ t) ≡ entryNumbers e
+  same-numbers = numbers-back (record-fits e ok) t
 
   same-entry : entryIn (recordBytes e ++ t) ≡ e
   unfolding recordBytes
-  same-entry = ap (entryOf (e .job .setting .format) (e .job .setting .operation)) same-fields
+  same-entry = ap (entryWith (e .job .setting .format) (e .job .setting .operation)) same-numbers
 
   no-cause : readCause (recordBytes e ++ t) ≡ 0
   unfolding recordBytes
   no-cause =
-      let whole : recordLength (mapOf (fields e)) ≤ length (recordBytes e ++ t) = omega (arith, record-length e ok, length-append (recordBytes e) t) in
       read-none (recordBytes e ++ t) .1
       (record {
-        map = map-lt (fields e);
-        whole = whole;
+        map = map-lt fieldCount (layout wordBytes) (entryNumbers e) (layout-bits wordBytes);
+        whole = omega (arith, record-length e ok, length-append (recordBytes e) t);
         sound = ap recordCause same-entry ∙ ok;
-        told = ap (saysDefault (mapOf (fields e))) same-fields ∙ map-no-default (fields e);
+        no-default = ap (saysDefault fieldCount (entryMap e) (layout wordBytes)) same-numbers ∙ map-no-default fieldCount (layout wordBytes) (entryNumbers e);
       })
 
   pub read-written : firstIn (recordBytes e ++ t) ≡ found.Job e (length (recordBytes e))
   unfolding firstIn recordBytes
-  read-written = ap (λ (k : ℕ). answer k (entryIn (recordBytes e ++ t)) (recordLength (mapOf (fields e)))) no-cause ∙ ap₂ found.Job same-entry (record-length e ok)
+  read-written = ap (λ (k : ℕ). readReply k (entryIn (recordBytes e ++ t)) (recordLength (entryMap e))) no-cause ∙ ap₂ found.Job same-entry (record-length e ok)
 
   -- the bytes that follow are the rest
   pub rest-written : rest (recordBytes e ++ t) ≡ t
   unfolding rest
-  rest-written = ap (λ (r : First). after r (recordBytes e ++ t)) read-written ∙ drop-append-seam (recordBytes e) t
+  rest-written = ap (λ (r : First). restAfter r (recordBytes e ++ t)) read-written ∙ drop-append-seam (recordBytes e) t
 
 -- ---- read and written back
 
--- the fields of the entry are the fields that were read
-pub entry-fields : (F : Format) (operation : ℕ) (fs : List (List ℕ)) → AllFit shapes fs → fields (entryOf F operation fs) ≡ fs
-entry-fields F operation fs
-    (all.more (field.more p (field.more q field.none))
-    (all.more (field.more r (field.more s field.none))
-    (all.more (field.more t (field.more u field.none))
-    (all.more (field.more v (field.more w field.none))
-    (all.more (field.more x field.none)
-    (all.more (field.more y (field.more z field.none)) all.none)))))) = refl
+-- the numbers of the entry are the numbers that were read
+entry-numbers : (F : Format) (operation m : ℕ) (s : List ℕ) → entryNumbers (entryWith F operation (numbers (fieldSizes m) s)) ≡ numbers (fieldSizes m) s
+unfolding layout sizes numbers
+entry-numbers F operation m s = refl
 
 -- so the test for defaults may compare the map that was read with the entry's own
-pub entry-told : (s : List ℕ) → Bytes s → getD s 0 0 < 64
-    → first (recordCause (entryIn s)) (unless (eqb (mapOf (fields (entryIn s))) (getD s 0 0)) cause.default) ≡ lateCause s
-entry-told s b h =
+pub entry-default : (s : List ℕ) → getD s 0 0 < 2 ^ fieldCount
+    → first (recordCause (entryIn s)) (unless (eqb (entryMap (entryIn s)) (getD s 0 0)) cause.default) ≡ lateCause s
+entry-default s h =
     let m : ℕ = getD s 0 0 in
-    let tail : List ℕ = drop 4 s in
-    let same : fields (entryIn s) ≡ fieldsOf s =
-    entry-fields (record { w = getD s 1 0; f = getD s 2 0 }) (getD s 3 0) (fieldsOf s) (fields-fit shapes m tail (bytes-drop 4 s b)) in
+    let same : entryNumbers (entryIn s) ≡ numbersIn s = entry-numbers (record { w = getD s 1 0; f = getD s 2 0 }) (getD s 3 0) m (drop headerBytes s) in
     ap (λ (t : Bool). first (recordCause (entryIn s)) (unless t cause.default))
-    (ap (λ (fs : List (List ℕ)). eqb (mapOf fs) m) same ∙ sym (default-map shapes m tail h))
+    (ap (λ (ns : List ℕ). eqb (mapOf (layout wordBytes) ns) m) same
+    ∙ sym (default-map fieldCount m (layout wordBytes) (numbersIn s) (layout-bits wordBytes) h (read-absent m (layout wordBytes) (drop headerBytes s))))
 
-module _ (a w f o : ℕ) (t : List ℕ) (b : Bytes (a ∷ w ∷ f ∷ o ∷ t)) (r : Readable (a ∷ w ∷ f ∷ o ∷ t)) where
-  bytes-after : Bytes t
-  bytes-after i = b (suc (suc (suc (suc i))))
-
+module _ (m w f o : ℕ) (t : List ℕ) (b : Bytes (m ∷ w ∷ f ∷ o ∷ t)) (r : Readable (m ∷ w ∷ f ∷ o ∷ t)) where
   -- the record of the entry that was read is what was read
-  record-back : recordBytes (entryIn (a ∷ w ∷ f ∷ o ∷ t)) ≡ take (recordLength a) (a ∷ w ∷ f ∷ o ∷ t)
+  record-back : recordBytes (entryIn (m ∷ w ∷ f ∷ o ∷ t)) ≡ take (recordLength m) (m ∷ w ∷ f ∷ o ∷ t)
   unfolding recordBytes recordLength
   record-back =
-      let fs : List (List ℕ) = fieldsIn shapes a t in
-      let same : fields (entryOf (record { w = w; f = f }) o fs) ≡ fs = entry-fields (record { w = w; f = f }) o fs (fields-fit shapes a t bytes-after) in
-      let long : 4 + bodyLength shapes a ≡ suc (suc (suc (suc (bodyLength shapes a)))) = omega arith in
-      ap₂ (λ (m : ℕ) (bs : List ℕ). m ∷ w ∷ f ∷ o ∷ bs)
-      (ap mapOf same ∙ map-back shapes a t (r .map) (r .told))
-      (ap (body shapes) same ∙ body-back shapes a t bytes-after (omega (arith, r .whole)) (r .told))
-      ∙ ap (λ (n : ℕ). take n (a ∷ w ∷ f ∷ o ∷ t)) (sym long)
+      let ns : List ℕ = numbers (fieldSizes m) t in
+      let same : entryNumbers (entryIn (m ∷ w ∷ f ∷ o ∷ t)) ≡ ns = entry-numbers (record { w = w; f = f }) o m t in
+      let map : entryMap (entryIn (m ∷ w ∷ f ∷ o ∷ t)) ≡ m =
+      ap (mapOf (layout wordBytes)) same ∙ map-back fieldCount m (layout wordBytes) ns (layout-bits wordBytes) (r .map) (read-absent m (layout wordBytes) t) (r .no-default) in
+      let long : headerBytes + total (fieldSizes m) ≡ suc (suc (suc (suc (total (fieldSizes m))))) = omega arith in
+      ap₂ (λ (k : ℕ) (bs : List ℕ). k ∷ w ∷ f ∷ o ∷ bs) map
+      (ap₂ (λ (k : ℕ) (xs : List ℕ). numberBytes (fieldSizes k) xs) map same
+      ∙ bytes-back (fieldSizes m) t (λ i. b (suc (suc (suc (suc i))))) (omega (arith, r .whole)))
+      ∙ ap (λ (n : ℕ). take n (m ∷ w ∷ f ∷ o ∷ t)) (sym long)
 
 -- a record has its four header bytes
-pub bytes-back : (s : List ℕ) → Bytes s → Readable s → recordBytes (entryIn s) ≡ take (recordLength (getD s 0 0)) s
+pub record-read : (s : List ℕ) → Bytes s → Readable s → recordBytes (entryIn s) ≡ take (recordLength (getD s 0 0)) s
 unfolding recordLength
-bytes-back [] b r = absurd (omega (arith, r .whole))
-bytes-back (a ∷ []) b r = absurd (omega (arith, r .whole))
-bytes-back (a ∷ w ∷ []) b r = absurd (omega (arith, r .whole))
-bytes-back (a ∷ w ∷ f ∷ []) b r = absurd (omega (arith, r .whole))
-bytes-back (a ∷ w ∷ f ∷ o ∷ t) b r = record-back a w f o t b r
+record-read [] b r = absurd (omega (arith, r .whole))
+record-read (a ∷ []) b r = absurd (omega (arith, r .whole))
+record-read (a ∷ w ∷ []) b r = absurd (omega (arith, r .whole))
+record-read (a ∷ w ∷ f ∷ []) b r = absurd (omega (arith, r .whole))
+record-read (a ∷ w ∷ f ∷ o ∷ t) b r = record-back a w f o t b r
 
 -- bytes that read as a job are the record of that job, against which no cause stands
 pub written-read : (s : List ℕ) → Bytes s → (e : Entry) (n : ℕ) → firstIn s ≡ found.Job e n
@@ -108,7 +99,7 @@ pub written-read : (s : List ℕ) → Bytes s → (e : Entry) (n : ℕ) → firs
 written-read s b e n q =
     let taken = first-job s e n q in (
       ap recordCause (sym (taken .entry)) ∙ taken .readable .sound,
-      ap recordBytes (sym (taken .entry)) ∙ bytes-back s b (taken .readable) ∙ ap (λ (k : ℕ). take k s) (taken .count),
+      ap recordBytes (sym (taken .entry)) ∙ record-read s b (taken .readable) ∙ ap (λ (k : ℕ). take k s) (taken .count),
       omega (arith, taken .readable .whole, taken .count),
     )
 

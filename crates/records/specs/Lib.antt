@@ -1,4 +1,5 @@
 pub mod Number
-pub mod Fields
+pub mod Numbers
+pub mod Layout
 pub mod Record
 pub mod File

@@ -10,7 +10,9 @@ use Rattle.format.specs.Cause.{unless, first}
 use Rattle.format.specs.declared.Format.{Format}
 use Rattle.mask.specs.declared.Mask.{Mask}
 use Rattle.job.specs.Job.{requestCause}
-use Rattle.records.specs.Fields.{mapOf, body, bodyLength, fieldsIn, saysDefault}
+use Rattle.records.specs.Numbers.{total, numberBytes, numbers}
+use Rattle.records.specs.Layout.{sizes, mapOf, saysDefault}
+use Rattle.records.specs.declared.layout.Slot.{Slot}
 use Rattle.records.specs.declared.Entry.{Entry}
 use Rattle.records.specs.declared.First.{First}
 use Rattle.records.specs.declared.First.the-variants as found
@@ -19,41 +21,61 @@ use Rattle.records.specs.declared.Writing.the-variants as reply
 
 -- ---- the fields of a record
 
--- "A mask is care, then value, 4 bytes each"; "The random words are 4 bytes each"
-abbrev pub words : List ℕ
-words = 4 ∷ 4 ∷ []
+-- a word is "4 bytes"
+abbrev pub wordBytes : ℕ
+wordBytes = 4
 
--- "bits 0 to 3 the masks of a, b, c and carries, bit 4 the mode, bit 5 the random words"; "The mode is one byte"
-abbrev pub shapes : List (List ℕ)
-shapes = words ∷ words ∷ words ∷ words ∷ (1 ∷ []) ∷ words ∷ []
+-- "the four header bytes": map, w, f, operation
+abbrev pub headerBytes : ℕ
+headerBytes = 4
 
--- "care, then value"
+-- bits 0 to 5 of the map stand for fields
+abbrev pub fieldCount : ℕ
+fieldCount = 6
+
+-- and have so many numbers together
+abbrev pub numberCount : ℕ
+numberCount = 11
+
+-- field i of one number of k bytes, and of two
+abbrev pub one : ℕ → ℕ → List Slot
+one i k = record { field = i; bytes = k } ∷ []
+
+abbrev pub two : ℕ → ℕ → List Slot
+two i k = one i k ++ one i k
+
+-- "bits 0 to 3 the masks of a, b, c and carries, bit 4 the mode, bit 5 the random words"; a mask and the random words are two words each,
+-- "The mode is one byte"
+unfoldable pub layout : ℕ → List Slot
+layout word = two 0 word ++ (two 1 word ++ (two 2 word ++ (two 3 word ++ (one 4 1 ++ two 5 word))))
+
+-- "A mask is care, then value"
 abbrev pub maskNumbers : Mask → List ℕ
 maskNumbers m = m .care ∷ m .value ∷ []
 
 -- the numbers of an entry's fields, "in bit order"
-abbrev pub fields : Entry → List (List ℕ)
-fields e =
-    maskNumbers (e .job .a .mask) ∷ maskNumbers (e .job .b .mask) ∷ maskNumbers (e .job .c .mask) ∷ maskNumbers (e .job .carries)
-    ∷ (e .job .setting .mode ∷ []) ∷ (e .r1 ∷ e .r2 ∷ []) ∷ []
+abbrev pub entryNumbers : Entry → List ℕ
+entryNumbers e =
+    maskNumbers (e .job .a .mask) ++ (maskNumbers (e .job .b .mask) ++ (maskNumbers (e .job .c .mask) ++ (maskNumbers (e .job .carries)
+    ++ (e .job .setting .mode ∷ e .r1 ∷ e .r2 ∷ []))))
 
--- the mask of a field's two numbers
-abbrev pub maskOf : List ℕ → Mask
-maskOf ns = record { care = getD ns 0 0; value = getD ns 1 0 }
+-- the mask whose care is number i
+abbrev pub maskAt : List ℕ → ℕ → Mask
+maskAt ns i = record { care = getD ns i 0; value = getD ns (suc i) 0 }
 
--- the entry with these fields
-abbrev pub entryOf : Format → ℕ → List (List ℕ) → Entry
-entryOf format operation fs =
+-- the entry with these numbers
+abbrev pub entryWith : Format → ℕ → List ℕ → Entry
+entryWith format operation ns =
     record {
       job = record {
-        setting = record { format = format; operation = operation; mode = getD (getD fs 4 []) 0 0 };
-        a = record { mask = maskOf (getD fs 0 []) };
-        b = record { mask = maskOf (getD fs 1 []) };
-        c = record { mask = maskOf (getD fs 2 []) };
-        carries = maskOf (getD fs 3 []);
+        setting = record { format = format; operation = operation; mode = getD ns 8 0 };
+        a = record { mask = maskAt ns 0 };
+        b = record { mask = maskAt ns 2 };
+        c = record { mask = maskAt ns 4 };
+        carries = maskAt ns 6;
       };
-      r1 = getD (getD fs 5 []) 0 0;
-      r2 = getD (getD fs 5 []) 1 0;
+      r1 = getD ns 9 0;
+      r2 = getD ns 10 0;
     }
 
 -- 1 to 6: the cause against the job and its random words
@@ -62,50 +84,58 @@ recordCause e = requestCause (e .job) (e .r1) (e .r2)
 
 -- ---- the record's bytes
 
+-- the byte counts of the numbers in a record with the map m, and the map of an entry's record
+abbrev pub fieldSizes : ℕ → List ℕ
+fieldSizes m = sizes (layout wordBytes) m
+
+abbrev pub entryMap : Entry → ℕ
+entryMap e = mapOf (layout wordBytes) (entryNumbers e)
+
 -- "A record begins with a map byte"; "Then w, f and the operation, a byte each. Then, in bit order, only the fields whose bit stands."
 unfoldable pub recordBytes : Entry → List ℕ
 recordBytes e =
-    mapOf (fields e) ∷ e .job .setting .format .w ∷ e .job .setting .format .f ∷ e .job .setting .operation ∷ body shapes (fields e)
+    entryMap e ∷ e .job .setting .format .w ∷ e .job .setting .format .f ∷ e .job .setting .operation
+    ∷ numberBytes (fieldSizes (entryMap e)) (entryNumbers e)
 
 -- ---- reading
 
 -- the length of a record, by its map byte: "masks stand after the four header bytes"
 unfoldable pub recordLength : ℕ → ℕ
-recordLength m = 4 + bodyLength shapes m
+recordLength m = headerBytes + total (fieldSizes m)
 
--- the fields, and the entry, of a record that is not cut short
-abbrev pub fieldsOf : List ℕ → List (List ℕ)
-fieldsOf s = fieldsIn shapes (getD s 0 0) (drop 4 s)
+-- the numbers, and the entry, of a record that is not cut short
+abbrev pub numbersIn : List ℕ → List ℕ
+numbersIn s = numbers (fieldSizes (getD s 0 0)) (drop headerBytes s)
 
 abbrev pub entryIn : List ℕ → Entry
-entryIn s = entryOf (record { w = getD s 1 0; f = getD s 2 0 }) (getD s 3 0) (fieldsOf s)
+entryIn s = entryWith (record { w = getD s 1 0; f = getD s 2 0 }) (getD s 3 0) (numbersIn s)
 
--- "Reading checks 9, 8, then 1 to 6, then 10"; a map byte has no bit above the fields' bits exactly where it is below 2 to their count
+-- "Reading checks 9, 8, then 1 to 6, then 10"; a map with no bit above the fields' bits is below 2 to their count
 unfoldable pub readCause : List ℕ → ℕ
 readCause s =
-    first (unless (ltb (getD s 0 0) (2 ^ length shapes)) cause.map)
+    first (unless (ltb (getD s 0 0) (2 ^ fieldCount)) cause.map)
     (first (unless (leb (recordLength (getD s 0 0)) (length s)) cause.cut)
-    (first (recordCause (entryIn s)) (unless (not (saysDefault (getD s 0 0) (fieldsOf s))) cause.default)))
+    (first (recordCause (entryIn s)) (unless (not (saysDefault fieldCount (getD s 0 0) (layout wordBytes) (numbersIn s))) cause.default)))
 
 -- a job where no cause stands, else the cause's number
-abbrev pub answer : ℕ → Entry → ℕ → First
-answer zero e n = found.Job e n
-answer (suc k) e n = found.Refused (suc k)
+abbrev pub readReply : ℕ → Entry → ℕ → First
+readReply zero e n = found.Job e n
+readReply (suc k) e n = found.Refused (suc k)
 
 -- what stands first: "with no byte left it says end", else a job with its length, or the number of a refusal
 unfoldable pub firstIn : List ℕ → First
 firstIn [] = found.End
-firstIn (b ∷ bs) = answer (readCause (b ∷ bs)) (entryIn (b ∷ bs)) (recordLength b)
+firstIn (b ∷ bs) = readReply (readCause (b ∷ bs)) (entryIn (b ∷ bs)) (recordLength b)
 
 -- "the reader hands back the rest of the file"; on a refusal "the rest .. begins at the refused record"
-abbrev pub after : First → List ℕ → List ℕ
-after found.End s = []
-after (found.Job e n) s = drop n s
-after (found.Refused k) s = s
+abbrev pub restAfter : First → List ℕ → List ℕ
+restAfter found.End s = []
+restAfter (found.Job e n) s = drop n s
+restAfter (found.Refused k) s = s
 
 -- the bytes after what stands first
 unfoldable pub rest : List ℕ → List ℕ
-rest s = after (firstIn s) s
+rest s = restAfter (firstIn s) s
 
 -- ---- writing
 
@@ -114,19 +144,19 @@ unfoldable pub writeCause : Entry → ℕ → ℕ
 writeCause e n = first (recordCause e) (unless (leb (length (recordBytes e)) n) cause.buffer)
 
 -- the byte count where no cause stands, else the cause's number
-abbrev pub told : ℕ → ℕ → Writing
-told zero n = reply.Written n
-told (suc k) n = reply.Refused (suc k)
+abbrev pub writeReply : ℕ → ℕ → Writing
+writeReply zero n = reply.Written n
+writeReply (suc k) n = reply.Refused (suc k)
 
 -- the reply: "it returns the byte count"
 unfoldable pub writing : Entry → List ℕ → Writing
-writing e s = told (writeCause e (length s)) (length (recordBytes e))
+writing e s = writeReply (writeCause e (length s)) (length (recordBytes e))
 
 -- the record, and "bytes after the record are untouched"; where a cause stands, "the whole buffer" as it was
-abbrev pub kept : ℕ → List ℕ → List ℕ → List ℕ
-kept zero bs s = bs ++ drop (length bs) s
-kept (suc k) bs s = s
+abbrev pub bufferAfter : ℕ → List ℕ → List ℕ → List ℕ
+bufferAfter zero bs s = bs ++ drop (length bs) s
+bufferAfter (suc k) bs s = s
 
 -- the buffer after writing
 unfoldable pub written : Entry → List ℕ → List ℕ
-written e s = kept (writeCause e (length s)) (recordBytes e) s
+written e s = bufferAfter (writeCause e (length s)) (recordBytes e) s

@@ -1,49 +1,53 @@
 -- `records::decode` meets its contract. Assumes nothing.
+use mathlib.Core.Path.{_≡_, sym, ap, _∙_}
+use Prim.Native.Nat.{ℕ, _≤_}
+use native.Mathlib.Omega.{arith}
+use mathlib.Core.List.{List}
+use lib.ListN.{length, getD}
+use denote.Ref.{now}
+use Rattle.records.specs.Numbers.{total, numbers}
+use Rattle.records.specs.Record.{fieldSizes, entryWith}
+use Rattle.records.proofs.JobLayout.{sizes-count, size-most}
 use borrow.Author.Needs.{needs}
 use Rattle.records.proofs.decode.Statement.{statement}
 use Rattle.records.proofs.decode.Tie as tie
 
-mask-in-requires : tie.Need-mask-in-requires
-mask-in-requires c κs = search needs
+field-sizes-requires : tie.Need-field-sizes-requires
+field-sizes-requires c κs = search needs
 
-mask-in-requires-2 : tie.Need-mask-in-requires-2
-mask-in-requires-2 c κs = search needs
+slice-aggregate-read-numbers : tie.Need-slice-aggregate-read-numbers
+slice-aggregate-read-numbers c = search needs
 
-mask-in-requires-3 : tie.Need-mask-in-requires-3
-mask-in-requires-3 c κs = search needs
+slice-aggregate-read-numbers-2 : tie.Need-slice-aggregate-read-numbers-2
+slice-aggregate-read-numbers-2 c = search needs
 
-mask-in-requires-4 : tie.Need-mask-in-requires-4
-mask-in-requires-4 c κs = search needs
+read-numbers-requires : tie.Need-read-numbers-requires
+read-numbers-requires c κs =
+    let f = c .before .before in
+    let m : ℕ = f .before .before .args .map in (
+      omega (arith, ap total (f .field-sizes .ensures), f .before .before .pre),
+      sym (ap length (f .field-sizes .ensures) ∙ sizes-count m),
+      λ i. omega (arith, size-most m i, ap (λ (ks : List ℕ). getD ks i 0) (f .field-sizes .ensures)),
+    )
 
-mode-in-requires : tie.Need-mode-in-requires
-mode-in-requires c κs = search needs
-
-words-in-requires : tie.Need-words-in-requires
-words-in-requires c κs = search needs
+entry-with-requires : tie.Need-entry-with-requires
+entry-with-requires c κs = search needs
 
 returns : tie.Need-returns
 returns c =
-    let a = c .before .before .before .before .before .before .before .args in
-    λ i. record {
-      job = record {
-        setting = record { format = a .format; operation = a .operation; mode = c .before .mode-in .ensures i };
-        a = record { mask = c .before .before .before .before .before .mask-in .ensures i };
-        b = record { mask = c .before .before .before .before .mask-in2 .ensures i };
-        c = record { mask = c .before .before .before .mask-in3 .ensures i };
-        carries = c .before .before .mask-in4 .ensures i;
-      };
-      r1 = c .words-in .ensures .0 i;
-      r2 = c .words-in .ensures .1 i;
-    }
+    let r = c .before .before in
+    let f = r .before .before .before in
+    let a = f .before .before .args in
+    c .entry-with .ensures
+    ∙ ap (entryWith (a .format) (a .operation)) (r .read-numbers .ensures ∙ ap (λ (ks : List ℕ). numbers ks (now (a .s))) (f .field-sizes .ensures))
 
 pub decode-spec : {M : Type 1} → statement M
 decode-spec =
     tie.close
     (tie.spec
-    mask-in-requires
-    mask-in-requires-2
-    mask-in-requires-3
-    mask-in-requires-4
-    mode-in-requires
-    words-in-requires
+    field-sizes-requires
+    slice-aggregate-read-numbers
+    slice-aggregate-read-numbers-2
+    read-numbers-requires
+    entry-with-requires
     returns)

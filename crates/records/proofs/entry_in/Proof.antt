@@ -1,4 +1,4 @@
--- `records::entry_in` meets its contract: the part from byte 4 on holds the fields. Assumes nothing.
+-- `records::entry_in` meets its contract: the part after the header holds the fields. Assumes nothing.
 use mathlib.Core.Path.{_≡_, sym, ap, _∙_}
 use Prim.Native.Nat.{ℕ, _-_}
 use native.Mathlib.Nat.{le-of-eq}
@@ -7,15 +7,15 @@ use mathlib.Core.List.{List}
 use lib.ListN.{length, take, drop, length-drop}
 use lib.Seq.{take-all}
 use denote.Ref.{now}
-use Rattle.records.specs.Fields.{fieldsIn}
-use Rattle.records.specs.Record.{shapes, recordLength, entryOf}
+use Rattle.records.specs.Numbers.{numbers}
+use Rattle.records.specs.Record.{headerBytes, fieldSizes, recordLength, entryWith}
 use borrow.Author.Needs.{needs}
 use Rattle.records.proofs.entry_in.Statement.{statement}
 use Rattle.records.proofs.entry_in.Tie as tie
 
--- the part from byte 4 on
-tail-part : (s : List ℕ) → take (length s - 4) (drop 4 s) ≡ drop 4 s
-tail-part s = take-all (length s - 4) (drop 4 s) (le-of-eq (length-drop 4 s))
+-- the part after the header
+tail-part : (s : List ℕ) → take (length s - headerBytes) (drop headerBytes s) ≡ drop headerBytes s
+tail-part s = take-all (length s - headerBytes) (drop headerBytes s) (le-of-eq (length-drop headerBytes s))
 
 shared-slice-read-wide : tie.Need-shared-slice-read-wide
 unfolding recordLength
@@ -54,15 +54,15 @@ unfolding recordLength
 decode-requires c κs =
     let k = c .before .before .before .before .before .before .before .before in
     let s : List ℕ = now (k .args .s) in
-    omega (arith, ap length (tail-part s), length-drop 4 s, k .pre .1)
+    omega (arith, ap length (tail-part s), length-drop headerBytes s, k .pre .1)
 
 returns : tie.Need-returns
 returns c =
     let k = c .before .before .before .before .before .before .before .before .before in
     let s : List ℕ = now (k .args .s) in
     c .decode .ensures
-    ∙ λ i. entryOf (record { w = c .before .before .before .before .before .before .wide .ensures i; f = c .before .before .before .before .wide2 .ensures i })
-    (c .before .before .wide3 .ensures i) (fieldsIn shapes (sym (k .pre .0) i) (tail-part s i))
+    ∙ λ i. entryWith (record { w = c .before .before .before .before .before .before .wide .ensures i; f = c .before .before .before .before .wide2 .ensures i })
+    (c .before .before .wide3 .ensures i) (numbers (fieldSizes (sym (k .pre .0) i)) (tail-part s i))
 
 pub entry-in-spec : {M : Type 1} → statement M
 entry-in-spec =

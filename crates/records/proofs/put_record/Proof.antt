@@ -1,34 +1,82 @@
--- `records::put_record` meets its contract: the header is stored and the body put after it. Against the entry no cause stands, so each
--- header byte fits a byte. Assumes nothing.
-use mathlib.Core.Path.{_≡_, ap, _∙_}
-use Prim.Native.Nat.{ℕ, _+_}
+-- `records::put_record` meets its contract: the header's numbers, then those of the fields right after them. Against the entry no cause
+-- stands, so each header number fits a byte. Assumes nothing.
+use mathlib.Core.Path.{_≡_, sym, ap, ap₂, _∙_}
+use Prim.Native.Nat.{ℕ, _+_, _%_, _^_, _≤_, _<_}
+use native.Mathlib.Nat.{zero-add, mod-eq-of-lt}
 use native.Mathlib.Omega.{arith}
-use mathlib.Core.List.{List, _∷_, _++_}
+use mathlib.Core.List.{List, [], _∷_, _++_}
 use lib.ListN.{length, drop}
 use denote.Ref.{now}
-use Rattle.records.specs.Number.{put}
-use Rattle.records.specs.Fields.{mapOf, body}
-use Rattle.records.specs.Record.{shapes, fields, recordBytes}
-use Rattle.records.proofs.AllFields.{map-lt}
 use Rattle.job.proofs.Laws.{request-none}
-use Rattle.records.proofs.Replies.{put-after}
+use Rattle.records.specs.Number.{littleEndian, put}
+use Rattle.records.specs.Numbers.{total, numberBytes}
+use Rattle.records.specs.Record.{wordBytes, headerBytes, fieldCount, layout, fieldSizes, entryNumbers, entryMap, recordCause, recordBytes}
+use Rattle.records.specs.declared.Entry.{Entry}
+use Rattle.records.proofs.Numbers.{put-put}
+use Rattle.records.proofs.BySizes.{length-bytes}
+use Rattle.records.proofs.ByMap.{map-lt}
+use Rattle.records.proofs.JobLayout.{layout-bits, sizes-count}
+use Rattle.records.proofs.Causes.{record-fits}
 use borrow.Author.Needs.{needs}
 use Rattle.records.proofs.put_record.Statement.{statement}
 use Rattle.records.proofs.put_record.Tie as tie
 
-put-header-requires : tie.Need-put-header-requires
-unfolding recordBytes
-put-header-requires c κs =
-    let k = c .before .before .before in
-    let e = k .args .entry in
-    let v = request-none (e .job) (e .r1) (e .r2) .0 (k .pre .0) in
-    omega (arith, k .pre .1, k .pre .2, map-lt (fields (k .args .entry)), v .valid .setting .format .w-most, v .valid .setting .format .f-most, v .valid .setting .operation)
+-- the header of an entry's record
+abbrev header : Entry → List ℕ
+header e = entryMap e ∷ e .job .setting .format .w ∷ e .job .setting .format .f ∷ e .job .setting .operation ∷ []
 
-put-fields-requires : tie.Need-put-fields-requires
+-- the bytes of its fields
+abbrev fieldBytes : Entry → List ℕ
+fieldBytes e = numberBytes (fieldSizes (entryMap e)) (entryNumbers e)
+
+whole : (e : Entry) → recordCause e ≡ 0 → length (fieldBytes e) ≡ total (fieldSizes (entryMap e))
+whole e ok = length-bytes (record-fits e ok)
+
+-- each header number is its one byte
+byte : (x : ℕ) → x < 256 → x % 256 ≡ x
+byte x h = mod-eq-of-lt h
+
+header-bytes : (e : Entry) → recordCause e ≡ 0 → numberBytes (1 ∷ 1 ∷ 1 ∷ 1 ∷ []) (header e) ≡ header e
+unfolding numberBytes littleEndian
+header-bytes e ok =
+    let v = request-none (e .job) (e .r1) (e .r2) .0 ok .valid .setting in
+    let m : entryMap e < 2 ^ fieldCount = map-lt fieldCount (layout wordBytes) (entryNumbers e) (layout-bits wordBytes) in
+    λ i. byte (entryMap e) (omega arith) i ∷ byte (e .job .setting .format .w) (omega (arith, v .format .w-most)) i
+    ∷ byte (e .job .setting .format .f) (omega (arith, v .format .f-most)) i ∷ byte (e .job .setting .operation) (omega (arith, v .operation)) i ∷ []
+
+slice-aggregate-put-numbers : tie.Need-slice-aggregate-put-numbers
+slice-aggregate-put-numbers c = search needs
+
+slice-aggregate-put-numbers-2 : tie.Need-slice-aggregate-put-numbers-2
+slice-aggregate-put-numbers-2 c = search needs
+
+put-numbers-requires : tie.Need-put-numbers-requires
+unfolding recordBytes total
+put-numbers-requires c κs = (omega (arith, c .before .before .before .before .before .pre .2), omega arith)
+
+field-sizes-requires : tie.Need-field-sizes-requires
+field-sizes-requires c κs = search needs
+
+entry-numbers-requires : tie.Need-entry-numbers-requires
+entry-numbers-requires c κs = search needs
+
+slice-aggregate-put-numbers-3 : tie.Need-slice-aggregate-put-numbers-3
+slice-aggregate-put-numbers-3 c = search needs
+
+slice-aggregate-put-numbers-4 : tie.Need-slice-aggregate-put-numbers-4
+slice-aggregate-put-numbers-4 c = search needs
+
+put-numbers-requires-2 : tie.Need-put-numbers-requires-2
 unfolding recordBytes
-put-fields-requires c κs =
-    let h = c .before .before .before in
-    omega (arith, h .before .before .before .before .pre .2, h .put-header .kept .0)
+put-numbers-requires-2 c κs =
+    let n = c .before .before .before in
+    let f = n .before in
+    let p = f .before .before .before in
+    let k = p .before .before .before .before .before .before in
+    let e : Entry = k .args .entry in (
+      omega (arith, ap total (f .field-sizes .ensures ∙ ap fieldSizes (k .pre .1)), whole e (k .pre .0), k .pre .2, p .put-numbers .kept .0),
+      ap length (n .entry-numbers .ensures) ∙ sym (ap length (f .field-sizes .ensures) ∙ sizes-count (k .args .map)),
+    )
 
 same-length : tie.Need-same-length
 same-length c = search needs
@@ -36,16 +84,34 @@ same-length c = search needs
 returns : tie.Need-returns
 unfolding recordBytes
 returns c =
-    let h = c .before .before .before .before .before .before in
-    let k = h .before .before .before .before in
-    let e = k .args .entry in
+    let q = c .before .before in
+    let n = q .before .before .before .before in
+    let f = n .before in
+    let p = f .before .before .before in
+    let k = p .before .before .before .before .before .before in
+    let e : Entry = k .args .entry in
     let s : List ℕ = now (k .args .buffer) in
-    let bs : List ℕ = body shapes (fields e) in
-    let long : 4 + length bs ≡ length (recordBytes e) = omega arith in
-    c .before .before .put-fields .ensures ∙ ap (λ (t : List ℕ). put t 4 bs) (h .put-header .ensures)
-    ∙ ap (λ (m : ℕ). put (m ∷ e .job .setting .format .w ∷ e .job .setting .format .f ∷ e .job .setting .operation ∷ drop 4 s) 4 bs) (k .pre .1)
-    ∙ put-after (mapOf (fields e)) (e .job .setting .format .w) (e .job .setting .format .f) (e .job .setting .operation) bs s
-    ∙ ap (λ (n : ℕ). recordBytes e ++ drop n s) long
+    let map : k .args .map ≡ entryMap e = k .pre .1 in
+    let bs : List ℕ = fieldBytes e in
+    q .put-numbers2 .ensures
+    ∙ ap₂ (λ (b t : List ℕ). put b headerBytes t)
+    (p .put-numbers .ensures
+    ∙ ap (λ (m : ℕ). put s 0 (numberBytes (1 ∷ 1 ∷ 1 ∷ 1 ∷ []) (m ∷ e .job .setting .format .w ∷ e .job .setting .format .f ∷ e .job .setting .operation ∷ []))) map
+    ∙ ap (put s 0) (header-bytes e (k .pre .0)))
+    (ap₂ numberBytes (f .field-sizes .ensures ∙ ap fieldSizes map) (n .entry-numbers .ensures))
+    ∙ put-put s 0 (header e) bs (omega (arith, k .pre .2)) ∙ ap (λ (n : ℕ). recordBytes e ++ drop n s) (zero-add (length (recordBytes e)))
 
 pub put-record-spec : {M : Type 1} → statement M
-put-record-spec = tie.close (tie.spec put-header-requires put-fields-requires same-length returns)
+put-record-spec =
+    tie.close
+    (tie.spec
+    slice-aggregate-put-numbers
+    slice-aggregate-put-numbers-2
+    put-numbers-requires
+    field-sizes-requires
+    entry-numbers-requires
+    slice-aggregate-put-numbers-3
+    slice-aggregate-put-numbers-4
+    put-numbers-requires-2
+    same-length
+    returns)

@@ -1,6 +1,6 @@
 -- `records::read` meets its contract: the tests stand in the order of `readCause`, the first two before the fields are read. Assumes nothing.
 use mathlib.Core.Path.{_≡_, sym, ap, ap₂, _∙_}
-use Prim.Native.Nat.{ℕ, _+_}
+use Prim.Native.Nat.{ℕ, _^_}
 use native.Mathlib.Omega.{arith}
 use mathlib.Core.List.{List}
 use lib.Arith.{le-zero}
@@ -9,12 +9,10 @@ use lib.Dec.{eqb, ltb, leb}
 use denote.Ref.{now}
 use Rattle.format.specs.Cause as cause
 use Rattle.format.specs.Cause.{first, unless}
-use Rattle.records.specs.Fields.{mapOf, bodyLength}
-use Rattle.records.specs.Record.{shapes, fields, recordCause, recordLength, entryIn, answer}
+use Rattle.records.specs.Record.{fieldCount, recordCause, entryMap, recordLength, entryIn, readReply}
 use Rattle.records.specs.declared.First.the-variants as found
-use Rattle.records.proofs.Places.{body-most}
 use Rattle.records.proofs.Causes.{first-none-left, earlyCause, first-early, first-late, early-none}
-use Rattle.records.proofs.RoundTrip.{entry-told}
+use Rattle.records.proofs.RoundTrip.{entry-default}
 use borrow.Author.Needs.{needs}
 use Rattle.records.proofs.read.Statement.{statement}
 use Rattle.records.proofs.read.Tie as tie
@@ -28,11 +26,8 @@ shared-slice-read-wide c = search needs
 wide-requires : tie.Need-wide-requires
 wide-requires c κs = search needs
 
-place-requires : tie.Need-place-requires
-place-requires c κs = search needs
-
-add-n : tie.Need-add-n
-add-n c = omega (arith, c .place .ensures, body-most (c .before .wide .result))
+record-length-requires : tie.Need-record-length-requires
+record-length-requires c κs = search needs
 
 unless-requires : tie.Need-unless-requires
 unless-requires c κs = search needs
@@ -44,9 +39,8 @@ first-requires : tie.Need-first-requires
 first-requires c κs = search needs
 
 -- the length and the early cause that were computed
-count : (c : tie.After-place) → 4 + c .place .result ≡ recordLength (getD (now (c .before .before .before .before .before .args .s)) 0 0)
-unfolding recordLength
-count c = ap (λ (n : ℕ). 4 + n) (c .place .ensures) ∙ ap (λ (m : ℕ). 4 + bodyLength shapes m) (c .before .wide .ensures)
+count : (c : tie.After-record-length) → c .record-length .result ≡ recordLength (getD (now (c .before .before .before .before .before .args .s)) 0 0)
+count c = c .record-length .ensures ∙ ap recordLength (c .before .wide .ensures)
 
 early : (c : tie.After-first) → c .first .result ≡ earlyCause (now (c .before .before .before .before .before .before .before .before .args .s))
 early c =
@@ -54,7 +48,7 @@ early c =
     let s : List ℕ = now (p .before .before .before .before .before .args .s) in
     c .first .ensures
     ∙ ap₂ first
-    (c .before .before .unless .ensures ∙ ap (λ (m : ℕ). unless (ltb m 64) cause.map) (p .before .wide .ensures))
+    (c .before .before .unless .ensures ∙ ap (λ (m : ℕ). unless (ltb m (2 ^ fieldCount)) cause.map) (p .before .wide .ensures))
     (c .before .unless2 .ensures ∙ ap (λ (n : ℕ). unless (leb n (length s)) cause.cut) (count p))
 
 -- no early cause
@@ -75,8 +69,8 @@ entry-in-requires c κs =
     let e : p .before .wide .result ≡ getD s 0 0 = p .before .wide .ensures in
     (sym e, rw e (early-none s (late c) .1))
 
-judged-requires : tie.Need-judged-requires
-judged-requires c κs = search needs
+read-reply-requires : tie.Need-read-reply-requires
+read-reply-requires c κs = search needs
 
 returns-3 : tie.Need-returns-3
 returns-3 c =
@@ -84,9 +78,9 @@ returns-3 c =
     let p = l .before .before .before .before in
     let w = p .before in
     let s : List ℕ = now (w .before .before .before .before .args .s) in
-    c .judged .ensures
-    ∙ (λ i. let e = c .before .entry-in .ensures i in answer (first (recordCause e) (unless (eqb (mapOf (fields e)) (w .wide .ensures i)) cause.default)) e (count p i))
-    ∙ ap (λ (k : ℕ). answer k (entryIn s) (recordLength (getD s 0 0))) (entry-told s (λ j. w .before .shared-slice-known2 .given j .fits) (early-none s (late l) .0))
+    c .read-reply .ensures
+    ∙ (λ i. let e = c .before .entry-in .ensures i in readReply (first (recordCause e) (unless (eqb (entryMap e) (w .wide .ensures i)) cause.default)) e (count p i))
+    ∙ ap (λ (k : ℕ). readReply k (entryIn s) (recordLength (getD s 0 0))) (entry-default s (early-none s (late l) .0))
     ∙ sym (first-late s (w .before .before .if1 .left) (late l))
 
 pub read-spec : {M : Type 1} → statement M
@@ -96,12 +90,11 @@ read-spec =
     returns
     shared-slice-read-wide
     wide-requires
-    place-requires
-    add-n
+    record-length-requires
     unless-requires
     unless-requires-2
     first-requires
     returns-2
     entry-in-requires
-    judged-requires
+    read-reply-requires
     returns-3)

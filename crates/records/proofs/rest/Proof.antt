@@ -7,7 +7,7 @@ use mathlib.Core.List.{List}
 use lib.ListN.{length, drop, length-drop}
 use lib.Seq.{take-all}
 use denote.Ref.{now}
-use Rattle.records.specs.Record.{firstIn, after, rest}
+use Rattle.records.specs.Record.{firstIn, restAfter, rest}
 use Rattle.records.specs.declared.First.{First}
 use Rattle.records.specs.declared.First.the-variants as found
 use Rattle.records.proofs.Causes.{first-job, first-end}
@@ -51,21 +51,21 @@ returns c =
     let f = c .before .before in
     let s : List ℕ = now (f .before .before .before .before .args .s) in
     let n : ℕ = f .found .given .0 .1 .0 in
-    take-all (length s - n) (drop n s) (le-of-eq (length-drop n s)) ∙ sym (ap (λ (r : First). after r s) (job f))
+    take-all (length s - n) (drop n s) (le-of-eq (length-drop n s)) ∙ sym (ap (λ (r : First). restAfter r s) (job f))
 
 returns-2 : tie.Need-returns-2
 unfolding rest
 returns-2 c =
     let s : List ℕ = now (c .before .before .before .before .args .s) in
     let refused : firstIn s ≡ found.Refused (c .enum-told .given .0 .0) = sym (c .before .before .read .ensures) ∙ c .enum-told .given .1 in
-    sym (ap (λ (r : First). after r s) refused)
+    sym (ap (λ (r : First). restAfter r s) refused)
 
 returns-3 : tie.Need-returns-3
 unfolding rest
 returns-3 c =
     let s : List ℕ = now (c .before .before .before .before .args .s) in
     let end : firstIn s ≡ found.End = sym (c .before .before .read .ensures) ∙ c .enum-told2 .given .1 in
-    first-end s end ∙ sym (ap (λ (r : First). after r s) end)
+    first-end s end ∙ sym (ap (λ (r : First). restAfter r s) end)
 
 pub rest-spec : {M : Type 1} → statement M
 rest-spec =

@@ -1,14 +1,13 @@
 -- `records::write` meets its contract: each return is one of the tests of `writeCause`, in its order. Assumes nothing.
 use mathlib.Core.Path.{_≡_, ap, _∙_}
-use Prim.Native.Nat.{ℕ, _+_}
+use Prim.Native.Nat.{ℕ}
 use native.Mathlib.Omega.{arith}
 use mathlib.Core.List.{List}
 use lib.ListN.{length}
 use denote.Ref.{now}
-use Rattle.records.specs.Fields.{bodyLength}
-use Rattle.records.specs.Record.{shapes, recordCause, recordBytes, recordLength}
+use Rattle.records.specs.Layout.{mapOf}
+use Rattle.records.specs.Record.{wordBytes, layout, entryMap, recordCause, recordBytes, recordLength}
 use Rattle.records.specs.declared.Writing.the-variants as reply
-use Rattle.records.proofs.Places.{body-most}
 use Rattle.records.proofs.Causes.{record-length}
 use Rattle.records.proofs.Replies.{write-refused, write-short, write-whole}
 use borrow.Author.Needs.{needs}
@@ -27,36 +26,38 @@ returns c =
     let both = write-refused e s (λ q. omega (arith, it, c .if1 .taken)) in
     (ap reply.Refused it ∙ both .0, both .1)
 
+entry-numbers-requires : tie.Need-entry-numbers-requires
+entry-numbers-requires c κs = search needs
+
 map-of-requires : tie.Need-map-of-requires
 map-of-requires c κs = search needs
 
-place-requires : tie.Need-place-requires
-place-requires c κs = search needs
-
-add-n : tie.Need-add-n
-add-n c = omega (arith, c .place .ensures, body-most (c .before .map-of .result))
+record-length-requires : tie.Need-record-length-requires
+record-length-requires c κs = search needs
 
 -- no cause stands, and the length that was computed is the record's
 sound : (c : tie.Else1) → recordCause (c .before .before .before .args .entry) ≡ 0
 sound c = omega (arith, c .before .entry-cause .ensures, c .if1 .left)
 
-count : (c : tie.After-place) → 4 + c .place .result ≡ length (recordBytes (c .before .before .before .before .before .args .entry))
-unfolding recordLength
+map : (c : tie.After-map-of) → c .map-of .result ≡ entryMap (c .before .before .before .before .before .args .entry)
+map c = c .map-of .ensures ∙ ap (mapOf (layout wordBytes)) (c .before .entry-numbers .ensures)
+
+count : (c : tie.After-record-length) → c .record-length .result ≡ length (recordBytes (c .before .before .before .before .before .before .args .entry))
 count c =
-    let e = c .before .before .before .before .before .args .entry in
-    ap (λ (n : ℕ). 4 + n) (c .place .ensures) ∙ ap (λ (m : ℕ). 4 + bodyLength shapes m) (c .before .map-of .ensures) ∙ record-length e (sound (c .before .before))
+    let e = c .before .before .before .before .before .before .args .entry in
+    c .record-length .ensures ∙ ap recordLength (map (c .before)) ∙ record-length e (sound (c .before .before .before))
 
 returns-2 : tie.Need-returns-2
 returns-2 c =
-    let k = c .before .before .before .before .before .before in
+    let k = c .before .before .before .before .before .before .before in
     let e = k .args .entry in
     let s : List ℕ = now (k .args .buffer) in
-    write-short e s (sound (c .before .before .before)) (omega (arith, count (c .before), c .if2 .taken))
+    write-short e s (sound (c .before .before .before .before)) (omega (arith, count (c .before), c .if2 .taken))
 
 put-record-requires : tie.Need-put-record-requires
 put-record-requires c κs =
     let p = c .before .before in
-    (sound (p .before .before), p .before .map-of .ensures, omega (arith, count p, c .before .if2 .left))
+    (sound (p .before .before .before), map (p .before), omega (arith, count p, c .before .if2 .left))
 
 same-length : tie.Need-same-length
 same-length c = search needs
@@ -65,10 +66,10 @@ returns-3 : tie.Need-returns-3
 returns-3 c =
     let t = c .before .before in
     let p = t .before .before .before in
-    let k = p .before .before .before .before .before in
+    let k = p .before .before .before .before .before .before in
     let e = k .args .entry in
     let s : List ℕ = now (k .args .buffer) in
-    let both = write-whole e s (sound (p .before .before)) (omega (arith, count p, t .before .before .if2 .left)) in
+    let both = write-whole e s (sound (p .before .before .before)) (omega (arith, count p, t .before .before .if2 .left)) in
     (ap reply.Written (count p) ∙ both .0, t .put-record .ensures ∙ both .1)
 
 pub write-spec : {M : Type 1} → statement M
@@ -77,9 +78,9 @@ write-spec =
     (tie.spec
     entry-cause-requires
     returns
+    entry-numbers-requires
     map-of-requires
-    place-requires
-    add-n
+    record-length-requires
     returns-2
     put-record-requires
     same-length

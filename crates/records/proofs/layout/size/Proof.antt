@@ -1,0 +1,27 @@
+-- `records::layout::size` meets its contract. Assumes nothing.
+use mathlib.Core.Path.{_≡_, sym, ap, _∙_}
+use Prim.Native.Nat.{ℕ, _*_}
+use native.Mathlib.Nat.{zero-mul, one-mul}
+use native.Mathlib.Omega.{arith}
+use Rattle.bits.specs.Bit.{bit}
+use Rattle.bits.proofs.Laws.{bit-lt}
+use borrow.Author.Needs.{needs}
+use Rattle.records.proofs.layout.size.Statement.{statement}
+use Rattle.records.proofs.layout.size.Tie as tie
+
+bit-at-requires : tie.Need-bit-at-requires
+bit-at-requires c κs = search needs
+
+returns : tie.Need-returns
+returns c =
+    let a = c .before .before .args in
+    sym (ap (λ (b : ℕ). b * a .slot .bytes) (sym (c .before .bit-at .ensures) ∙ c .if1 .taken) ∙ zero-mul (a .slot .bytes))
+
+returns-2 : tie.Need-returns-2
+returns-2 c =
+    let a = c .before .before .args in
+    let one : bit (a .map) (a .slot .field) ≡ 1 = omega (arith, bit-lt (a .map) (a .slot .field), c .before .bit-at .ensures, c .if1 .left) in
+    sym (ap (λ (b : ℕ). b * a .slot .bytes) one ∙ one-mul (a .slot .bytes))
+
+pub size-spec : {M : Type 1} → statement M
+size-spec = tie.close (tie.spec bit-at-requires returns returns-2)
