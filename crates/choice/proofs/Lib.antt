@@ -1,5 +1,6 @@
 pub mod Closest
 pub mod Narrow
 pub mod Pair
+pub mod Existence
 pub mod Fixing
 pub mod Walk

@@ -1,3 +1,4 @@
 pub mod Taken
 pub mod Replies
+pub mod Existence
 pub mod Demand

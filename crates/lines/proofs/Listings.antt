@@ -3,11 +3,11 @@
 use mathlib.Core.Path.{_≡_, refl, sym, ap, ap₂, _∙_, subst}
 use mathlib.Core.Bool.{Bool, true, false, not, cond, false≢true}
 use mathlib.Core.Logic.{inl, inr}
-use Prim.Native.Nat.{ℕ, zero, suc, _+_, _-_, _*_, _≤_, _<_}
+use Prim.Native.Nat.{ℕ, _+_, _-_, _*_, _≤_, _<_}
 use native.Mathlib.Omega.{arith}
 use borrow.Author.Tests.{eq-eqb}
-use mathlib.Core.List.{List, [], _∷_, _++_}
-use lib.ListN.{length, getD, drop, length-drop}
+use mathlib.Core.List.{List, _++_}
+use lib.ListN.{length, drop, length-drop}
 use lib.Seq.{drop-drop}
 use Rattle.format.specs.Cause as cause
 use Rattle.job.specs.declared.Job.{Job}
@@ -15,7 +15,6 @@ use Rattle.job.specs.Job.{requestCause}
 use Rattle.records.specs.Record.{firstIn, recordCause, recordLength}
 use Rattle.records.specs.File.{fileBytes, Reads, end as no-byte, next as record-first, Writable}
 use Rattle.records.specs.declared.Entry.{Entry}
-use Rattle.records.specs.declared.First.{First}
 use Rattle.records.specs.declared.First.the-variants as found
 use Rattle.records.proofs.Causes.{first-job, first-none-left}
 use Rattle.records.proofs.Files.{file-read}
@@ -23,8 +22,8 @@ use Rattle.generator.specs.Promise.{Replied}
 use Rattle.generator.specs.declared.Reply.{Reply}
 use Rattle.generator.specs.declared.Reply.the-variants.{Found, Refused}
 use Rattle.generator.proofs.Replies.{reply-unique}
-use Rattle.lines.specs.Text.{replyLine, refusedLine, endLine}
-use Rattle.lines.specs.Listing.{longest, stops, Open, Ended, Lists, long, end, refused, answered, Listed, last, more, start, Listing, Lines, none, next}
+use Rattle.lines.specs.Text.{replyLine, refusedLine}
+use Rattle.lines.specs.Listing.{longest, stops, Open, Ended, Lists, long, end, refused, answered, Listed, last, more, Listing, Lines, none, next}
 use Rattle.lines.specs.declared.Place.{Place}
 use Rattle.lines.specs.declared.Then.{Then}
 use Rattle.lines.specs.declared.Then.the-variants.{On, Done}

@@ -1,4 +1,4 @@
-// Listings of small files: document 01's, and one for each way in which a listing can go.
+// Listings of small files, one for each way in which a listing can go. Document 01's own file is the input of program `listing`.
 use libc::STDOUT_FILENO;
 use print::print_listing;
 

@@ -1,5 +1,6 @@
 // A reader of a job file that carries the lent bytes along, with the offset of the next record. `drawn_at` does the work on a plain slice;
-// the functions over the reader take it apart and call that one; `draw` stands above them and has plain parameters.
+// `next` takes the reader apart and calls that one; `draw` stands above, has plain parameters, and makes a reader for one draw: whoever
+// goes on keeps the offset that it hands back.
 use records::First;
 use records::read;
 ghost use mathlib.Core.Path.{_≡_};
@@ -50,13 +51,6 @@ pub fn next<'a>(r: Reader<'a>) -> Drawn
     ensures { λ d. ⌜ d ≡ drawnAt (now (r .entry .file)) (r .entry .at) ⌝ }
 {
     drawn_at(r.file, r.at)
-}
-
-// The reader at another offset of its file.
-pub fn moved<'a>(r: Reader<'a>, at: usize) -> Reader<'a>
-    ensures { λ q. ⌜ (q .file ≡ r .entry .file) × (q .at ≡ at) ⌝ }
-{
-    Reader { file: r.file, at }
 }
 
 // What a reader of the file at this offset draws.

@@ -15,7 +15,6 @@ use Rattle.columns.proofs.Carry.{carries-bit, carries-lt}
 use Rattle.choice.proofs.Closest.{farther}
 use Rattle.choice.specs.Walk.{Has}
 use Rattle.whole.specs.declared.Masks.{Masks}
-use Rattle.whole.specs.declared.Words.{Words}
 use Rattle.whole.specs.declared.Case.{Case}
 use Rattle.whole.specs.declared.Role.{Role}
 use Rattle.whole.specs.declared.Role.the-variants.{X, Y, Z}
@@ -38,8 +37,8 @@ module _ (n : ℕ) (c : Case) (a : Adds n c) (least : 1 ≤ n) where
           let even : 2 ^ suc m * b ≡ 2 ^ m * b * 2 = ap (λ (u : ℕ). u * b) (pow-suc 2 m) ∙ mul-right-comm (2 ^ m) 2 b in
           omega (arith, bit-lt (c .carries) 0)
 
-  pub adds-told : c ≡ caseOf (c .x) (c .y) (c .z)
-  adds-told =
+  pub adds-case : c ≡ caseOf (c .x) (c .y) (c .z)
+  adds-case =
       let c0 = (c .x + c .y + c .z) % 2 in
       let h : c0 < 2 = omega arith in
       let w = bitXor (bitXor (c .x) (c .y)) (c .x + c .y + c0) in
@@ -53,10 +52,10 @@ module _ (n : ℕ) (c : Case) (a : Adds n c) (least : 1 ≤ n) where
 -- two cases with the same numbers are the same
 pub same-case : (n : ℕ) (c d : Case) → 1 ≤ n → Adds n c → Adds n d → d .x ≡ c .x → d .y ≡ c .y → d .z ≡ c .z → d ≡ c
 same-case n c d least added-c added-d ex ey ez =
-    adds-told n d added-d least
+    adds-case n d added-d least
     ∙ ap₂ (λ (x y : ℕ). caseOf x y (d .z)) ex ey
     ∙ ap (λ (z : ℕ). caseOf (c .x) (c .y) z) ez
-    ∙ sym (adds-told n c added-c least)
+    ∙ sym (adds-case n c added-c least)
 
 -- ---- three walks
 
@@ -65,8 +64,8 @@ nearest : (n : ℕ) (s : Masks) (role : Role) (word v : ℕ) → Closest (Has Ca
     → (number role d ≡ v) ⊎ (bitXor v word < bitXor (number role d) word)
 nearest n s role word v q d f = q .least (number role d) (record { case = d; fits = f; is = refl })
 
-module _ (n : ℕ) (s : Masks) (w : Words) (least : 1 ≤ n) (sx sy sz : Masks) (qx : Settled n s X (w .x) sx) (qy : Settled n sx Y (w .y) sy)
-    (qz : Settled n sy Z (w .z) sz) where
+module _ (n : ℕ) (s : Masks) {rx ry rz : ℕ} (least : 1 ≤ n) (sx sy sz : Masks) (qx : Settled n s X rx sx) (qy : Settled n sx Y ry sy)
+    (qz : Settled n sy Z rz sz) where
   -- what the walks have settled
   abbrev pub chosen : Case
   chosen = caseOf (sx .x .value) (sy .y .value) (sz .z .value)
@@ -87,7 +86,7 @@ module _ (n : ℕ) (s : Masks) (w : Words) (least : 1 ≤ n) (sx sy sz : Masks) 
 
   is-last : chosen ≡ last
   is-last =
-      sym (adds-told n last (last-x .0 .adds) least ∙ ap₂ (λ (x y : ℕ). caseOf x y (last .z)) (last-x .1) (last-y .1) ∙ ap (λ (z : ℕ). caseOf (sx .x .value) (sy .y .value) z) (last-z .1))
+      sym (adds-case n last (last-x .0 .adds) least ∙ ap₂ (λ (x y : ℕ). caseOf x y (last .z)) (last-x .1) (last-y .1) ∙ ap (λ (z : ℕ). caseOf (sx .x .value) (sy .y .value) z) (last-z .1))
 
   chosen-fits : Fits n s chosen
   chosen-fits = subst (Fits n s) (sym is-last) (last-x .0)
@@ -96,17 +95,17 @@ module _ (n : ℕ) (s : Masks) (w : Words) (least : 1 ≤ n) (sx sy sz : Masks) 
   pub chosen-lt : (sx .x .value < 2 ^ n) × (sy .y .value < 2 ^ n) × (sz .z .value < 2 ^ n)
   chosen-lt = (chosen-fits .adds .x-lt, chosen-fits .adds .y-lt, chosen-fits .adds .z-lt)
 
-  pub walks-choose : Chosen n s w chosen
+  pub walks-choose : Chosen n s (record { x = rx; y = ry; z = rz }) chosen
   walks-choose = record { fits = chosen-fits; least = later }
     where
       later : (d : Case) → Fits n s d
-          → Farther (w .x) (sx .x .value) (d .x) (Farther (w .y) (sy .y .value) (d .y) (Farther (w .z) (sz .z .value) (d .z) (d ≡ chosen)))
+          → Farther rx (sx .x .value) (d .x) (Farther ry (sy .y .value) (d .y) (Farther rz (sz .z .value) (d .z) (d ≡ chosen)))
       later d f =
-          farther (w .x) (sx .x .value) (d .x) (nearest n s X (w .x) (sx .x .value) (qx .settles .closest) d f)
+          farther rx (sx .x .value) (d .x) (nearest n s X rx (sx .x .value) (qx .settles .closest) d f)
           (λ ex.
           let g = qx .settles .same d .1 (f, ex) in
-          farther (w .y) (sy .y .value) (d .y) (nearest n sx Y (w .y) (sy .y .value) (qy .settles .closest) d g)
+          farther ry (sy .y .value) (d .y) (nearest n sx Y ry (sy .y .value) (qy .settles .closest) d g)
           (λ ey.
           let h = qy .settles .same d .1 (g, ey) in
-          farther (w .z) (sz .z .value) (d .z) (nearest n sy Z (w .z) (sz .z .value) (qz .settles .closest) d h)
+          farther rz (sz .z .value) (d .z) (nearest n sy Z rz (sz .z .value) (qz .settles .closest) d h)
           (λ ez. same-case n chosen d least (chosen-fits .adds) (f .adds) ex ey ez)))

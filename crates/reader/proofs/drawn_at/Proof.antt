@@ -23,11 +23,11 @@ drawn : (s : List ℕ) (at : ℕ) (x : First) → x ≡ firstIn (drop at s) → 
 drawn s at x q = ap (λ (y : First). record { first = y; next = at + taken y }) q
 
 -- what takes no byte
-told : (s : List ℕ) (at : ℕ) (x : First) → x ≡ firstIn (drop at s) → taken x ≡ 0 → record { first = x; next = at } ≡ drawnAt s at
-told s at x q none = ap (λ (n : ℕ). record { first = x; next = n }) (let z : at ≡ at + taken x = omega (arith, none) in z) ∙ drawn s at x q
+drawn-none : (s : List ℕ) (at : ℕ) (x : First) → x ≡ firstIn (drop at s) → taken x ≡ 0 → record { first = x; next = at } ≡ drawnAt s at
+drawn-none s at x q none = ap (λ (n : ℕ). record { first = x; next = n }) (let z : at ≡ at + taken x = omega (arith, none) in z) ∙ drawn s at x q
 
 drawn-end : (s : List ℕ) (at : ℕ) → length (drop at s) ≡ 0 → record { first = found.End; next = at } ≡ drawnAt s at
-drawn-end s at none = told s at found.End (sym (first-none-left (drop at s) none)) refl
+drawn-end s at none = drawn-none s at found.End (sym (first-none-left (drop at s) none)) refl
 
 -- past the last byte nothing is left
 returns : tie.Need-returns
@@ -86,13 +86,13 @@ returns-3 : tie.Need-returns-3
 returns-3 c =
     let r = c .before .before in
     let a = r .before .before .before .before .args in
-    told (now (a .file)) (a .at) (r .read .result) (stands r) (ap taken (c .enum-told .given .1))
+    drawn-none (now (a .file)) (a .at) (r .read .result) (stands r) (ap taken (c .enum-told .given .1))
 
 returns-4 : tie.Need-returns-4
 returns-4 c =
     let r = c .before .before in
     let a = r .before .before .before .before .args in
-    told (now (a .file)) (a .at) (r .read .result) (stands r) (ap taken (c .enum-told2 .given .1))
+    drawn-none (now (a .file)) (a .at) (r .read .result) (stands r) (ap taken (c .enum-told2 .given .1))
 
 pub drawn-at-spec : {M : Type 1} → statement M
 drawn-at-spec =

@@ -24,7 +24,7 @@ case-of-requires c κs =
     let st = z .before .before .before in
     let a = st .args in
     let wide : 2 ^ a .length ≤ 2 ^ 32 = pow-mono {i = a .length} {j = 32} (st .pre .most) in
-    let small = chosen-lt (a .length) (a .masks) (a .words) (st .pre .least) (z .before .before .settle .result) (z .before .settle2 .result) (z .settle3 .result) (z .before .before .settle .ensures) (z .before .settle2 .ensures) (z .settle3 .ensures) in
+    let small = chosen-lt (a .length) (a .masks) (st .pre .least) (z .before .before .settle .result) (z .before .settle2 .result) (z .settle3 .result) (z .before .before .settle .ensures) (z .before .settle2 .ensures) (z .settle3 .ensures) in
     (lt-of-lt-of-le (small .0) wide, lt-of-lt-of-le (small .1) wide, lt-of-lt-of-le (small .2) wide)
 
 returns : tie.Need-returns
@@ -33,7 +33,7 @@ returns c =
     let st = z .before .before .before in
     let a = st .args in
     subst (Chosen (a .length) (a .masks) (a .words)) (sym (c .case-of .ensures))
-    (walks-choose (a .length) (a .masks) (a .words) (st .pre .least) (z .before .before .settle .result) (z .before .settle2 .result) (z .settle3 .result) (z .before .before .settle .ensures) (z .before .settle2 .ensures) (z .settle3 .ensures))
+    (walks-choose (a .length) (a .masks) (st .pre .least) (z .before .before .settle .result) (z .before .settle2 .result) (z .settle3 .result) (z .before .before .settle .ensures) (z .before .settle2 .ensures) (z .settle3 .ensures))
 
 pub choose-spec : {M : Type 1} → statement M
 choose-spec =

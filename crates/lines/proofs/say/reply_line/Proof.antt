@@ -21,9 +21,9 @@ none-line-requires c κs = search needs
 
 returns : tie.Need-returns
 returns c =
-    let told = c .before .before .before in
-    let n : ℕ = told .before .before .args .n in
-    subst (Says (c .none-line .result)) (sym (ap (replyLine n) (told .reply2 .given .1) ∙ reply-none n (told .reply2 .given .0 .0) (c .before .if1 .taken))) (c .none-line .ensures)
+    let arm = c .before .before .before in
+    let n : ℕ = arm .before .before .args .n in
+    subst (Says (c .none-line .result)) (sym (ap (replyLine n) (arm .reply2 .given .1) ∙ reply-none n (arm .reply2 .given .0 .0) (c .before .if1 .taken))) (c .none-line .ensures)
 
 refused-line-requires : tie.Need-refused-line-requires
 refused-line-requires c κs = search needs
@@ -31,15 +31,15 @@ refused-line-requires c κs = search needs
 returns-2 : tie.Need-returns-2
 unfolding replyLine
 returns-2 c =
-    let told = c .before .before in
-    let n : ℕ = told .before .before .args .n in
-    subst (Says (c .found-line .result)) (sym (ap (replyLine n) (told .reply .given .1))) (c .found-line .ensures)
+    let arm = c .before .before in
+    let n : ℕ = arm .before .before .args .n in
+    subst (Says (c .found-line .result)) (sym (ap (replyLine n) (arm .reply .given .1))) (c .found-line .ensures)
 
 returns-3 : tie.Need-returns-3
 returns-3 c =
-    let told = c .before .before .before in
-    let n : ℕ = told .before .before .args .n in
-    subst (Says (c .refused-line .result)) (sym (ap (replyLine n) (told .reply2 .given .1) ∙ reply-refused n (told .reply2 .given .0 .0) (c .before .if1 .left))) (c .refused-line .ensures)
+    let arm = c .before .before .before in
+    let n : ℕ = arm .before .before .args .n in
+    subst (Says (c .refused-line .result)) (sym (ap (replyLine n) (arm .reply2 .given .1) ∙ reply-refused n (arm .reply2 .given .0 .0) (c .before .if1 .left))) (c .refused-line .ensures)
 
 pub reply-line-spec : {M : Type 1} → statement M
 reply-line-spec =
