@@ -1,4 +1,5 @@
 // Rounding a magnitude to a format: directions, significands aligned with a sticky bit, and the rounded word.
+pub mod addend;
 pub mod alignment;
 pub mod mode;
 pub mod round;

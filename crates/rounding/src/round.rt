@@ -1,8 +1,10 @@
 // Rounding a magnitude to a format.
 use crate::Direction;
+use crate::addend::carry;
+use crate::addend::constant;
 use crate::mode::direction;
+use bits::bit_at;
 use bits::high;
-use bits::low;
 use bits::power;
 use format::Format;
 use format::format_cause;
@@ -15,36 +17,16 @@ ghost use mathlib.Core.Path.{_≡_};
 ghost use Prim.Native.Nat.{ℕ, _+_, _-_, _*_, _^_, _≤_, _<_};
 ghost use lib.Ieee.{size};
 ghost use Rattle.format.specs.Format.{Supported};
-ghost use Rattle.rounding.specs.Rounding.{increment, roundOff, magnitudeWord, overflowWord, rounded};
+ghost use Rattle.rounding.specs.Rounding.{roundOff, magnitudeWord, overflowWord, rounded};
 ghost use Rattle.rounding.specs.Sticky.{Held, Roundable, keptPart};
-
-// 1 where the kept part goes to the next number up, else 0.
-fn increment(direction: Direction, kept: u64, rest: u64, unit: u64) -> u64
-    requires { ⌜ rest < 2 ^ 63 ⌝ }
-    ensures { λ r. ⌜ r ≡ increment direction kept rest unit ⌝ }
-{
-    match direction {
-        Direction::Nearest => {
-            if unit < 2 * rest {
-                1
-            } else if 2 * rest == unit {
-                kept % 2
-            } else {
-                0
-            }
-        }
-        Direction::TowardZero => 0,
-        Direction::Away => { if rest == 0 { 0 } else { 1 } }
-    }
-}
 
 // x with its low k bits rounded off.
 fn round_off(direction: Direction, x: u64, k: u64) -> u64
-    requires { ⌜ (x < 2 ^ 63) × (k < 64) ⌝ }
+    requires { ⌜ (x < 2 ^ 62) × (k < 62) ⌝ }
     ensures { λ r. ⌜ r ≡ roundOff direction x k ⌝ }
 {
-    let kept = high(x, k);
-    kept + increment(direction, kept, low(x, k), power(k))
+    let last = bit_at(x, k);
+    high(x + constant(direction, k) + carry(direction, k, last), k)
 }
 
 // The number of binary digits of x.
