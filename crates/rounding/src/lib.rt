@@ -3,6 +3,7 @@ pub mod addend;
 pub mod alignment;
 pub mod mode;
 pub mod round;
+pub mod width;
 
 // Which neighbour a magnitude is rounded to.
 pub enum Direction {
