@@ -39,7 +39,7 @@ fn ordered_sum(format: Format, mode: u64, l: Finite, r: Finite) -> u64
 {
     let u = unit_of(l.exponent);
     let v = unit_of(r.exponent);
-    let head = 8 * l.significand;
+    let head = aligned(l.significand, 0);
     let tail = aligned(r.significand, u.0 - v.0);
     if l.sign == r.sign {
         rounded(format, mode, l.sign, head + tail, u)
