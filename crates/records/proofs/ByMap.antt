@@ -26,11 +26,11 @@ use Rattle.records.proofs.BySizes.{Fits, none, more, drop-one, place-on
 -- ---- the columns of a layout
 abbrev pub counts : List Slot → List ℕ
 counts [] = []
-counts (p ∷ ps) = p .bytes ∷ counts ps
+counts (p ∷ ps) = p .size ∷ counts ps
 
 abbrev pub mapBits : List Slot → List ℕ
 mapBits [] = []
-mapBits (p ∷ ps) = p .field ∷ mapBits ps
+mapBits (p ∷ ps) = p .bit ∷ mapBits ps
 
 -- every element is below n, as a test that is computed
 abbrev pub allBelow : ℕ → List ℕ → Bool
@@ -40,46 +40,46 @@ allBelow n (x ∷ xs) = ltb x n && allBelow n xs
 below-cons : (n x : ℕ) (xs : List ℕ) → allBelow n (x ∷ xs) ≡ true → (x < n) × (allBelow n xs ≡ true)
 below-cons n x xs t = let both = and-eq-true-iff (ltb x n) (allBelow n xs) .0 t in (ltb-true x n (both .0), both .1)
 
-pub field-below : (c : ℕ) (ps : List Slot) (d : Slot) → allBelow c (mapBits ps) ≡ true → d .field < c → (i : ℕ) → getD ps i d .field < c
+pub field-below : (c : ℕ) (ps : List Slot) (d : Slot) → allBelow c (mapBits ps) ≡ true → d .bit < c → (i : ℕ) → getD ps i d .bit < c
 field-below c [] d t h i = h
-field-below c (p ∷ ps) d t h zero = below-cons c (p .field) (mapBits ps) t .0
-field-below c (p ∷ ps) d t h (suc i) = field-below c ps d (below-cons c (p .field) (mapBits ps) t .1) h i
+field-below c (p ∷ ps) d t h zero = below-cons c (p .bit) (mapBits ps) t .0
+field-below c (p ∷ ps) d t h (suc i) = field-below c ps d (below-cons c (p .bit) (mapBits ps) t .1) h i
 
 -- a number has no more bytes than its byte count
 pub sizes-below : (n : ℕ) (ps : List Slot) (m : ℕ) → allBelow n (counts ps) ≡ true → 0 < n → (i : ℕ) → getD (sizes ps m) i 0 < n
 unfolding sizes
 sizes-below n [] m t h i = omega arith
 sizes-below n (p ∷ ps) m t h zero =
-    bit-case m (p .field) (λ e. rw (e, zero-mul (p .bytes)) h) (λ e. rw (e, one-mul (p .bytes)) (below-cons n (p .bytes) (counts ps) t .0))
-sizes-below n (p ∷ ps) m t h (suc i) = sizes-below n ps m (below-cons n (p .bytes) (counts ps) t .1) h i
+    bit-case m (p .bit) (λ e. rw (e, zero-mul (p .size)) h) (λ e. rw (e, one-mul (p .size)) (below-cons n (p .size) (counts ps) t .0))
+sizes-below n (p ∷ ps) m t h (suc i) = sizes-below n ps m (below-cons n (p .size) (counts ps) t .1) h i
 
 pub sizes-most : (ps : List Slot) (m : ℕ) → total (sizes ps m) ≤ total (counts ps)
 unfolding sizes total
 sizes-most [] m = omega arith
 sizes-most (p ∷ ps) m =
-    bit-case m (p .field)
-    (λ e. rw (e, zero-mul (p .bytes)) (omega (arith, sizes-most ps m)))
-    (λ e. rw (e, one-mul (p .bytes)) (omega (arith, sizes-most ps m)))
+    bit-case m (p .bit)
+    (λ e. rw (e, zero-mul (p .size)) (omega (arith, sizes-most ps m)))
+    (λ e. rw (e, one-mul (p .size)) (omega (arith, sizes-most ps m)))
 
 -- ---- turns of the loops over a layout
 module _ (ps : List Slot) (i : ℕ) (d : Slot) (h : i < length ps) where
   pub sizes-turn : (m : ℕ) (l : List ℕ) → i < length l
-      → take (i + 1) (set l i (bit m (getD ps i d .field) * getD ps i d .bytes)) ++ sizes (drop (i + 1) ps) m ≡ take i l ++ sizes (drop i ps) m
+      → take (i + 1) (set l i (bit m (getD ps i d .bit) * getD ps i d .size)) ++ sizes (drop (i + 1) ps) m ≡ take i l ++ sizes (drop i ps) m
   unfolding sizes
   sizes-turn m l g =
-      place-one l (sizes (drop (i + 1) ps) m) i (bit m (getD ps i d .field) * getD ps i d .bytes) g
+      place-one l (sizes (drop (i + 1) ps) m) i (bit m (getD ps i d .bit) * getD ps i d .size) g
       ∙ ap (λ (qs : List Slot). take i l ++ sizes qs m) (sym (drop-one ps i d h))
 
   module _ (ns : List ℕ) (g : i < length ns) where
     map-turn : mapOf (drop i ps) (drop i ns)
-        ≡ cond (eqb (getD ns i 0) 0) (mapOf (drop (i + 1) ps) (drop (i + 1) ns)) (bitOr (mapOf (drop (i + 1) ps) (drop (i + 1) ns)) (2 ^ getD ps i d .field))
+        ≡ cond (eqb (getD ns i 0) 0) (mapOf (drop (i + 1) ps) (drop (i + 1) ns)) (bitOr (mapOf (drop (i + 1) ps) (drop (i + 1) ns)) (2 ^ getD ps i d .bit))
     unfolding mapOf
     map-turn = ap₂ mapOf (drop-one ps i d h) (drop-one ns i 0 g)
 
     pub map-same : getD ns i 0 ≡ 0 → mapOf (drop (i + 1) ps) (drop (i + 1) ns) ≡ mapOf (drop i ps) (drop i ns)
     map-same e = sym (map-turn ∙ rw (eq-eqb (getD ns i 0) 0 e))
 
-    pub map-set : (getD ns i 0 ≡ 0 → ⊥) → bitOr (mapOf (drop (i + 1) ps) (drop (i + 1) ns)) (2 ^ getD ps i d .field) ≡ mapOf (drop i ps) (drop i ns)
+    pub map-set : (getD ns i 0 ≡ 0 → ⊥) → bitOr (mapOf (drop (i + 1) ps) (drop (i + 1) ns)) (2 ^ getD ps i d .bit) ≡ mapOf (drop i ps) (drop i ns)
     map-set e = sym (map-turn ∙ rw (ne-eqb (getD ns i 0) 0 e))
 
 -- ---- the bits of the map
@@ -112,15 +112,15 @@ unfolding mapOf isDefault
 map-bit i [] ns = bit-zero i
 map-bit i (p ∷ ps) [] = bit-zero i
 map-bit i (p ∷ ps) (n ∷ ns) =
-    bit-more (eqb n 0) (eqb (p .field) i) (isDefault i ps ns) (mapOf ps ns) (p .field) i refl (map-bit i ps ns)
+    bit-more (eqb n 0) (eqb (p .bit) i) (isDefault i ps ns) (mapOf ps ns) (p .bit) i refl (map-bit i ps ns)
 
 pub map-lt : (c : ℕ) (ps : List Slot) (ns : List ℕ) → allBelow c (mapBits ps) ≡ true → mapOf ps ns < 2 ^ c
 unfolding mapOf
 map-lt c [] ns t = pow-pos c
 map-lt c (p ∷ ps) [] t = pow-pos c
 map-lt c (p ∷ ps) (n ∷ ns) t =
-    let both = below-cons c (p .field) (mapBits ps) t in
-    either (eqb n 0) (map-lt c ps ns (both .1)) (or-lt c (mapOf ps ns) (2 ^ p .field) (map-lt c ps ns (both .1)) (pow-lt (both .0)))
+    let both = below-cons c (p .bit) (mapBits ps) t in
+    either (eqb n 0) (map-lt c ps ns (both .1)) (or-lt c (mapOf ps ns) (2 ^ p .bit) (map-lt c ps ns (both .1)) (pow-lt (both .0)))
   where
     either : (z : Bool) {x y : ℕ} → x < 2 ^ c → y < 2 ^ c → cond z x y < 2 ^ c
     either true h g = h
@@ -130,11 +130,11 @@ map-lt c (p ∷ ps) (n ∷ ns) t =
 
 -- what the test says of the first number, where it belongs to field i, and of the others
 default-cons : (i n : ℕ) (p : Slot) (ps : List Slot) (ns : List ℕ) → isDefault i (p ∷ ps) (n ∷ ns) ≡ true
-    → (p .field ≡ i → n ≡ 0) × (isDefault i ps ns ≡ true)
+    → (p .bit ≡ i → n ≡ 0) × (isDefault i ps ns ≡ true)
 unfolding isDefault
 default-cons i n p ps ns t =
-    let both = and-eq-true-iff (not (eqb (p .field) i) || eqb n 0) (isDefault i ps ns) .0 t in
-    (λ e. eqb-true n 0 (rw (eq-eqb (p .field) i e) at (both .0)), both .1)
+    let both = and-eq-true-iff (not (eqb (p .bit) i) || eqb n 0) (isDefault i ps ns) .0 t in
+    (λ e. eqb-true n 0 (rw (eq-eqb (p .bit) i e) at (both .0)), both .1)
 
 -- every field whose bit does not stand in the map m says its default
 abbrev pub Absent : ℕ → List Slot → List ℕ → Type 0
@@ -145,13 +145,13 @@ pub read-absent : (m : ℕ) (ps : List Slot) (s : List ℕ) → Absent m ps (num
 unfolding isDefault sizes numbers number
 read-absent m [] s i e = refl
 read-absent m (p ∷ ps) s i e =
-    let k : ℕ = bit m (p .field) * p .bytes in
-    and-eq-true-iff (not (eqb (p .field) i) || eqb (number (take k s)) 0) (isDefault i ps (numbers (sizes ps m) (drop k s))) .1
-    (go (eqb (p .field) i) refl, read-absent m ps (drop k s) i e)
+    let k : ℕ = bit m (p .bit) * p .size in
+    and-eq-true-iff (not (eqb (p .bit) i) || eqb (number (take k s)) 0) (isDefault i ps (numbers (sizes ps m) (drop k s))) .1
+    (go (eqb (p .bit) i) refl, read-absent m ps (drop k s) i e)
   where
-    go : (t : Bool) → eqb (p .field) i ≡ t → not t || eqb (number (take (bit m (p .field) * p .bytes) s)) 0 ≡ true
+    go : (t : Bool) → eqb (p .bit) i ≡ t → not t || eqb (number (take (bit m (p .bit) * p .size) s)) 0 ≡ true
     go false q = refl
-    go true q = rw (eqb-true (p .field) i q, e, zero-mul (p .bytes))
+    go true q = rw (eqb-true (p .bit) i q, e, zero-mul (p .size))
 
 -- and of numbers with their own map
 pub map-absent : (ps : List Slot) (ns : List ℕ) → Absent (mapOf ps ns) ps ns
@@ -166,10 +166,10 @@ pub fits-map : (m : ℕ) (ps : List Slot) (ns : List ℕ) → Fits (counts ps) n
 unfolding sizes
 fits-map m [] [] none absent = none
 fits-map m (p ∷ ps) (n ∷ ns) (more h f) absent =
-    more {k = bit m (p .field) * p .bytes} {n = n}
-    (bit-case m (p .field)
-    (λ e. rw (e, zero-mul (p .bytes), default-cons (p .field) n p ps ns (absent (p .field) e) .0 refl) (omega arith))
-    (λ e. rw (e, one-mul (p .bytes)) h))
+    more {k = bit m (p .bit) * p .size} {n = n}
+    (bit-case m (p .bit)
+    (λ e. rw (e, zero-mul (p .size), default-cons (p .bit) n p ps ns (absent (p .bit) e) .0 refl) (omega arith))
+    (λ e. rw (e, one-mul (p .size)) h))
     (fits-map m ps ns f (λ i e. default-cons i n p ps ns (absent i e) .1))
 
 -- ---- the test for defaults

@@ -12,19 +12,19 @@ use Rattle.records.specs.declared.layout.Slot.{Slot}
 -- the byte count of each number in a record with the map m
 unfoldable pub sizes : List Slot → ℕ → List ℕ
 sizes [] m = []
-sizes (p ∷ ps) m = bit m (p .field) * p .bytes ∷ sizes ps m
+sizes (p ∷ ps) m = bit m (p .bit) * p .size ∷ sizes ps m
 
 -- the map of numbers: each that is not 0 sets the bit of its field
 unfoldable pub mapOf : List Slot → List ℕ → ℕ
 mapOf [] ns = 0
 mapOf (p ∷ ps) [] = 0
-mapOf (p ∷ ps) (n ∷ ns) = cond (eqb n 0) (mapOf ps ns) (bitOr (mapOf ps ns) (2 ^ p .field))
+mapOf (p ∷ ps) (n ∷ ns) = cond (eqb n 0) (mapOf ps ns) (bitOr (mapOf ps ns) (2 ^ p .bit))
 
 -- field i "says what its absence says": each of its numbers is 0
 unfoldable pub isDefault : ℕ → List Slot → List ℕ → Bool
 isDefault i [] ns = true
 isDefault i (p ∷ ps) [] = true
-isDefault i (p ∷ ps) (n ∷ ns) = (not (eqb (p .field) i) || eqb n 0) && isDefault i ps ns
+isDefault i (p ∷ ps) (n ∷ ns) = (not (eqb (p .bit) i) || eqb n 0) && isDefault i ps ns
 
 -- one of the first n fields says its default though its bit stands in the map m
 unfoldable pub saysDefault : ℕ → ℕ → List Slot → List ℕ → Bool

@@ -39,7 +39,7 @@ numberCount = 11
 
 -- field i of one number of k bytes, and of two
 abbrev pub one : ℕ → ℕ → List Slot
-one i k = record { field = i; bytes = k } ∷ []
+one i k = record { bit = i; size = k } ∷ []
 
 abbrev pub two : ℕ → ℕ → List Slot
 two i k = one i k ++ one i k

@@ -21,8 +21,8 @@ pub(crate) const NUMBERS: usize = 11;
 
 // A number of a record: the map bit of its field, and how many bytes it has where that bit stands.
 pub struct Slot {
-    pub field: u64,
-    pub bytes: usize,
+    pub bit: u64,
+    pub size: usize,
 }
 
 // The numbers in bit order: care and value of the masks of a, b, c and carries, the mode, the random words.
@@ -30,58 +30,28 @@ fn layout(word: usize) -> [Slot; NUMBERS]
     ensures { λ r. ⌜ r ≡ layout word ⌝ }
 {
     [
-        Slot {
-            field: 0,
-            bytes: word,
-        },
-        Slot {
-            field: 0,
-            bytes: word,
-        },
-        Slot {
-            field: 1,
-            bytes: word,
-        },
-        Slot {
-            field: 1,
-            bytes: word,
-        },
-        Slot {
-            field: 2,
-            bytes: word,
-        },
-        Slot {
-            field: 2,
-            bytes: word,
-        },
-        Slot {
-            field: 3,
-            bytes: word,
-        },
-        Slot {
-            field: 3,
-            bytes: word,
-        },
-        Slot { field: 4, bytes: 1 },
-        Slot {
-            field: 5,
-            bytes: word,
-        },
-        Slot {
-            field: 5,
-            bytes: word,
-        },
+        Slot { bit: 0, size: word },
+        Slot { bit: 0, size: word },
+        Slot { bit: 1, size: word },
+        Slot { bit: 1, size: word },
+        Slot { bit: 2, size: word },
+        Slot { bit: 2, size: word },
+        Slot { bit: 3, size: word },
+        Slot { bit: 3, size: word },
+        Slot { bit: 4, size: 1 },
+        Slot { bit: 5, size: word },
+        Slot { bit: 5, size: word },
     ]
 }
 
 // How many bytes the number has in a record with this map.
 fn size(slot: Slot, map: u64) -> usize
-    ensures { λ r. ⌜ r ≡ bit map (slot .field) * slot .bytes ⌝ }
+    ensures { λ r. ⌜ r ≡ bit map (slot .bit) * slot .size ⌝ }
 {
-    if bit_at(map, slot.field) == 0 {
+    if bit_at(map, slot.bit) == 0 {
         return 0;
     }
-    slot.bytes
+    slot.size
 }
 
 // How many bytes each number has in a record with this map.
@@ -110,7 +80,7 @@ pub(crate) fn map_of(numbers: [u64; NUMBERS]) -> u64
         i -= 1;
         let slot = slots[i];
         if numbers[i] != 0 {
-            map = map | (1 << slot.field);
+            map = map | (1 << slot.bit);
         }
     }
     map

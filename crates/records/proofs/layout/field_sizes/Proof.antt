@@ -60,7 +60,7 @@ loop-again c =
       omega arith,
       length-set (l .loop .sizes) i (c .size .result) ∙ l .loop .inv .1,
       ap (λ (k : ℕ). take (i + 1) (set (l .loop .sizes) i k) ++ sizes (drop (i + 1) slots) m) (c .size .ensures)
-          ∙ sizes-turn slots i (record { field = 0; bytes = 0 }) (omega (arith, rows (l .before))) m (l .loop .sizes) (omega (arith, l .loop .inv .1)) ∙ l .loop .inv .2,
+          ∙ sizes-turn slots i (record { bit = 0; size = 0 }) (omega (arith, rows (l .before))) m (l .loop .sizes) (omega (arith, l .loop .inv .1)) ∙ l .loop .inv .2,
     )
 
 returns : tie.Need-returns Inv-loop μ-loop

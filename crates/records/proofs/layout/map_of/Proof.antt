@@ -30,10 +30,10 @@ rows : (c : tie.After-layout Inv-loop μ-loop) → length (c .layout .result) �
 rows c = ap length (c .layout .ensures) ∙ layout-length wordBytes
 
 -- the map bit of a number lies in the map
-field-lt : (c : tie.After-layout Inv-loop μ-loop) (i : ℕ) → getD (c .layout .result) i (record { field = 0; bytes = 0 }) .field < 64
+field-lt : (c : tie.After-layout Inv-loop μ-loop) (i : ℕ) → getD (c .layout .result) i (record { bit = 0; size = 0 }) .bit < 64
 field-lt c i =
     lt-of-lt-of-le
-    (field-below fieldCount (c .layout .result) (record { field = 0; bytes = 0 })
+    (field-below fieldCount (c .layout .result) (record { bit = 0; size = 0 })
     (ap (λ (ps : List Slot). allBelow fieldCount (mapBits ps)) (c .layout .ensures) ∙ layout-bits wordBytes) (omega arith) i)
     (omega arith)
 
@@ -78,9 +78,9 @@ loop-again c =
     let l = n .before in
     let slots : List Slot = l .before .layout .result in
     let i : ℕ = l .loop .i - 1 in
-    let d : Slot = record { field = 0; bytes = 0 } in (
+    let d : Slot = record { bit = 0; size = 0 } in (
       omega arith,
-      ap₂ bitOr (passed n) (one-shl (getD slots i d .field) (field-lt (l .before) i))
+      ap₂ bitOr (passed n) (one-shl (getD slots i d .bit) (field-lt (l .before) i))
           ∙ map-set slots i d (omega (arith, rows (l .before))) (l .before .before .args .t1) (omega arith) (c .before .if1 .taken),
     )
 
@@ -92,7 +92,7 @@ loop-again-2 c =
     let n = c .before .before in
     let l = n .before in
     let slots : List Slot = l .before .layout .result in
-    let d : Slot = record { field = 0; bytes = 0 } in
+    let d : Slot = record { bit = 0; size = 0 } in
     (omega arith, passed n ∙ map-same slots (l .loop .i - 1) d (omega (arith, rows (l .before))) (l .before .before .args .t1) (omega arith) (c .if1 .left))
 
 returns : tie.Need-returns Inv-loop μ-loop

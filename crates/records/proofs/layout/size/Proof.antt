@@ -15,13 +15,13 @@ bit-at-requires c κs = search needs
 returns : tie.Need-returns
 returns c =
     let a = c .before .before .args in
-    sym (ap (λ (b : ℕ). b * a .slot .bytes) (sym (c .before .bit-at .ensures) ∙ c .if1 .taken) ∙ zero-mul (a .slot .bytes))
+    sym (ap (λ (b : ℕ). b * a .slot .size) (sym (c .before .bit-at .ensures) ∙ c .if1 .taken) ∙ zero-mul (a .slot .size))
 
 returns-2 : tie.Need-returns-2
 returns-2 c =
     let a = c .before .before .args in
-    let one : bit (a .map) (a .slot .field) ≡ 1 = omega (arith, bit-lt (a .map) (a .slot .field), c .before .bit-at .ensures, c .if1 .left) in
-    sym (ap (λ (b : ℕ). b * a .slot .bytes) one ∙ one-mul (a .slot .bytes))
+    let one : bit (a .map) (a .slot .bit) ≡ 1 = omega (arith, bit-lt (a .map) (a .slot .bit), c .before .bit-at .ensures, c .if1 .left) in
+    sym (ap (λ (b : ℕ). b * a .slot .size) one ∙ one-mul (a .slot .size))
 
 pub size-spec : {M : Type 1} → statement M
 size-spec = tie.close (tie.spec bit-at-requires returns returns-2)
