@@ -90,7 +90,7 @@ fn with_a(job: Job, r1: u64, r2: u64, size: u64, a: u64, best: Best) -> Best {
 }
 
 // The closest case whose operands lie below `size`.
-pub fn closest(job: Job, r1: u64, r2: u64, size: u64) -> Best {
+pub(crate) fn closest(job: Job, r1: u64, r2: u64, size: u64) -> Best {
     let mut best = Best::Nothing;
     let mut a = 0;
     while a < size {

@@ -10,7 +10,7 @@ use generator::Reply;
 use job::Job;
 use mask::Mask;
 use tally::Count;
-use tally::judge;
+use tally::count_line;
 
 const ADD: u64 = 0;
 
@@ -27,7 +27,7 @@ fn asked(count: Count, job: Job, r1: u64, r2: u64, expected: Reply) -> Count {
     ask(job, r1, r2);
     let reply = generator::generate(job, r1, r2);
     put_reply(reply);
-    judge(count, same_reply(reply, expected))
+    count_line(count, same_reply(reply, expected))
 }
 
 fn found(a: u64, b: u64, c: u64, carries: u64) -> Reply {
@@ -58,7 +58,7 @@ fn both_words(count: Count, job: Job, zeros: Reply, others: Reply) -> Count {
 }
 
 // 1 to 4. (45, 2B, 4C) row 04 and (4D, 3B, 55) row 1D in mode 0; the second in mode 3, the first in mode 2; carry position 1 fixed to 1.
-pub fn masked_cases(count: Count) -> Count {
+pub(crate) fn masked_cases(count: Count) -> Count {
     let first = found(0x45, 0x2B, 0x4C, 0x04);
     let second = found(0x4D, 0x3B, 0x55, 0x1D);
     let nearest = both_words(count, eight(0, free()), first, second);
@@ -90,7 +90,7 @@ fn refused(count: Count, w: u64, f: u64, number: u64) -> Count {
 }
 
 // 12. w = 2 and 8 accepted, 1 and 9 refused; f = 2 and 23 accepted, 1 and 24 refused.
-pub fn limits(count: Count) -> Count {
+pub(crate) fn limits(count: Count) -> Count {
     let one = accepted(accepted(count, 2, 4), 8, 4);
     let two = refused(
         refused(one, 1, 4, cause::EXPONENT_BITS),
@@ -122,7 +122,7 @@ fn signs(count: Count, mode: u64) -> Count {
 }
 
 // 13. In each mode no case fits.
-pub fn impossible_signs(count: Count) -> Count {
+pub(crate) fn impossible_signs(count: Count) -> Count {
     signs(signs(signs(signs(count, 0), 1), 2), 3)
 }
 
@@ -170,6 +170,6 @@ fn one_cause(count: Count) -> Count {
     asked(three, open, 0, 0x100, Reply::Refused(cause::WORD))
 }
 
-pub fn bad_input(count: Count) -> Count {
+pub(crate) fn bad_input(count: Count) -> Count {
     one_cause(first_cause(count))
 }

@@ -34,7 +34,7 @@ fn put_numbers(job: Job) {
     io::print_decimal(STDOUT_FILENO, job.mode);
 }
 
-pub fn ask(job: Job, r1: u64, r2: u64) {
+pub(crate) fn ask(job: Job, r1: u64, r2: u64) {
     put_numbers(job);
     put_mask(b" a", job.a);
     put_mask(b" b", job.b);
@@ -64,7 +64,7 @@ fn put_case(x: Case) {
     put_row(row);
 }
 
-pub fn put_reply(reply: Reply) {
+pub(crate) fn put_reply(reply: Reply) {
     match reply {
         Reply::Found(x) => put_case(x),
         Reply::Refused(number) => {
@@ -74,7 +74,7 @@ pub fn put_reply(reply: Reply) {
     }
 }
 
-pub fn put_tally(tally: Tally) {
+pub(crate) fn put_tally(tally: Tally) {
     io::print_decimal(STDOUT_FILENO, tally.jobs);
     io::write_all(STDOUT_FILENO, b" jobs, ");
     io::print_decimal(STDOUT_FILENO, tally.found);

@@ -16,14 +16,14 @@ fn same_row(one: Row, other: Row) -> bool {
     }
 }
 
-pub fn same_case(one: Case, other: Case) -> bool {
+pub(crate) fn same_case(one: Case, other: Case) -> bool {
     let words = (one.a == other.a) & (one.b == other.b) & (one.c == other.c);
     let row = one.row;
     let expected = other.row;
     words & same_row(row, expected)
 }
 
-pub fn same_reply(one: Reply, other: Reply) -> bool {
+pub(crate) fn same_reply(one: Reply, other: Reply) -> bool {
     match one {
         Reply::Found(x) => match other {
             Reply::Found(y) => same_case(x, y),

@@ -129,7 +129,7 @@ fn compared(state: u64, t: Tally) -> Tally {
     counted(t, reply, closest(job, r1, r2, bits::power(width)))
 }
 
-pub fn sampled(jobs: u64) -> Tally {
+pub(crate) fn sampled(jobs: u64) -> Tally {
     let mut tally = Tally {
         jobs: 0,
         found: 0,
