@@ -12,7 +12,7 @@ use adder::carry_row::carry_row;
 use adder::result::rounded_result;
 use format::Format;
 use tally::Count;
-use tally::judge;
+use tally::count_line;
 
 const ADD: u64 = 0;
 
@@ -32,7 +32,7 @@ fn result(
     ask_result(format, operation, mode, a, b, digits);
     let reply = rounded_result(format, operation, mode, a, b);
     put_reply(reply, digits);
-    judge(count, same_reply(reply, expected))
+    count_line(count, same_reply(reply, expected))
 }
 
 fn row(
@@ -47,7 +47,7 @@ fn row(
     ask_row(format, operation, a, b, digits);
     let reply = carry_row(format, operation, a, b);
     put_row(reply, digits);
-    judge(count, same_row(reply, expected))
+    count_line(count, same_row(reply, expected))
 }
 
 // The eight-bit format of source document 000.
@@ -59,15 +59,15 @@ fn single() -> Format {
     Format { w: 8, f: 23 }
 }
 
-pub fn eight_sum(count: Count, mode: u64, a: u64, b: u64, c: u64) -> Count {
+pub(crate) fn eight_sum(count: Count, mode: u64, a: u64, b: u64, c: u64) -> Count {
     result(count, eight(), ADD, mode, a, b, 2, Reply::Word(c))
 }
 
-pub fn eight_difference(count: Count, mode: u64, a: u64, b: u64, c: u64) -> Count {
+pub(crate) fn eight_difference(count: Count, mode: u64, a: u64, b: u64, c: u64) -> Count {
     result(count, eight(), SUBTRACT, mode, a, b, 2, Reply::Word(c))
 }
 
-pub fn eight_sum_row(count: Count, a: u64, b: u64, carries: u64) -> Count {
+pub(crate) fn eight_sum_row(count: Count, a: u64, b: u64, carries: u64) -> Count {
     row(
         count,
         eight(),
@@ -79,7 +79,7 @@ pub fn eight_sum_row(count: Count, a: u64, b: u64, carries: u64) -> Count {
     )
 }
 
-pub fn eight_difference_row(count: Count, a: u64, b: u64, carries: u64) -> Count {
+pub(crate) fn eight_difference_row(count: Count, a: u64, b: u64, carries: u64) -> Count {
     row(
         count,
         eight(),
@@ -91,27 +91,27 @@ pub fn eight_difference_row(count: Count, a: u64, b: u64, carries: u64) -> Count
     )
 }
 
-pub fn eight_difference_no_row(count: Count, a: u64, b: u64) -> Count {
+pub(crate) fn eight_difference_no_row(count: Count, a: u64, b: u64) -> Count {
     row(count, eight(), SUBTRACT, a, b, 2, RowReply::Row(Row::NoRow))
 }
 
-pub fn single_sum(count: Count, mode: u64, a: u64, b: u64, c: u64) -> Count {
+pub(crate) fn single_sum(count: Count, mode: u64, a: u64, b: u64, c: u64) -> Count {
     result(count, single(), ADD, mode, a, b, 8, Reply::Word(c))
 }
 
-pub fn single_difference(count: Count, mode: u64, a: u64, b: u64, c: u64) -> Count {
+pub(crate) fn single_difference(count: Count, mode: u64, a: u64, b: u64, c: u64) -> Count {
     result(count, single(), SUBTRACT, mode, a, b, 8, Reply::Word(c))
 }
 
 // 0 + 0 in a format of these widths: accepted.
-pub fn accepted(count: Count, w: u64, f: u64) -> Count {
+pub(crate) fn accepted(count: Count, w: u64, f: u64) -> Count {
     let format = Format { w, f };
     let one = result(count, format, ADD, 0, 0, 0, 8, Reply::Word(0));
     row(one, format, ADD, 0, 0, 8, RowReply::Row(Row::Carries(0)))
 }
 
 // The same, refused with this number.
-pub fn refused(count: Count, w: u64, f: u64, number: u64) -> Count {
+pub(crate) fn refused(count: Count, w: u64, f: u64, number: u64) -> Count {
     let format = Format { w, f };
     let one = result(count, format, ADD, 0, 0, 0, 8, Reply::Refused(number));
     row(one, format, ADD, 0, 0, 8, RowReply::Refused(number))

@@ -54,12 +54,12 @@ fn case_10(count: Count) -> Count {
     eight_difference(two, 3, 0x30, 0x01, 0x2F)
 }
 
-pub fn eight_bit_cases(count: Count) -> Count {
+pub(crate) fn eight_bit_cases(count: Count) -> Count {
     case_10(case_9(cases_7_and_8(case_6(case_5(case_1(count))))))
 }
 
 // 12. w = 2 and 8 accepted, 1 and 9 refused; f = 2 and 23 accepted, 1 and 24 refused.
-pub fn limits(count: Count) -> Count {
+pub(crate) fn limits(count: Count) -> Count {
     let one = accepted(accepted(count, 2, 4), 8, 4);
     let two = refused(
         refused(one, 1, 4, cause::EXPONENT_BITS),

@@ -21,14 +21,14 @@ fn put_operands(format: Format, operation: u64, a: u64, b: u64, digits: usize) {
     io::print_hex(STDOUT_FILENO, b, digits);
 }
 
-pub fn ask_result(format: Format, operation: u64, mode: u64, a: u64, b: u64, digits: usize) {
+pub(crate) fn ask_result(format: Format, operation: u64, mode: u64, a: u64, b: u64, digits: usize) {
     put_operands(format, operation, a, b, digits);
     io::write_all(STDOUT_FILENO, b" mode ");
     io::print_decimal(STDOUT_FILENO, mode);
     io::write_all(STDOUT_FILENO, b" = ");
 }
 
-pub fn ask_row(format: Format, operation: u64, a: u64, b: u64, digits: usize) {
+pub(crate) fn ask_row(format: Format, operation: u64, a: u64, b: u64, digits: usize) {
     put_operands(format, operation, a, b, digits);
     io::write_all(STDOUT_FILENO, b" row ");
 }
@@ -38,7 +38,7 @@ fn put_refused(number: u64) {
     io::print_decimal(STDOUT_FILENO, number);
 }
 
-pub fn put_reply(reply: Reply, digits: usize) {
+pub(crate) fn put_reply(reply: Reply, digits: usize) {
     match reply {
         Reply::Word(c) => {
             io::print_hex(STDOUT_FILENO, c, digits);
@@ -58,7 +58,7 @@ fn put_carries(row: Row, digits: usize) {
     }
 }
 
-pub fn put_row(reply: RowReply, digits: usize) {
+pub(crate) fn put_row(reply: RowReply, digits: usize) {
     match reply {
         RowReply::Row(row) => put_carries(row, digits),
         RowReply::Refused(number) => put_refused(number),

@@ -3,7 +3,7 @@ use adder::Reply;
 use adder::Row;
 use adder::RowReply;
 
-pub fn same_reply(one: Reply, other: Reply) -> bool {
+pub(crate) fn same_reply(one: Reply, other: Reply) -> bool {
     match one {
         Reply::Word(c) => match other {
             Reply::Word(d) => c == d,
@@ -29,7 +29,7 @@ fn same_carries(one: Row, other: Row) -> bool {
     }
 }
 
-pub fn same_row(one: RowReply, other: RowReply) -> bool {
+pub(crate) fn same_row(one: RowReply, other: RowReply) -> bool {
     match one {
         RowReply::Row(r) => match other {
             RowReply::Row(s) => same_carries(r, s),

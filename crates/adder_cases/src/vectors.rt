@@ -24,7 +24,7 @@ fn special_operands(count: Count) -> Count {
 }
 
 // What the source documents print as numbers or as rules.
-pub fn published(count: Count) -> Count {
+pub(crate) fn published(count: Count) -> Count {
     special_operands(negative_zero(eight_sum(count, 0, 0x45, 0x2B, 0x4C)))
 }
 
@@ -67,6 +67,6 @@ fn binades(count: Count) -> Count {
     eight_difference(two, 2, 0x60, 0x10, 0x5F)
 }
 
-pub fn built(count: Count) -> Count {
+pub(crate) fn built(count: Count) -> Count {
     binades(smallest_step(carried(ties(far_operand(count)))))
 }

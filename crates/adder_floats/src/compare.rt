@@ -45,7 +45,7 @@ fn native_sum(a: u32, b: u32) -> Sum {
     }
 }
 
-fn judged(c: u64, native: Sum) -> Verdict {
+fn verdict_of(c: u64, native: Sum) -> Verdict {
     match native {
         Sum::Word(d) => {
             if c == d {
@@ -65,10 +65,10 @@ fn judged(c: u64, native: Sum) -> Verdict {
 }
 
 // Both sums of two words of 32 bits.
-pub fn compared(a: u64, b: u64) -> Verdict {
+pub(crate) fn compared(a: u64, b: u64) -> Verdict {
     let native = native_sum((a % 4294967296) as u32, (b % 4294967296) as u32);
     match rounded_result(Format { w: 8, f: 23 }, 0, 0, a, b) {
-        Reply::Word(c) => judged(c, native),
+        Reply::Word(c) => verdict_of(c, native),
         Reply::Refused(_) => Verdict::Unlike,
     }
 }

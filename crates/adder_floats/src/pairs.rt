@@ -7,7 +7,7 @@ pub struct Pair {
 }
 
 // Marsaglia's 64-bit xorshift, with the shifts 13, 7 and 17.
-pub fn next(state: u64) -> u64 {
+pub(crate) fn next(state: u64) -> u64 {
     let one = state ^ (state << 13);
     let two = one ^ (one >> 7);
     two ^ (two << 17)
@@ -19,7 +19,7 @@ fn word(sign: u64, exponent: u64, fraction: u64) -> u64 {
 }
 
 // Words with any bits.
-pub fn any(state: u64) -> Pair {
+pub(crate) fn any(state: u64) -> Pair {
     Pair {
         a: state % 4294967296,
         b: state >> 32,
@@ -27,7 +27,7 @@ pub fn any(state: u64) -> Pair {
 }
 
 // Exponents that differ by `least` to `least + 7`: a's is a random one that leaves room below.
-pub fn apart(state: u64, least: u64) -> Pair {
+pub(crate) fn apart(state: u64, least: u64) -> Pair {
     let gap = (state >> 48) % 8 + least % 64;
     let exponent = 80 + (state >> 51) % 128;
     Pair {
@@ -47,7 +47,7 @@ fn edged(chance: u64, fraction: u64) -> u64 {
 
 // An operand with a fraction of two bits, and perhaps the lowest one, that ends at the last place of the other or just below it: ties, and
 // sums just off a tie.
-pub fn tied(state: u64) -> Pair {
+pub(crate) fn tied(state: u64) -> Pair {
     let gap = 22 + (state >> 48) % 4;
     let exponent = 80 + (state >> 51) % 128;
     Pair {
@@ -61,7 +61,7 @@ pub fn tied(state: u64) -> Pair {
 }
 
 // Unlike signs, and magnitudes that differ by 7 at most in their words.
-pub fn cancelled(state: u64) -> Pair {
+pub(crate) fn cancelled(state: u64) -> Pair {
     let magnitude = 8 + state % 2139095024;
     Pair {
         a: (state >> 63) * 2147483648 + magnitude,
@@ -70,7 +70,7 @@ pub fn cancelled(state: u64) -> Pair {
 }
 
 // Exponent fields 0 to 3.
-pub fn small(state: u64) -> Pair {
+pub(crate) fn small(state: u64) -> Pair {
     Pair {
         a: word(state >> 63, (state >> 48) % 4, state),
         b: word(state >> 62, (state >> 50) % 4, state >> 23),
@@ -78,7 +78,7 @@ pub fn small(state: u64) -> Pair {
 }
 
 // Exponent fields 251 to 254, and mostly like signs.
-pub fn large(state: u64) -> Pair {
+pub(crate) fn large(state: u64) -> Pair {
     let unlike = (state >> 52) % 8 / 7;
     Pair {
         a: word(state >> 63, 251 + (state >> 48) % 4, state),
@@ -92,7 +92,7 @@ fn sometimes(chance: u64, x: u64) -> u64 {
 }
 
 // Exponent fields 0, 1, 255, and mostly fractions of 0: zeros, infinities, NaNs.
-pub fn special(state: u64) -> Pair {
+pub(crate) fn special(state: u64) -> Pair {
     Pair {
         a: word(
             state >> 63,

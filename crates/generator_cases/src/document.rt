@@ -12,7 +12,7 @@ use job::Setting;
 use job::words::masked_job;
 use mask::Mask;
 use tally::Count;
-use tally::judge;
+use tally::count_line;
 
 const ADD: u64 = 0;
 
@@ -29,7 +29,7 @@ fn asked(count: Count, job: Job, r1: u64, r2: u64, expected: Reply) -> Count {
     ask(job, r1, r2);
     let reply = generator::generate(job, r1, r2);
     put_reply(reply);
-    judge(count, same_reply(reply, expected))
+    count_line(count, same_reply(reply, expected))
 }
 
 fn found(a: u64, b: u64, c: u64, carries: u64) -> Reply {
@@ -68,7 +68,7 @@ fn both_words(count: Count, job: Job, zeros: Reply, others: Reply) -> Count {
 }
 
 // 1 to 3. (45, 2B, 4C) row 04 and (4D, 3B, 55) row 1D in mode 0; the second in mode 3, the first in mode 2.
-pub fn masked_cases(count: Count) -> Count {
+pub(crate) fn masked_cases(count: Count) -> Count {
     let first = found(0x45, 0x2B, 0x4C, 0x04);
     let second = found(0x4D, 0x3B, 0x55, 0x1D);
     let nearest = both_words(count, eight(0, free()), first, second);
@@ -77,7 +77,7 @@ pub fn masked_cases(count: Count) -> Count {
 }
 
 // 4. Carry position 1 fixed to 1.
-pub fn carry_fixed(count: Count) -> Count {
+pub(crate) fn carry_fixed(count: Count) -> Count {
     let none = Reply::Refused(cause::NO_CASE);
     both_words(count, eight(0, mask(0x02, 0x02)), none, none)
 }
@@ -96,7 +96,7 @@ fn refused(count: Count, w: u64, f: u64, number: u64) -> Count {
 }
 
 // 12. w = 2 and 8 accepted, 1 and 9 refused; f = 2 and 23 accepted, 1 and 24 refused.
-pub fn limits(count: Count) -> Count {
+pub(crate) fn limits(count: Count) -> Count {
     let one = accepted(accepted(count, 2, 4), 8, 4);
     let two = refused(
         refused(one, 1, 4, cause::EXPONENT_BITS),
@@ -122,7 +122,7 @@ fn signs(count: Count, mode: u64) -> Count {
 }
 
 // 13. In each mode no case fits.
-pub fn impossible_signs(count: Count) -> Count {
+pub(crate) fn impossible_signs(count: Count) -> Count {
     signs(signs(signs(signs(count, 0), 1), 2), 3)
 }
 
@@ -170,7 +170,7 @@ fn masks(count: Count) -> Count {
     )
 }
 
-pub fn bad_input(count: Count) -> Count {
+pub(crate) fn bad_input(count: Count) -> Count {
     let first = words(first_cause(count), 0x100, 0x100);
     words(words(masks(first), 0x100, 0), 0, 0x100)
 }

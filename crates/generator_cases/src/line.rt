@@ -33,7 +33,7 @@ fn put_numbers(job: Job) {
     io::print_decimal(STDOUT_FILENO, job.setting.mode);
 }
 
-pub fn ask(job: Job, r1: u64, r2: u64) {
+pub(crate) fn ask(job: Job, r1: u64, r2: u64) {
     put_numbers(job);
     put_mask(b" a", job.a.mask);
     put_mask(b" b", job.b.mask);
@@ -63,7 +63,7 @@ fn put_case(x: Case) {
     put_row(row);
 }
 
-pub fn put_reply(reply: Reply) {
+pub(crate) fn put_reply(reply: Reply) {
     match reply {
         Reply::Found(x) => put_case(x),
         Reply::Refused(number) => {

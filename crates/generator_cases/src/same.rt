@@ -23,7 +23,7 @@ fn same_case(one: Case, other: Case) -> bool {
     words & same_row(row, expected)
 }
 
-pub fn same_reply(one: Reply, other: Reply) -> bool {
+pub(crate) fn same_reply(one: Reply, other: Reply) -> bool {
     match one {
         Reply::Found(x) => match other {
             Reply::Found(y) => same_case(x, y),

@@ -11,7 +11,7 @@ pub struct Count {
 }
 
 // Ends the line, and counts it.
-pub fn judge(count: Count, ok: bool) -> Count
+pub fn count_line(count: Count, ok: bool) -> Count
     ensures { λ r. ⌜ r ≡ counted count ok ⌝ }
 {
     let lines = wrapping_add_u64(count.lines, 1);

@@ -1,5 +1,5 @@
 -- What the contracts amount to: what a function returns and what it leaves are one alone, and no refusal's number is 0, so 0 is told
--- with an answer only. Assumes nothing.
+-- with an readReply only. Assumes nothing.
 use mathlib.Core.Path.{_≡_, sym, ap, _∙_}
 use mathlib.Core.Logic.{inl, inr}
 use mathlib.Core.Bool.{Bool, true, false, _&&_}
@@ -23,7 +23,7 @@ use Rattle.fit.specs.Fit.{answerFor, caseCause, fits, confirmedReply}
 use Rattle.records.specs.declared.Entry.{Entry}
 use Rattle.records.specs.declared.First.{First}
 use Rattle.records.specs.declared.First.the-variants as first-is
-use Rattle.records.specs.Record.{answer, readCause, entryIn, recordLength, firstIn}
+use Rattle.records.specs.Record.{readReply, readCause, entryIn, recordLength, firstIn}
 use Rattle.generator.specs.declared.Reply.the-variants as case-is
 use Rattle.generator.specs.Promise as generator
 use Rattle.generator.proofs.Replies as generator-law
@@ -75,7 +75,7 @@ confirmed-number (suc k) n t e = let q : suc k ≡ n = cc in omega arith
 pub confirmed-refusal : (j : Job) (a b c n : ℕ) → confirmedReply j a b c ≡ confirmed-is.Refused n → 0 < n
 confirmed-refusal j a b c n = confirmed-number (caseCause j a b c) n (fits j a b c)
 
-first-number : (k n m : ℕ) (e : Entry) → answer k e m ≡ first-is.Refused n → 0 < n
+first-number : (k n m : ℕ) (e : Entry) → readReply k e m ≡ first-is.Refused n → 0 < n
 first-number zero n m e q = absurd (let z : _≡_ {A = ℕ} 0 1 = cc in omega arith)
 first-number (suc k) n m e q = let p : suc k ≡ n = cc in omega arith
 

@@ -9,7 +9,7 @@ use lib.Dec.{leb}
 use Rattle.format.specs.Cause as cause
 use Rattle.format.specs.Cause.{unless}
 use Rattle.records.specs.Number.{littleEndian}
-use Rattle.records.specs.Record.{kept}
+use Rattle.records.specs.Record.{bufferAfter}
 
 -- an answer in numbers, or the number of a refusal
 pub data Answer : Type 0 where
@@ -32,7 +32,7 @@ told (refusal k) s = k
 
 -- the buffer afterwards: the answer's bytes and then what stood there before; on a refusal as it was
 abbrev pub left : Answer → List ℕ → List ℕ
-left (numbers ns) s = kept (roomCause (bytesOf ns) (length s)) (bytesOf ns) s
+left (numbers ns) s = bufferAfter (roomCause (bytesOf ns) (length s)) (bytesOf ns) s
 left (refusal k) s = s
 
 -- the answer is handed over: n is returned, and the buffer is `after`

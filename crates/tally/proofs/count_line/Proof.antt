@@ -1,10 +1,10 @@
--- `tally::judge` meets its contract. Assumes nothing.
+-- `tally::count_line` meets its contract. Assumes nothing.
 use mathlib.Core.Path.{sym, ap, _∙_}
 use mathlib.Core.Bool.{Bool, cond}
 use Rattle.tally.specs.Count.{oneMore}
 use borrow.Author.Needs.{needs}
-use Rattle.tally.proofs.judge.Statement.{statement}
-use Rattle.tally.proofs.judge.Tie as tie
+use Rattle.tally.proofs.count_line.Statement.{statement}
+use Rattle.tally.proofs.count_line.Tie as tie
 
 wrapping-add-u64-requires : tie.Need-wrapping-add-u64-requires
 wrapping-add-u64-requires c κs = search needs
@@ -36,8 +36,8 @@ returns-2 c =
     let a = sum .before .args in
     (λ i. record { lines = sum .wrapping-add-u64 .ensures i; wrong = (c .wrapping-add-u642 .ensures ∙ ap (λ (t : Bool). cond t (a .count .wrong) (oneMore (a .count .wrong))) (sym (c .before .before .before .if1 .left))) i })
 
-pub judge-spec : {M : Type 1} → statement M
-judge-spec =
+pub count-line-spec : {M : Type 1} → statement M
+count-line-spec =
     tie.close
     (tie.spec
     wrapping-add-u64-requires
