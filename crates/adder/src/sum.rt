@@ -16,7 +16,6 @@ ghost use lib.Dec.{ltb};
 ghost use Rattle.format.specs.Format.{Supported};
 ghost use Rattle.word.specs.Operand.{magnitude, Canonical, Sound};
 ghost use Rattle.adder.specs.Result.{nan, infinity, finiteSum, infiniteSum, kindSum};
-ghost use Rattle.rounding.specs.Rounding.{cancelledSign};
 
 // Whether x has the smaller magnitude: by the exponents, and where these are equal by the significands.
 pub(crate) fn smaller(x: Finite, y: Finite, format: Format) -> bool

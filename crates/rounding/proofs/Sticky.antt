@@ -1,15 +1,15 @@
 -- Laws of the sticky bit: it tells zero from nonzero, so a comparison with a multiple of the unit, and a sum or difference with one, are
 -- the same with it as with all that was dropped. Assumes nothing.
-use mathlib.Core.Path.{_≡_, refl, sym, ap, ap₂, _∙_, subst}
-use mathlib.Core.Bool.{Bool, true, false, cond}
-use Prim.Native.Nat.{ℕ, zero, suc, _+_, _-_, _*_, _/_, _%_, _^_, _≤_, _<_}
-use native.Mathlib.Nat.{mod-lt, mod-one, div-one, mul-le-mul-right, mul-lt-mul-of-pos-right, suc-mul, add-mul, zero-mul, add-zero, mul-add-div-right, mul-add-mod-self-right, div-add-mod', eq-zero-or-pos, mul-right-comm}
-use native.Mathlib.Decide.{decLt, decLe, ℕ-discrete}
+use mathlib.Core.Path.{_≡_, sym, ap, ap₂, _∙_}
+use mathlib.Core.Bool.{Bool, cond}
+use Prim.Native.Nat.{ℕ, suc, _+_, _-_, _*_, _/_, _%_, _^_, _≤_, _<_}
+use native.Mathlib.Nat.{mod-lt, mod-one, div-one, mul-le-mul-right, suc-mul, add-mul, zero-mul, mul-add-div-right, mul-add-mod-self-right, div-add-mod', mul-right-comm}
+use native.Mathlib.Decide.{decLt, ℕ-discrete}
 use native.Mathlib.Omega.{arith}
 use borrow.Author.Tests.{lt-ltb, le-ltb, eq-eqb, ne-eqb}
 use lib.Arith.{digits-div, digits-mod}
-use lib.Dec.{ltb, leb, eqb}
-use lib.Pow.{pow-pos, pow-add}
+use lib.Dec.{ltb, eqb}
+use lib.Pow.{pow-pos}
 use Rattle.rounding.specs.Sticky.{sticky, withSticky}
 use Rattle.bits.proofs.Division.{div-scale, mod-scale, eqb-scale, mul-sub-right}
 

@@ -1,7 +1,6 @@
 -- `adder::carry_row::ordered_row` meets its contract: each position of the aligned significands is one of the row (proofs/RowBit). Assumes nothing.
-use mathlib.Core.Path.{_≡_, refl, sym, ap, ap₂, _∙_, subst, fun-ext}
-use Prim.Native.Nat.{ℕ, zero, suc, _+_, _-_, _*_, _/_, _%_, _^_, _≤_, _<_}
-use mathlib.Core.Bool.{Bool}
+use mathlib.Core.Path.{_≡_, sym, ap, ap₂, _∙_, fun-ext}
+use Prim.Native.Nat.{ℕ, _+_, _-_}
 use native.Mathlib.Nat.{lt-of-lt-of-le, lt-of-le-of-lt}
 use native.Mathlib.Omega.{arith}
 use lib.Dec.{eqb}
@@ -10,8 +9,7 @@ use Rattle.format.specs.Format.{precision}
 use Rattle.format.proofs.Room.{significand-room}
 use Rattle.word.specs.declared.Unit as exponent
 use Rattle.word.specs.Word.{unitOf}
-use Rattle.word.specs.Operand.{magnitude}
-use Rattle.adder.specs.Row.{carryAt, gather, carryIn}
+use Rattle.adder.specs.Row.{gather, carryIn}
 use Rattle.rounding.specs.Sticky.{sticky}
 use Rattle.word.proofs.Canonical.{gap-le, unit-le}
 use Rattle.rounding.proofs.Sticky.{sticky-lt}

@@ -1,9 +1,9 @@
 -- `adder::result::words_cause` meets its contract. Assumes nothing.
-use mathlib.Core.Path.{_≡_, refl, sym, ap, ap₂, _∙_, subst}
-use Prim.Native.Nat.{ℕ, zero, suc, _+_, _-_, _*_, _/_, _%_, _^_, _≤_, _<_}
+use mathlib.Core.Path.{sym, ap₂, _∙_}
+use Prim.Native.Nat.{_-_}
 use native.Mathlib.Omega.{arith}
 use Rattle.format.specs.Cause.{first}
-use Rattle.format.specs.Format.{Supported, wordBits, formatCause, operationCause, modeCause, wordCause}
+use Rattle.format.specs.Format.{wordBits, wordCause}
 use Rattle.format.proofs.Laws.{first-some}
 use Rattle.format.proofs.Room.{word-room}
 use borrow.Author.Needs.{needs}

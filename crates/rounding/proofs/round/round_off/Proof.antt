@@ -1,11 +1,9 @@
 -- `rounding::round::round_off` meets its contract: rounding off is adding a constant and a carry (proofs/AddConstant). Assumes nothing.
-use mathlib.Core.Path.{_≡_, sym, ap, ap₂, _∙_}
+use mathlib.Core.Path.{sym, ap₂, _∙_}
 use Prim.Native.Nat.{ℕ, _+_, _/_, _^_, _<_}
 use native.Mathlib.Omega.{arith}
 use lib.Pow.{pow-mono}
-use Rattle.bits.specs.Bit.{bit}
 use Rattle.bits.proofs.Laws.{bit-lt}
-use Rattle.rounding.specs.Rounding.{roundingConstant, roundingCarry}
 use Rattle.rounding.proofs.AddConstant.{round-off-adds, rounding-constant-lt, rounding-carry-lt}
 use borrow.Author.Needs.{needs}
 use Rattle.rounding.proofs.round.round_off.Statement.{statement}

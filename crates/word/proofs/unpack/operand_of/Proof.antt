@@ -1,16 +1,16 @@
 -- `word::unpack::operand_of` meets its contract: the fields that the code takes are those of the definition. Assumes nothing.
-use mathlib.Core.Path.{_≡_, refl, sym, ap, ap₂, _∙_, subst}
-use Prim.Native.Nat.{ℕ, zero, suc, _+_, _-_, _*_, _/_, _%_, _^_, _≤_, _<_}
+use mathlib.Core.Path.{_≡_, sym, ap, ap₂, _∙_}
+use Prim.Native.Nat.{ℕ, _+_, _-_, _/_, _%_, _^_}
 use native.Mathlib.Nat.{mod-lt}
 use native.Mathlib.Omega.{arith}
-use borrow.Author.Tests.{lt-ltb, le-ltb, eq-eqb, ne-eqb}
+use borrow.Author.Tests.{eq-eqb, ne-eqb}
 use lib.Pow.{pow-pos}
 use Rattle.format.proofs.Room.{significand-room}
 use Rattle.format.specs.declared.Format.{Format}
 use Rattle.word.specs.declared.Finite as record-of
 use Rattle.word.specs.declared.Operand.the-variants.{Finite, Infinite, Nan}
 use Rattle.word.specs.Word.{significand, biased, fraction, sign, allOnes}
-use Rattle.word.specs.Operand.{operandOf, finiteOf}
+use Rattle.word.specs.Operand.{operandOf}
 use Rattle.word.proofs.Bounds.{exponents}
 use borrow.Author.Needs.{needs}
 use Rattle.word.proofs.unpack.operand_of.Statement.{statement}
