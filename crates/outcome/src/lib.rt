@@ -1,5 +1,4 @@
 // Whether two aligned significands make a word that meets a mask.
-use word::Unit;
 use digits::fits;
 use format::Format;
 use mask::Mask;
@@ -7,12 +6,13 @@ use width::ALIGNED;
 use width::GUARD_BITS;
 use width::SMALL;
 use width::SUM;
+use word::Unit;
 
 mod ask;
 mod digits;
 mod masks;
-mod width;
 mod sought;
+mod width;
 
 ghost use mathlib.Core.Bool.{true};
 ghost use mathlib.Core.Logic.{_↔_};
@@ -20,7 +20,7 @@ ghost use mathlib.Core.Path.{_≡_};
 ghost use Prim.Native.Nat.{ℕ, _^_, _≤_, _<_};
 ghost use lib.Ieee.{size};
 ghost use Rattle.mask.specs.Mask.{Meets};
-ghost use Rattle.outcome.specs.Width.{alignedBits, smallBits, sumBits, columnsOf};
+ghost use Rattle.rounding.specs.Width.{alignedBits, smallBits, sumBits, columnsOf};
 ghost use Rattle.outcome.specs.Outcome.{Made, Admits, InFormat, Formed};
 
 // The masks of two aligned significands and of their carries; like tells whether they are added.

@@ -8,7 +8,7 @@ use Rattle.job.specs.declared.Job.{Job}
 use Rattle.job.specs.declared.Role.{Role}
 use Rattle.job.specs.Role.{member, wanted}
 use Rattle.fit.specs.Fit.{Fits}
-use Rattle.pair.specs.Asked.{PairFits}
+use Rattle.search.specs.Fields.{PairAt}
 use Rattle.search.specs.Left.{Left, Ready}
 
 -- a case is left, and the word's bits from position k on are fixed
@@ -19,7 +19,7 @@ pub record Open (j : Job) (role : Role) (k : ℕ) : Type 0 where
 
 -- no pair of exponent fields of which a's is below n admits a case
 abbrev pub NoneBelow : Job → ℕ → Type 0
-NoneBelow j n = (d e : ℕ) → d < n → PairFits j d e → ⊥
+NoneBelow j n = (d e : ℕ) → d < n → PairAt j d e → ⊥
 
 -- r is the first exponent field of a that a case left has, or one past them all
 pub record FirstRow (j : Job) (r : ℕ) : Type 0 where

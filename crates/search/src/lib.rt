@@ -12,6 +12,7 @@ use job::job_cause;
 use mask::meets;
 use pair::pair_admits;
 use pair::signs::signs_left;
+use word::Biased;
 use word::masks::exponent_mask;
 ghost use mathlib.Core.Path.{_≡_};
 ghost use mathlib.Core.Bool.{true};
@@ -20,7 +21,7 @@ ghost use Prim.Native.Nat.{ℕ, _^_, _<_};
 ghost use Rattle.job.specs.Job.{Valid};
 ghost use Rattle.mask.specs.Mask.{Meets};
 ghost use Rattle.word.specs.Masks.{exponentMask};
-ghost use Rattle.pair.specs.Asked.{PairFits};
+ghost use Rattle.search.specs.Fields.{PairAt};
 ghost use Rattle.search.specs.Classes.{Kept, ClassEnd};
 ghost use Rattle.search.specs.Left.{Ready};
 ghost use Rattle.search.specs.Walk.{NoneBelow, FirstRow};
@@ -42,7 +43,7 @@ pub enum Choice {
 // pair leaves it open.
 fn admits(job: Job, ea: u64, eb: u64, end: u64, table: &mut [u64; 128]) -> bool
     requires { ⌜ Valid job × (ea < 2 ^ job .setting .format .w) × (eb < 2 ^ job .setting .format .w) × Meets ea (exponentMask (job .setting .format) (job .a .mask)) × ClassEnd job end × Kept job (now table) ⌝ }
-    ensures { λ r. ⌜ Kept job (now (table .exit)) × ((r ≡ true) ↔ PairFits job ea eb) ⌝ }
+    ensures { λ r. ⌜ Kept job (now (table .exit)) × ((r ≡ true) ↔ PairAt job ea eb) ⌝ }
 {
     if !meets(exponent_mask(job.setting.format, job.b.mask), eb) {
         return false;
@@ -50,7 +51,7 @@ fn admits(job: Job, ea: u64, eb: u64, end: u64, table: &mut [u64; 128]) -> bool
     if !may_admit(job, ea, eb, end, table) {
         return false;
     }
-    if pair_admits(job, ea, eb) {
+    if pair_admits(job, Biased(ea), Biased(eb)) {
         return true;
     }
     keep_refused(job, ea, eb, table);
@@ -61,7 +62,7 @@ fn admits(job: Job, ea: u64, eb: u64, end: u64, table: &mut [u64; 128]) -> bool
 // finite operands.
 fn first_field(job: Job, ea: u64) -> u64
     requires { ⌜ Valid job ⌝ }
-    ensures { λ r. ⌜ ((e : ℕ) → e < r → PairFits job ea e → ⊥) ⌝ }
+    ensures { λ r. ⌜ ((e : ℕ) → e < r → PairAt job ea e → ⊥) ⌝ }
 {
     let first = 0;
     if signs_left(job) {
@@ -74,7 +75,7 @@ fn first_field(job: Job, ea: u64) -> u64
 // Where a row of pairs begins: at its first pair, or past its last one where the exponent field of a does not meet its mask.
 fn row_start(job: Job, ea: u64, count: u64) -> u64
     requires { ⌜ Valid job ⌝ }
-    ensures { λ r. ⌜ ((e : ℕ) → e < r → PairFits job ea e → ⊥) × (r < count → Meets ea (exponentMask (job .setting .format) (job .a .mask))) ⌝ }
+    ensures { λ r. ⌜ ((e : ℕ) → e < r → PairAt job ea e → ⊥) × (r < count → Meets ea (exponentMask (job .setting .format) (job .a .mask))) ⌝ }
 {
     if meets(exponent_mask(job.setting.format, job.a.mask), ea) {
         first_field(job, ea)

@@ -4,9 +4,9 @@ use mathlib.Core.Path.{_≡_, sym, _∙_}
 use Prim.Native.Nat.{ℕ, _-_, _^_}
 use native.Mathlib.Omega.{arith}
 use lib.Pow.{pow-pos}
-use Rattle.job.specs.Job.{Valid}
+use Rattle.special.specs.Asked.{fieldIs}
 use Rattle.pair.proofs.LikeSigns.{signs-none}
-use Rattle.search.proofs.Pairs.{pair-asked, count-is}
+use Rattle.search.proofs.Pairs.{count-is}
 use borrow.Author.Needs.{needs}
 use Rattle.search.proofs.first_field.Statement.{statement}
 use Rattle.search.proofs.first_field.Tie as tie
@@ -33,10 +33,9 @@ returns-2 c e h p =
     let l = w .before .before in
     let s = l .before in
     let a = s .args in
-    let asked = pair-asked (a .job) (a .ea) e (s .pre) p in
-    signs-none (a .job) (a .ea) e
-    (record { valid = s .pre; a-finite = omega (arith, count w, c .if2 .taken); b-finite = omega (arith, count w, h); a-exponent = asked .a-exponent; b-exponent = asked .b-exponent })
-    (sym (l .signs-left .ensures (s .pre)) ∙ w .before .if1 .left)
+    signs-none (a .job) (s .pre) (fieldIs (a .ea)) (fieldIs e)
+    (record { supported = s .pre .setting .format; a-finite = omega (arith, count w, c .if2 .taken); b-finite = omega (arith, count w, h) })
+    (sym (l .signs-left .ensures) ∙ w .before .if1 .left)
     p
 
 returns-3 : tie.Need-returns-3
