@@ -4,3 +4,6 @@ pub mod RowBit
 pub mod ResultLaws
 pub mod ExactSum
 pub mod RowLaws
+pub mod AlignedTail
+pub mod AlignedColumns
+pub mod Aligned

@@ -10,7 +10,7 @@ use package.borrow.Author.Tests.{ltb-true, lt-ltb, eqb-true, eq-eqb}
 use lib.Bits.{and-le-l}
 use lib.Dec.{eqb}
 use lib.Pow.{pow-pos}
-use Rattle.columns.specs.Carry.{carry}
+use Rattle.columns.specs.Carry.{carry, combined, carryOf}
 use Rattle.columns.specs.Column.{allows}
 use Rattle.columns.specs.Machine.{run, Reached}
 use Rattle.columns.proofs.Agree.{met-whole}
@@ -19,7 +19,7 @@ use Rattle.columns.proofs.Carry.{carry-zero, sum-high, sum-total}
 use Rattle.mask.specs.declared.Mask.{Mask}
 use Rattle.mask.specs.Mask.{Meets}
 use Rattle.chain.specs.declared.Wires.{Wires}
-use Rattle.chain.specs.Chain.{combined, carryOf, Solved, Answered}
+use Rattle.chain.specs.Chain.{Solved, Answered}
 use Rattle.chain.specs.Ways.{mem}
 use Rattle.chain.specs.Walk.{servedOf, step}
 use Rattle.chain.proofs.Words.{mem-pow}

@@ -3,20 +3,12 @@
 -- z = x + constant + carry. `Solved` states that l and t answer such a question, over whole numbers and with no search.
 -- Assumes nothing.
 use mathlib.Core.Path.{_≡_}
-use mathlib.Core.Bool.{Bool, true, cond}
-use Prim.Native.Nat.{ℕ, _+_, _-_, _^_, _≤_, _<_}
-use Rattle.columns.specs.Carry.{carry, borrow}
+use mathlib.Core.Bool.{true}
+use Prim.Native.Nat.{ℕ, _+_, _^_, _≤_, _<_}
+use Rattle.columns.specs.Carry.{combined, carryOf}
 use Rattle.columns.specs.Column.{allows}
 use Rattle.mask.specs.Mask.{Meets}
 use Rattle.chain.specs.declared.Wires.{Wires}
-
--- the number on the wire x: l - t where `subtract`, else l + t
-abbrev pub combined : Bool → ℕ → ℕ → ℕ
-combined subtract l t = cond subtract (l - t) (l + t)
-
--- the first adder's borrow into position i where `subtract`, else its carry
-abbrev pub carryOf : Bool → ℕ → ℕ → ℕ → ℕ
-carryOf subtract l t i = cond subtract (borrow l t 0 i) (carry l t 0 i)
 
 -- l and t put a number of n bits that meets its mask on each wire, no difference is below 0, and each carry up to position n agrees with
 -- the mask of the carries

@@ -18,9 +18,10 @@ use Rattle.mask.specs.Mask.{Meets, raised}
 use Rattle.mask.proofs.ByBits.{value-below}
 use Rattle.columns.specs.Column.{allows}
 use Rattle.chain.specs.declared.Wires.{Wires}
-use Rattle.chain.specs.Chain.{combined, carryOf, Solved, Answered}
+use Rattle.columns.specs.Carry.{combined, carryOf}
+use Rattle.chain.specs.Chain.{Solved, Answered}
 use Rattle.outcome.specs.declared.Aligned as pair
-use Rattle.outcome.specs.Width.{columnsOf, mostRounded, shortBits}
+use Rattle.rounding.specs.Width.{columnsOf, mostRounded, shortBits}
 use Rattle.outcome.specs.Outcome.{Formed, Making}
 
 -- the wires of a question

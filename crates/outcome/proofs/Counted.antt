@@ -26,8 +26,9 @@ use Rattle.rounding.specs.Rounding.{roundOff, direction}
 use Rattle.rounding.proofs.Size.{size-zero}
 use Rattle.outcome.specs.declared.Aligned as pair
 use Rattle.outcome.specs.declared.sought.Fractions as fractions-of
-use Rattle.outcome.specs.Width.{alignedBits, sumBits, columnsOf}
-use Rattle.outcome.specs.Outcome.{roundedUnit, keptOf, boundedHeld, zeroSign, outcome, Made, Making}
+use Rattle.rounding.specs.Width.{alignedBits, sumBits, columnsOf}
+use Rattle.rounding.specs.Outcome.{roundedUnit, keptOf, boundedHeld, zeroSign, outcome}
+use Rattle.outcome.specs.Outcome.{Made, Making}
 use Rattle.outcome.specs.Question.{topped, OfDigits, wordOf, Seeks}
 use Rattle.outcome.proofs.Topped.{topped-meets, size-none, anything}
 use Rattle.outcome.proofs.Kept.{roundedBits, addedZeros, kept-shifted, kept-lt, quotient-low, quotient-high}

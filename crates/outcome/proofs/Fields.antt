@@ -24,7 +24,7 @@ use Rattle.rounding.specs.declared.Direction.{Direction}
 use Rattle.word.specs.declared.Unit as exponent
 use Rattle.word.specs.Word.{fieldOf, allOnes, signed, infinityWord}
 use Rattle.rounding.specs.Rounding.{overflowWord}
-use Rattle.outcome.specs.Outcome.{roundedUnit, keptOf, heldWord, boundedHeld}
+use Rattle.rounding.specs.Outcome.{roundedUnit, keptOf, heldWord, boundedHeld}
 use Rattle.outcome.specs.Question.{wordOf, Seeks}
 use Rattle.outcome.proofs.Topped.{anything}
 

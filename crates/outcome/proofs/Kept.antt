@@ -18,8 +18,8 @@ use Rattle.word.specs.declared.Unit as exponent
 use Rattle.rounding.specs.Rounding.{roundOff}
 use Rattle.rounding.specs.Sticky.{keptPart}
 use Rattle.rounding.proofs.RoundOff.{increment-le, round-off-none, round-off-scale}
-use Rattle.outcome.specs.Width.{guardBits, alignedBits, sumBits}
-use Rattle.outcome.specs.Outcome.{roundedUnit, keptOf}
+use Rattle.rounding.specs.Width.{guardBits, alignedBits, sumBits}
+use Rattle.rounding.specs.Outcome.{roundedUnit, keptOf}
 
 -- nothing or three bits fewer than u - k, and four bits after a carry
 pub kept-scaled : (d : Direction) (x u k : ℕ) → k ≤ suc u → keptPart d x u k ≡ roundOff d x (k + 3 - u) * 2 ^ (u - (k + 3))

@@ -19,8 +19,8 @@ use Rattle.word.specs.Word.{fieldOf, allOnes, signed}
 use Rattle.rounding.specs.Rounding.{direction, overflowWord, roundOff}
 use Rattle.rounding.proofs.Rounded.{cancelled-lt}
 use Rattle.rounding.proofs.Size.{size-zero}
-use Rattle.outcome.specs.Width.{alignedBits, sumBits}
-use Rattle.outcome.specs.Outcome.{roundedUnit, keptOf, boundedHeld, zeroSign, outcome}
+use Rattle.rounding.specs.Width.{alignedBits, sumBits}
+use Rattle.rounding.specs.Outcome.{roundedUnit, keptOf, boundedHeld, zeroSign, outcome}
 use Rattle.outcome.specs.Question.{wordOf}
 use Rattle.outcome.specs.Class.{fieldAt}
 use Rattle.outcome.proofs.Topped.{size-none}

@@ -15,7 +15,7 @@ use Rattle.mask.specs.Mask.{Meets, meets, high}
 use Rattle.mask.proofs.ByParts.{meets-parts}
 use Rattle.mask.proofs.Checks.{meets-true}
 use Rattle.rounding.proofs.Size.{size-least}
-use Rattle.chain.specs.Chain.{combined}
+use Rattle.columns.specs.Carry.{combined}
 use Rattle.outcome.specs.declared.Aligned as pair
 use Rattle.outcome.specs.Outcome.{Made}
 use Rattle.outcome.proofs.Asked.{combined-lt}

@@ -8,7 +8,7 @@ use Rattle.format.specs.declared.Format.{Format}
 use Rattle.format.specs.Format.{Supported}
 use Rattle.format.proofs.Room.{significand-room, exponent-room}
 use Rattle.word.specs.declared.Unit as exponent
-use Rattle.outcome.specs.Width.{columnsOf}
+use Rattle.rounding.specs.Width.{columnsOf}
 use Rattle.outcome.specs.Outcome.{InFormat}
 
 pub columns-lt : (F : Format) → Supported F → columnsOf (F .f) < 64

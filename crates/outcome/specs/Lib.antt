@@ -1,4 +1,3 @@
-pub mod Width
 pub mod Outcome
 pub mod Question
 pub mod Class

@@ -1,51 +1,18 @@
--- The word c that two aligned significands make, and whether some two of them make one that meets a mask. The larger operand's
--- significand L is held as H = 8 * L and the smaller one's, aligned to it, as T with guard, round and sticky bit
--- (`Rattle.rounding.specs.Sticky`); what they make is held as x = H + T or H - T. No exponent field is named: only the exponent u of the
--- larger operand's unit, on which c's exponent depends. Assumes nothing.
+-- Whether some two aligned significands make a word c that meets a mask: what they make, and its word, is `Rattle.rounding.specs.Outcome`'s.
+-- Assumes nothing.
 use mathlib.Core.Path.{_≡_}
-use mathlib.Core.Bool.{Bool, true, false, not, cond}
-use Prim.Native.Nat.{ℕ, zero, suc, _+_, _-_, _*_, _^_, _≤_, _<_}
-use lib.Dec.{ltb}
-use lib.Ieee.{size}
+use mathlib.Core.Bool.{true, false, not}
+use Prim.Native.Nat.{ℕ, _+_, _^_, _≤_, _<_}
 use Rattle.format.specs.declared.Format.{Format}
 use Rattle.format.specs.Format.{Supported}
 use Rattle.mask.specs.declared.Mask.{Mask}
 use Rattle.mask.specs.Mask.{WellFormed, Meets}
+use Rattle.columns.specs.Carry.{combined, carryOf}
 use Rattle.columns.specs.Column.{allows}
-use Rattle.chain.specs.Chain.{combined, carryOf}
-use Rattle.rounding.specs.declared.Direction as way
 use Rattle.word.specs.declared.Unit as exponent
-use Rattle.word.specs.Word.{signed, infinityWord}
-use Rattle.rounding.specs.Rounding.{direction, overflowWord, cancelledSign}
-use Rattle.rounding.specs.Sticky.{keptPart}
+use Rattle.rounding.specs.Width.{guardBits, alignedBits}
+use Rattle.rounding.specs.Outcome.{outcome}
 use Rattle.outcome.specs.declared.Aligned as pair
-use Rattle.outcome.specs.Width.{guardBits, alignedBits}
-
--- the exponent of the rounded magnitude's unit, where N is the number of digits of what holds it: so many of its low bits are dropped
-abbrev pub roundedUnit : ℕ → ℕ → exponent.Unit → exponent.Unit
-roundedUnit f N u = record { 0 = N + u .0 - alignedBits f }
-
--- the magnitude that x holds, rounded, in that unit: the fraction and what stands above it
-abbrev pub keptOf : ℕ → way.Direction → ℕ → exponent.Unit → ℕ
-keptOf f d x u = keptPart d x (u .0) (roundedUnit f (size x) u .0)
-
--- its word, as if exponents went on upward
-abbrev pub heldWord : Format → way.Direction → ℕ → exponent.Unit → ℕ
-heldWord F d x u = roundedUnit (F .f) (size x) u .0 * 2 ^ F .f + keptOf (F .f) d x u
-
--- the same within the format
-unfoldable pub boundedHeld : Format → way.Direction → ℕ → exponent.Unit → ℕ
-boundedHeld F d x u = cond (ltb (heldWord F d x u) (infinityWord F)) (heldWord F d x u) (overflowWord F d)
-
--- the sign of a zero sum: that of like operands, else that of a cancelled sum
-abbrev pub zeroSign : ℕ → Bool → ℕ → ℕ
-zeroSign mode true s = s
-zeroSign mode false s = cancelledSign mode
-
--- the word c: s is the larger operand's sign, x what the significands make
-unfoldable pub outcome : Format → ℕ → Bool → ℕ → exponent.Unit → ℕ → ℕ
-outcome F mode like s u zero = signed F (zeroSign mode like s) 0
-outcome F mode like s u (suc x) = signed F s (boundedHeld F (direction mode s) (suc x) u)
 
 -- two aligned significands that meet their masks, with carries that agree with the carry mask, make x: the carry out of bit i of the larger
 -- significand goes into bit i + 1 of it, below which the guard bits stand

@@ -16,7 +16,7 @@ ghost use Rattle.mask.specs.Mask.{Inside, Meets, raised};
 ghost use Rattle.mask.specs.declared.Mask.{Mask};
 ghost use Rattle.rounding.specs.declared.Direction.the-variants.{Nearest};
 ghost use Rattle.rounding.specs.Rounding.{roundOff};
-ghost use Rattle.outcome.specs.Width.{columnsOf, mostRounded, shortBits};
+ghost use Rattle.rounding.specs.Width.{columnsOf, mostRounded, shortBits};
 ghost use Rattle.outcome.specs.Outcome.{Formed, Making};
 
 // Whether they make a number that meets x and, with a constant and a carry added, z. The carry out of bit i of the larger significand is the

@@ -5,7 +5,6 @@ use crate::ask::rounds;
 use crate::masks;
 use crate::sought::Fractions;
 use crate::sought::sought;
-use crate::sought::zero_word;
 use crate::width::ALIGNED;
 use crate::width::COLUMNS;
 use crate::width::GUARD_BITS;
@@ -13,8 +12,11 @@ use bits::minus;
 use format::Format;
 use mask::Mask;
 use rounding::Direction;
+use rounding::mode::direction;
+use rounding::mode::zero_sign;
 use word::Unit;
 use word::exponent::field_of;
+use word::pack::signed;
 ghost use mathlib.Core.Bool.{true, cond};
 ghost use mathlib.Core.Logic.{_↔_};
 ghost use mathlib.Core.Path.{_≡_};
@@ -25,8 +27,9 @@ ghost use Rattle.format.specs.Format.{Supported};
 ghost use Rattle.mask.specs.Mask.{Meets};
 ghost use Rattle.word.specs.declared.Unit.{Unit};
 ghost use Rattle.word.specs.Word.{signed};
-ghost use Rattle.outcome.specs.Width.{alignedBits, sumBits, columnsOf};
-ghost use Rattle.outcome.specs.Outcome.{roundedUnit, keptOf, boundedHeld, outcome, InFormat, Formed, Making};
+ghost use Rattle.rounding.specs.Width.{alignedBits, sumBits, columnsOf};
+ghost use Rattle.rounding.specs.Outcome.{roundedUnit, keptOf, boundedHeld, outcome};
+ghost use Rattle.outcome.specs.Outcome.{InFormat, Formed, Making};
 
 // The exponent of the unit of what they make, rounded, where that has so many digits.
 fn rounded_unit(f: u64, count: u64, unit: Unit) -> Unit
@@ -122,7 +125,7 @@ fn at_zero(format: Format, mode: u64, sign: u64, aligned: Aligned, c: Mask) -> b
     requires { ⌜ Supported format × (sign < 2) ⌝ }
     ensures { λ r. ⌜ (Formed (format .f) aligned → (unit : Unit) → (r ≡ true) ↔ Making (format .f) aligned (λ (x : ℕ). (size x ≡ 0) × Meets (outcome format mode (aligned .like) sign unit x) c)) ⌝ }
 {
-    if mask::meets(c, zero_word(format, mode, aligned.like, sign)) {
+    if mask::meets(c, signed(format, zero_sign(mode, aligned.like, sign), 0)) {
         let x = masks::digits(format.f + COLUMNS, 0);
         let z = Mask { care: 0, value: 0 };
         return ask(aligned, format.f, x, z, 0, 0);
@@ -146,6 +149,6 @@ pub(crate) fn fits(
     if count == 0 {
         return at_zero(format, mode, sign, aligned, c);
     }
-    let direction = rounding::mode::direction(mode, sign);
+    let direction = direction(mode, sign);
     at_count(format, direction, sign, unit, aligned, c, count)
 }

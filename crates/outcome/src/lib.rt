@@ -20,7 +20,7 @@ ghost use mathlib.Core.Path.{_≡_};
 ghost use Prim.Native.Nat.{ℕ, _^_, _≤_, _<_};
 ghost use lib.Ieee.{size};
 ghost use Rattle.mask.specs.Mask.{Meets};
-ghost use Rattle.outcome.specs.Width.{alignedBits, smallBits, sumBits, columnsOf};
+ghost use Rattle.rounding.specs.Width.{alignedBits, smallBits, sumBits, columnsOf};
 ghost use Rattle.outcome.specs.Outcome.{Made, Admits, InFormat, Formed};
 
 // The masks of two aligned significands and of their carries; like tells whether they are added.

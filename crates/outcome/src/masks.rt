@@ -3,7 +3,7 @@ use mask::Mask;
 ghost use mathlib.Core.Path.{_≡_};
 ghost use Prim.Native.Nat.{_+_, _^_, _≤_, _<_};
 ghost use Rattle.mask.specs.Mask.{raised};
-ghost use Rattle.outcome.specs.Width.{mostRounded, shortBits};
+ghost use Rattle.rounding.specs.Width.{mostRounded, shortBits};
 ghost use Rattle.outcome.specs.Question.{topped, OfDigits};
 
 // The mask moved up by d places.

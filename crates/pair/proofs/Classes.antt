@@ -1,8 +1,8 @@
 -- Pairs of one class have one answer: what a pair admits, the pair that stands for its class admits too, with c's exponent field moved by
 -- as much as the unit. Assumes nothing.
 use mathlib.Core.Logic.{_⊎_, inl, inr, ⊎-elim}
-use mathlib.Core.Path.{_≡_, refl, sym, ap, _∙_, subst, subst₂}
-use mathlib.Core.Bool.{Bool, not, cond}
+use mathlib.Core.Path.{_≡_, refl, sym, ap, ap₂, _∙_, subst, subst₂}
+use mathlib.Core.Bool.{Bool, cond}
 use Prim.Native.Nat.{ℕ, zero, suc, _+_, _-_, _^_, _≤_, _<_}
 use native.Mathlib.Nat.{mod-lt}
 use native.Mathlib.Decide.{decLe, ℕ-discrete}
@@ -18,28 +18,27 @@ use Rattle.mask.specs.Mask.{Meets, WellFormed}
 use Rattle.mask.proofs.ByParts.{fraction-formed}
 use Rattle.job.specs.declared.Job.{Job}
 use Rattle.job.specs.Job.{Valid}
+use Rattle.word.specs.declared.Biased.{Biased}
 use Rattle.word.specs.declared.Unit as exponent
-use Rattle.word.specs.Word.{allOnes, signed}
+use Rattle.word.specs.Word.{unitOf, allOnes, signed}
 use Rattle.rounding.specs.Rounding.{direction, overflowWord}
-use Rattle.significand.specs.Significand.{significandMask}
 use Rattle.significand.specs.Tail.{tailMask}
-use Rattle.chain.specs.Chain.{combined}
 use Rattle.outcome.specs.declared.Aligned as pair
-use Rattle.outcome.specs.Outcome.{outcome, Admits}
-use Rattle.outcome.specs.Outcome.{Made}
+use Rattle.rounding.specs.Outcome.{outcome}
+use Rattle.outcome.specs.Outcome.{Made, Admits}
 use Rattle.outcome.specs.Class.{fieldAt}
 use Rattle.outcome.proofs.Topped.{size-none}
 use Rattle.outcome.proofs.Range.{made-most}
 use Rattle.outcome.proofs.Moved.{classUnit, Moved, moved}
+use Rattle.pair.specs.declared.Side.{Side}
 use Rattle.word.specs.Masks.{signMask, exponentMask, fractionMask}
-use Rattle.pair.specs.Asked.{PairFits}
-use Rattle.pair.specs.Pair.{unitAt, alignedOf, Larger, turned, Posed, SomeSigns, Finites}
-use Rattle.pair.specs.Class.{lowField, classOf, aField, bField, smallField, leastField, withExponent, asking, onlyField, ClassAdmits, Classed}
-use Rattle.pair.proofs.Aligning.{low-le, low-two, low-same, fields-a, fields-b, head-same, far, aligned-same, made-long}
+use Rattle.special.specs.Asked.{fieldIs, PairFits}
+use Rattle.pair.specs.Pair.{FiniteSide, significandsOf, gapOf, alignedOf, Larger, Sums, sideA, sideB, SomeSigns, FinitePair}
+use Rattle.pair.specs.Class.{lowField, classOf, aField, bField, smallField, leastField, atField, withExponent, asking, onlyField, ClassAdmits, Classed}
+use Rattle.pair.proofs.Aligning.{low-le, low-two, low-same, fields-at, fields-past, head-same, far, aligned-same, made-long}
 use Rattle.pair.proofs.ClassMasks.{past-never, asking-meets, own-meets, anyField, asking-less}
-use Rattle.pair.proofs.Finites.{pair-signs, signs-pair}
+use Rattle.pair.proofs.Finites.{finite-a, finite-b, pair-finite}
 
--- ---- one order of the operands: e is the larger exponent field, g the other
 pub only-formed : (F : Format) (i : ℕ) → i ≤ allOnes F → WellFormed (F .w) (onlyField F i)
 only-formed F i h = record { below = omega (arith, pow-pos (F .w)); inside = lib.Bits.and-mask i (F .w) ∙ native.Mathlib.Nat.mod-eq-of-lt (omega (arith, pow-pos (F .w))) }
 
@@ -49,58 +48,66 @@ pub record Reached (j : Job) (E r : ℕ) (P : Mask → Type 0) : Type 0 where
   pub field : ℕ
   pub most : field ≤ j .setting .format .f + 6
   pub least : r ≤ j .setting .format .f + 2 → j .setting .format .f + 3 ≤ field
-  pub meets : Meets (fieldAt (j .setting .format .f) (unitAt E .0) field) (exponentMask (j .setting .format) (j .c .mask))
+  pub meets : Meets (fieldAt (j .setting .format .f) (unitOf (fieldIs E) .0) field) (exponentMask (j .setting .format) (j .c .mask))
   pub holds : P (onlyField (j .setting .format) field)
 
-module _ (j : Job) (valid : Valid j) where
+reached-map : (j : Job) (E r : ℕ) (P Q : Mask → Type 0) → ((i : Mask) → P i → Q i) → Reached j E r P → Reached j E r Q
+reached-map j E r P Q h p = record { field = p .field; most = p .most; least = p .least; meets = p .meets; holds = h (onlyField (j .setting .format) (p .field)) (p .holds) }
+
+-- ---- two sides, of which x has the larger exponent field
+module _ (j : Job) (valid : Valid j) (x y : Side) (fx : FiniteSide (j .setting .format) x) (fy : FiniteSide (j .setting .format) y)
+    (classed : Classed (j .setting .format) (j .c .mask) (x .exponent .0) (y .exponent .0)) (under : y .exponent .0 ≤ x .exponent .0) where
   abbrev f : ℕ
   f = j .setting .format .f
 
-  -- a pair of the class and the one that stands for it: e is the larger exponent field, g the other
-  module _ (like : Bool) (s e : ℕ) (m : Mask) (g : ℕ) (n : Mask) (hs : s < 2) (fm : WellFormed f m) (fn : WellFormed f n) (classed : Classed (j .setting .format) (j .c .mask) e g) (under : g ≤ e) where
-    abbrev standing : pair.Aligned
-    standing = alignedOf (j .setting .format) like (j .carries) m (f + 4) n (lowField f e g)
+  abbrev low : ℕ
+  low = lowField f (x .exponent .0) (y .exponent .0)
 
-    pub large : 1 ≤ e
-    large = ⊎-elim (λ h. omega arith) (λ h. omega arith) (classed .normal)
+  -- those of the pair that stands for the class
+  abbrev x′ : Side
+  x′ = atField x (fieldIs (f + 4))
 
-    pub class-aligned : alignedOf (j .setting .format) like (j .carries) m e n g ≡ standing
-    class-aligned = aligned-same (j .setting .format) (valid .setting .format) like (j .carries) m n e g fm fn large (⊎-elim inl (λ h. inr (h .0)) (classed .normal)) under
+  abbrev y′ : Side
+  y′ = atField y (fieldIs low)
 
-    module _ (x : ℕ) (made : Made f standing x) where
-      pub long : lowField f e g ≤ f + 2 → f + 3 ≤ size x
-      long l =
-          let four : f + 4 ≡ suc (f + 3) = omega arith in
-          made-long (j .setting .format) (valid .setting .format) like (j .carries) m n (f + 3) (lowField f e g) x fm fn (omega arith)
-          (subst (λ (t : ℕ). Made f (alignedOf (j .setting .format) like (j .carries) m t n (lowField f e g)) x) four made)
+  some : 1 ≤ x .exponent .0
+  some = ⊎-elim (λ h. omega arith) (λ h. omega arith) (classed .normal)
 
-      reach : Dec (x ≡ 0) → (x ≡ 0) ⊎ (f + 4 ≤ size x + unitAt e .0)
-      reach (yes z) = inl z
-      reach (no z) = inr (digits (size x) refl)
-        where
-          digits : (d : ℕ) → size x ≡ d → f + 4 ≤ size x + unitAt e .0
-          digits zero z′ = absurd (z (size-none x .0 z′))
-          digits (suc d) z′ = ⊎-elim (λ h. omega arith) (λ h. let l = long (low-two f e g (h .0) (h .1)) in omega arith) (classed .normal)
+  class-aligned : alignedOf (j .setting .format) (j .carries) x y ≡ alignedOf (j .setting .format) (j .carries) x′ y′
+  class-aligned = aligned-same (j .setting .format) (valid .setting .format) (j .carries) x y (fx .formed) (fy .formed) some (⊎-elim inl (λ h. inr (h .0)) (classed .normal)) under
 
-      -- the word of a sum moves with the unit
-      pub sum-moved : (unitAt e .0 + 4 ≤ allOnes (j .setting .format)) ⊎ (outcome (j .setting .format) (j .setting .mode) like s (unitAt e) x ≡ signed (j .setting .format) s (overflowWord (j .setting .format) (direction (j .setting .mode) s)) → ⊥)
-          → Moved (j .setting .format) (j .setting .mode) like s (unitAt e) x
-      sum-moved within = moved (j .setting .format) (j .setting .mode) like s (unitAt e) hs (classed .wide) x (made-most f standing x made) (reach (ℕ-discrete x 0)) within
+  module _ (n : ℕ) (made : Made f (alignedOf (j .setting .format) (j .carries) x′ y′) n) where
+    long : low ≤ f + 2 → f + 3 ≤ size n
+    long l = made-long (j .setting .format) (valid .setting .format) (j .carries) x′ y′ n (fx .formed) (fy .formed) (omega arith) (omega arith) made
 
-  larger-moved : (like : Bool) (s e : ℕ) (m : Mask) (g : ℕ) (n : Mask) → s < 2 → WellFormed f m → WellFormed f n → Classed (j .setting .format) (j .c .mask) e g
-      → Larger j like s e m g n → Reached j e (lowField f e g) (λ (i : Mask). Larger (asking j i) like s (f + 4) m (lowField f e g) n)
-  larger-moved like s e m g n hs fm fn classed (order, a) = record {
+    reach : Dec (n ≡ 0) → (n ≡ 0) ⊎ (f + 4 ≤ size n + unitOf (x .exponent) .0)
+    reach (yes z) = inl z
+    reach (no z) = inr (digits (size n) refl)
+      where
+        digits : (d : ℕ) → size n ≡ d → f + 4 ≤ size n + unitOf (x .exponent) .0
+        digits zero z′ = absurd (z (size-none n .0 z′))
+        digits (suc d) z′ = ⊎-elim (λ h. omega arith) (λ h. let l = long (low-two f (x .exponent .0) (y .exponent .0) (h .0) (h .1)) in omega arith) (classed .normal)
+
+    -- the word of a sum moves with the unit
+    sum-moved : (unitOf (x .exponent) .0 + 4 ≤ allOnes (j .setting .format)) ⊎ (outcome (j .setting .format) (j .setting .mode) (eqb (x .sign) (y .sign)) (x .sign) (unitOf (x .exponent)) n ≡ signed (j .setting .format) (x .sign) (overflowWord (j .setting .format) (direction (j .setting .mode) (x .sign))) → ⊥)
+        → Moved (j .setting .format) (j .setting .mode) (eqb (x .sign) (y .sign)) (x .sign) (unitOf (x .exponent)) n
+    sum-moved within =
+        moved (j .setting .format) (j .setting .mode) (eqb (x .sign) (y .sign)) (x .sign) (unitOf (x .exponent)) (fx .sign-lt) (classed .wide) n
+        (made-most f (alignedOf (j .setting .format) (j .carries) x′ y′) n made) (reach (ℕ-discrete n 0)) within
+
+  pub larger-moved : Larger j x y → Reached j (x .exponent .0) low (λ (i : Mask). Larger (asking j i) x′ y′)
+  larger-moved (order, a) = record {
     field = w .field;
     most = w .most;
-    least = λ l. w .least (long like s e m g n hs fm fn classed under (k .x) (k .made) l);
+    least = λ l. w .least (long (k .x) (k .made) l);
     meets = own .1;
     holds = (
-      lower g under,
+      lower (y .exponent .0) under,
       record {
         x = k .x;
         made = k .made;
-        holds = subst (λ (v : ℕ). Meets v (withExponent F (j .c .mask) (onlyField F (w .field)))) (sym (w .there) ∙ ap (λ (u : exponent.Unit). outcome F (j .setting .mode) like s u (k .x)) up)
-            (asking-meets F (j .c .mask) (onlyField F (w .field)) (valid .c .mask) formed (w .sign) (w .field) (w .fraction) small (w .fraction-lt) .1 (own .0, only-formed F (w .field) (omega (arith, w .most, classed .wide)) .inside, own .2));
+        holds = subst (λ (v : ℕ). Meets v (withExponent F c (onlyField F (w .field)))) (sym (w .there) ∙ ap (λ (u : exponent.Unit). outcome F mode like s u (k .x)) up)
+            (asking-meets F c (onlyField F (w .field)) (valid .c .mask) formed (w .sign) (w .field) (w .fraction) small (w .fraction-lt) .1 (own .0, formed .inside, own .2));
       },
     );
   }
@@ -108,221 +115,219 @@ module _ (j : Job) (valid : Valid j) where
       F : Format
       F = j .setting .format
 
-      some : 1 ≤ e
-      some = ⊎-elim (λ h. omega arith) (λ h. omega arith) (classed .normal)
+      mode : ℕ
+      mode = j .setting .mode
 
-      under : g ≤ e
-      under = omega (arith, order, some)
+      c : Mask
+      c = j .c .mask
 
-      A′ : pair.Aligned
-      A′ = alignedOf F like (j .carries) m (f + 4) n (lowField f e g)
+      s : ℕ
+      s = x .sign
 
-      k : Rattle.outcome.specs.Outcome.Making f A′ (λ (x : ℕ). Meets (outcome F (j .setting .mode) like s (unitAt e) x) (j .c .mask))
-      k = subst (λ (A : pair.Aligned). Admits F (j .setting .mode) s (unitAt e) A (j .c .mask)) (class-aligned like s e m g n hs fm fn classed under) a
+      like : Bool
+      like = eqb (x .sign) (y .sign)
 
-      w : Moved F (j .setting .mode) like s (unitAt e) (k .x)
+      u : exponent.Unit
+      u = unitOf (x .exponent)
+
+      k : Admits F mode s u (alignedOf F (j .carries) x′ y′) c
+      k = subst (λ (A : pair.Aligned). Admits F mode s u A c) class-aligned a
+
+      w : Moved F mode like s u (k .x)
       w =
-          sum-moved like s e m g n hs fm fn classed under (k .x) (k .made)
-          (⊎-elim (λ l. inl (omega (arith, some))) (λ never. inr (λ is. past-never F (j .c .mask) never (direction (j .setting .mode) s) s (omega (arith, classed .wide)) (subst (λ (v : ℕ). Meets v (j .c .mask)) is (k .holds)))) (classed .within))
+          sum-moved (k .x) (k .made)
+          (⊎-elim (λ l. inl (omega (arith, some))) (λ never. inr (λ is. past-never F c never (direction mode s) s (omega (arith, classed .wide)) (subst (λ (v : ℕ). Meets v c) is (k .holds)))) (classed .within))
 
       formed : WellFormed (F .w) (onlyField F (w .field))
       formed = only-formed F (w .field) (omega (arith, w .most, classed .wide))
 
-      own : Meets (w .sign) (signMask F (j .c .mask)) × Meets (fieldAt f (unitAt e .0) (w .field)) (exponentMask F (j .c .mask)) × Meets (w .fraction) (fractionMask F (j .c .mask))
+      own : Meets (w .sign) (signMask F c) × Meets (fieldAt f (u .0) (w .field)) (exponentMask F c) × Meets (w .fraction) (fractionMask F c)
       own =
-          own-meets F (j .c .mask) (onlyField F (w .field)) (valid .c .mask) formed (w .sign) (fieldAt f (unitAt e .0) (w .field)) (w .fraction) (w .sign-lt) (w .within) (w .fraction-lt) .0
-          (subst (λ (v : ℕ). Meets v (j .c .mask)) (w .here) (k .holds))
+          own-meets F c (onlyField F (w .field)) (valid .c .mask) formed (w .sign) (fieldAt f (u .0) (w .field)) (w .fraction) (w .sign-lt) (w .within) (w .fraction-lt) .0
+          (subst (λ (v : ℕ). Meets v c) (w .here) (k .holds))
 
       small : w .field < 2 ^ F .w
       small = omega (arith, w .most, classed .wide)
 
-      up : classUnit f ≡ unitAt (f + 4)
+      up : classUnit f ≡ unitOf (fieldIs (f + 4))
       up = ap unit (omega arith)
         where
           unit : ℕ → exponent.Unit
           unit n = record { 0 = n }
 
-      lower : (g : ℕ) → g ≤ e → unitAt (lowField f e g) .0 ≤ unitAt (f + 4) .0
+      lower : (g : ℕ) → g ≤ x .exponent .0 → lowField f (x .exponent .0) g - 1 ≤ f + 4 - 1
       lower zero l = omega arith
       lower (suc g) l = omega arith
 
-  -- both orders
-  abbrev Both : ℕ → ℕ → ℕ → ℕ → Job → Type 0
-  Both ea eb sa sb j′ =
-      Larger j′ (eqb sa (turned (j .setting .operation) sb)) sa ea (fractionMask (j .setting .format) (j .a .mask)) eb (fractionMask (j .setting .format) (j .b .mask))
-      ⊎ Larger j′ (eqb (turned (j .setting .operation) sb) sa) (turned (j .setting .operation) sb) eb (fractionMask (j .setting .format) (j .b .mask)) ea (fractionMask (j .setting .format) (j .a .mask))
+-- the one or the other side is the larger operand: the one with the smaller field only where the fields are equal
+pub sums-moved : (j : Job) → Valid j → (x y : Side) → FiniteSide (j .setting .format) x → FiniteSide (j .setting .format) y → Classed (j .setting .format) (j .c .mask) (x .exponent .0) (y .exponent .0)
+    → y .exponent .0 ≤ x .exponent .0 → Sums j x y
+    → Reached j (x .exponent .0) (lowField (j .setting .format .f) (x .exponent .0) (y .exponent .0))
+    (λ (i : Mask). Sums (asking j i) (atField x (fieldIs (j .setting .format .f + 4))) (atField y (fieldIs (lowField (j .setting .format .f) (x .exponent .0) (y .exponent .0)))))
+sums-moved j valid x y fx fy classed under (inl l) =
+    reached-map j (x .exponent .0) (lowField f (x .exponent .0) (y .exponent .0)) (λ (i : Mask). Larger (asking j i) (atField x (fieldIs (f + 4))) (atField y (fieldIs (lowField f (x .exponent .0) (y .exponent .0)))))
+    (λ (i : Mask). Sums (asking j i) (atField x (fieldIs (f + 4))) (atField y (fieldIs (lowField f (x .exponent .0) (y .exponent .0)))))
+    (λ i p. inl p) (larger-moved j valid x y fx fy classed under l)
+  where
+    f : ℕ
+    f = j .setting .format .f
+sums-moved j valid x y fx fy classed under (inr l) = ⊎-elim both (λ h. absurd (omega (arith, l .0))) (classed .normal)
+  where
+    f : ℕ
+    f = j .setting .format .f
 
-  module _ (ea eb sa sb : ℕ) (ha : sa < 2) (P : Posed j ea eb sa sb) where
-    abbrev t : ℕ
-    t = turned (j .setting .operation) sb
+    E : ℕ
+    E = x .exponent .0
 
-    ma : WellFormed f (fractionMask (j .setting .format) (j .a .mask))
-    ma = fraction-formed (j .setting .format .w) f (j .a .mask) (valid .a .mask)
+    both : f + 4 ≤ E
+        → Reached j E (lowField f E (y .exponent .0)) (λ (i : Mask). Sums (asking j i) (atField x (fieldIs (f + 4))) (atField y (fieldIs (lowField f E (y .exponent .0)))))
+    both h =
+        let same : y .exponent .0 ≡ E = omega (arith, l .0) in
+        let top = low-same f E h in
+        let r = larger-moved j valid y x fy fx (record { wide = classed .wide; normal = inl (omega arith); within = subst (λ (n : ℕ). (n + 3 ≤ allOnes (j .setting .format)) ⊎ Rattle.pair.specs.Class.NeverPast (j .setting .format) (j .c .mask)) (sym same) (classed .within) }) (omega arith) l in
+        let x-low : lowField f (y .exponent .0) E ≡ f + 4 = ap (λ (n : ℕ). lowField f n E) same ∙ top in
+        let y-low : f + 4 ≡ lowField f E (y .exponent .0) = sym top ∙ ap (lowField f E) (sym same) in
+        record {
+          field = r .field;
+          most = r .most;
+          least = λ q. absurd (omega arith);
+          meets = subst (λ (n : ℕ). Meets (fieldAt f (n - 1) (r .field)) (exponentMask (j .setting .format) (j .c .mask))) same (r .meets);
+          holds = inr (subst₂ (λ (u v : ℕ). Larger (asking j (onlyField (j .setting .format) (r .field))) (atField y (fieldIs u)) (atField x (fieldIs v))) y-low x-low (r .holds));
+        }
 
-    mb : WellFormed f (fractionMask (j .setting .format) (j .b .mask))
-    mb = fraction-formed (j .setting .format .w) f (j .b .mask) (valid .b .mask)
-
-    -- the pair that stands for the class, with the signs
-    posing : (E r : ℕ) → Reached j E r (λ (i : Mask). Both (aField f (classOf f ea eb)) (bField f (classOf f ea eb)) sa sb (asking j i))
-        → Reached j E r (λ (i : Mask). Posed (asking j i) (aField f (classOf f ea eb)) (bField f (classOf f ea eb)) sa sb)
-    posing E r p = record { field = p .field; most = p .most; least = p .least; meets = p .meets; holds = record { a-sign = P .a-sign; b-sign = P .b-sign; sums = p .holds } }
-
-    -- a's exponent field is not the smaller one
-    module _ (l : eb ≤ ea) where
-      a-is : f + 4 ≡ aField f (classOf f ea eb)
-      a-is = fields-a f ea eb l .0
-
-      b-is : lowField f ea eb ≡ bField f (classOf f ea eb)
-      b-is = fields-a f ea eb l .1
-
-      pub a-larger : Classed (j .setting .format) (j .c .mask) ea eb → Reached j ea (lowField f ea eb) (λ (i : Mask). Posed (asking j i) (aField f (classOf f ea eb)) (bField f (classOf f ea eb)) sa sb)
-      a-larger classed = posing ea (lowField f ea eb) (⊎-elim first second (P .sums))
-        where
-          moved-to : (x y : ℕ) → f + 4 ≡ x → lowField f ea eb ≡ y → Reached j ea (lowField f ea eb) (λ (i : Mask). Both (f + 4) (lowField f ea eb) sa sb (asking j i)) → Reached j ea (lowField f ea eb) (λ (i : Mask). Both x y sa sb (asking j i))
-          moved-to x y ex ey r = subst₂ (λ (u v : ℕ). Reached j ea (lowField f ea eb) (λ (i : Mask). Both u v sa sb (asking j i))) ex ey r
-
-          first : Larger j (eqb sa t) sa ea (fractionMask (j .setting .format) (j .a .mask)) eb (fractionMask (j .setting .format) (j .b .mask)) → Reached j ea (lowField f ea eb) (λ (i : Mask). Both (aField f (classOf f ea eb)) (bField f (classOf f ea eb)) sa sb (asking j i))
-          first p =
-              let r = larger-moved (eqb sa t) sa ea (fractionMask (j .setting .format) (j .a .mask)) eb (fractionMask (j .setting .format) (j .b .mask)) ha ma mb classed p in
-              moved-to (aField f (classOf f ea eb)) (bField f (classOf f ea eb)) a-is b-is (record { field = r .field; most = r .most; least = r .least; meets = r .meets; holds = inl (r .holds) })
-
-          second : Larger j (eqb t sa) t eb (fractionMask (j .setting .format) (j .b .mask)) ea (fractionMask (j .setting .format) (j .a .mask)) → Reached j ea (lowField f ea eb) (λ (i : Mask). Both (aField f (classOf f ea eb)) (bField f (classOf f ea eb)) sa sb (asking j i))
-          second p = ⊎-elim both (λ h. absurd (omega (arith, p .0))) (classed .normal)
-            where
-              both : f + 4 ≤ ea → Reached j ea (lowField f ea eb) (λ (i : Mask). Both (aField f (classOf f ea eb)) (bField f (classOf f ea eb)) sa sb (asking j i))
-              both h =
-                  let same : eb ≡ ea = omega (arith, p .0) in
-                  let q = subst (λ (e : ℕ). Larger j (eqb t sa) t e (fractionMask (j .setting .format) (j .b .mask)) ea (fractionMask (j .setting .format) (j .a .mask))) same p in
-                  let r = larger-moved (eqb t sa) t ea (fractionMask (j .setting .format) (j .b .mask)) ea (fractionMask (j .setting .format) (j .a .mask)) (mod-lt (sb + j .setting .operation) (omega arith)) mb ma (record { wide = classed .wide; normal = inl h; within = classed .within }) q in
-                  let top = low-same f ea h in
-                  let b-top : f + 4 ≡ bField f (classOf f ea eb) = sym top ∙ ap (lowField f ea) (sym same) ∙ b-is in
-                  let a-top : lowField f ea ea ≡ aField f (classOf f ea eb) = top ∙ a-is in
-                  record {
-                    field = r .field;
-                    most = r .most;
-                    least = λ l. r .least (subst (λ (e : ℕ). lowField f ea e ≤ f + 2) same l);
-                    meets = r .meets;
-                    holds = inr (subst₂ (λ (u v : ℕ). Larger (asking j (onlyField (j .setting .format) (r .field))) (eqb t sa) t u (fractionMask (j .setting .format) (j .b .mask)) v (fractionMask (j .setting .format) (j .a .mask))) b-top a-top (r .holds));
-                  }
-
-    -- b's is the larger one
-    module _ (l : ea < eb) where
-      b-then : f + 4 ≡ bField f (classOf f ea eb)
-      b-then = fields-b f ea eb l .0
-
-      a-then : lowField f eb ea ≡ aField f (classOf f ea eb)
-      a-then = fields-b f ea eb l .1
-
-      pub b-larger : Classed (j .setting .format) (j .c .mask) eb ea → Reached j eb (lowField f eb ea) (λ (i : Mask). Posed (asking j i) (aField f (classOf f ea eb)) (bField f (classOf f ea eb)) sa sb)
-      b-larger classed = posing eb (lowField f eb ea) (⊎-elim (λ p. absurd (⊎-elim (λ h. omega (arith, p .0)) (λ h. omega (arith, p .0)) (classed .normal))) second (P .sums))
-        where
-          second : Larger j (eqb t sa) t eb (fractionMask (j .setting .format) (j .b .mask)) ea (fractionMask (j .setting .format) (j .a .mask)) → Reached j eb (lowField f eb ea) (λ (i : Mask). Both (aField f (classOf f ea eb)) (bField f (classOf f ea eb)) sa sb (asking j i))
-          second p =
-              let r = larger-moved (eqb t sa) t eb (fractionMask (j .setting .format) (j .b .mask)) ea (fractionMask (j .setting .format) (j .a .mask)) (mod-lt (sb + j .setting .operation) (omega arith)) mb ma classed p in
-              record {
-                field = r .field;
-                most = r .most;
-                least = r .least;
-                meets = r .meets;
-                holds = inr (subst₂ (λ (u v : ℕ). Larger (asking j (onlyField (j .setting .format) (r .field))) (eqb t sa) t u (fractionMask (j .setting .format) (j .b .mask)) v (fractionMask (j .setting .format) (j .a .mask))) b-then a-then (r .holds));
-              }
+-- the sum of exchanged sides
+exchanged : (j : Job) (x y : Side) → Sums j x y → Sums j y x
+exchanged j x y (inl l) = inr l
+exchanged j x y (inr l) = inl l
 
 -- what is reached of a class
 pub record ClassReached (j : Job) (E k : ℕ) : Type 0 where
   pub field : ℕ
   pub most : field ≤ j .setting .format .f + 6
   pub least : leastField (j .setting .format .f) k ≤ field
-  pub meets : Meets (fieldAt (j .setting .format .f) (unitAt E .0) field) (exponentMask (j .setting .format) (j .c .mask))
+  pub meets : Meets (fieldAt (j .setting .format .f) (unitOf (fieldIs E) .0) field) (exponentMask (j .setting .format) (j .c .mask))
   pub holds : ClassAdmits j k (onlyField (j .setting .format) field)
 
 -- ---- a pair that fits, and its class
-module _ (j : Job) (ea eb : ℕ) (fin : Finites j ea eb) (P : PairFits j ea eb) where
-  abbrev own : SomeSigns j ea eb
-  own = pair-signs j ea eb fin P
+module _ (j : Job) (valid : Valid j) (ea eb : ℕ) (fin : FinitePair (j .setting .format) (fieldIs ea) (fieldIs eb)) (P : PairFits j (fieldIs ea) (fieldIs eb)) where
+  own : SomeSigns j (fieldIs ea) (fieldIs eb)
+  own = pair-finite j valid (fieldIs ea) (fieldIs eb) fin .0 P .2
 
-  abbrev class : ℕ
-  class = classOf (j .setting .format .f) ea eb
-
-  -- the smaller field of the pair that stands for the class
-  small-is : (r : ℕ) → ((class ≡ r) × (r ≤ j .setting .format .f + 4)) ⊎ (class ≡ j .setting .format .f + 5 + r) → smallField (j .setting .format .f) class ≡ r
-  small-is r (inl (e, l)) = rw (e, le-leb r (j .setting .format .f + 4) l)
-  small-is r (inr e) = rw (e, lt-leb (j .setting .format .f + 5 + r) (j .setting .format .f + 4) (omega arith)) (omega arith)
-
-  least-is : (r i : ℕ) → smallField (j .setting .format .f) class ≡ r → (r ≤ j .setting .format .f + 2 → j .setting .format .f + 3 ≤ i) → leastField (j .setting .format .f) class ≤ i
-  least-is r i e h = rw e (go (decLe r (j .setting .format .f + 2)))
-    where
-      go : Dec (r ≤ j .setting .format .f + 2) → cond (leb r (j .setting .format .f + 2)) (j .setting .format .f + 3) 0 ≤ i
-      go (yes l) = rw (le-leb r (j .setting .format .f + 2) l) (h l)
-      go (no l) = rw (lt-leb r (j .setting .format .f + 2) (omega arith)) (omega arith)
-
-  classing : (E r : ℕ) → smallField (j .setting .format .f) class ≡ r
-      → Reached j E r (λ (i : Mask). Posed (asking j i) (aField (j .setting .format .f) class) (bField (j .setting .format .f) class) (own .sa) (own .sb))
-      → ClassReached j E class
-  classing E r e p = record {
+  -- the class k, whose pair has the fields of a and b, and r as the smaller one
+  classing : (E k r A B : ℕ) → aField (j .setting .format .f) k ≡ A → bField (j .setting .format .f) k ≡ B → smallField (j .setting .format .f) k ≡ r
+      → Reached j E r (λ (i : Mask). Sums (asking j i) (sideA j (own .sa) (fieldIs A)) (sideB j (own .sb) (fieldIs B)))
+      → ClassReached j E k
+  classing E k r A B ea eb er p = record {
     field = p .field;
     most = p .most;
-    least = least-is r (p .field) e (p .least);
+    least = rw er (go (decLe r (j .setting .format .f + 2)));
     meets = p .meets;
-    holds = record { sa = own .sa; sb = own .sb; sa-lt = own .sa-lt; sb-lt = own .sb-lt; posed = p .holds };
+    holds = record {
+      sa = own .sa;
+      sb = own .sb;
+      sa-lt = own .sa-lt;
+      sb-lt = own .sb-lt;
+      posed = record {
+        a-sign = own .posed .a-sign;
+        b-sign = own .posed .b-sign;
+        sums = subst₂ (λ (u v : ℕ). Sums (asking j (onlyField (j .setting .format) (p .field))) (sideA j (own .sa) (fieldIs u)) (sideB j (own .sb) (fieldIs v))) (sym ea) (sym eb) (p .holds);
+      };
+    };
   }
+    where
+      go : Dec (r ≤ j .setting .format .f + 2) → cond (leb r (j .setting .format .f + 2)) (j .setting .format .f + 3) 0 ≤ p .field
+      go (yes l) = rw (le-leb r (j .setting .format .f + 2) l) (p .least l)
+      go (no l) = rw (lt-leb r (j .setting .format .f + 2) (omega arith)) (omega arith)
 
   -- the larger of the exponent fields is E, the other e
-  pub class-reached : (E e : ℕ) → ((E ≡ ea) × (e ≡ eb) × (eb ≤ ea)) ⊎ ((E ≡ eb) × (e ≡ ea) × (ea < eb)) → Classed (j .setting .format) (j .c .mask) E e → ClassReached j E class
+  pub class-reached : (E e : ℕ) → ((E ≡ ea) × (e ≡ eb) × (eb ≤ ea)) ⊎ ((E ≡ eb) × (e ≡ ea) × (ea < eb)) → Classed (j .setting .format) (j .c .mask) E e
+      → ClassReached j E (classOf (j .setting .format .f) ea eb)
   class-reached E e (inl (is, js, l)) classed =
-      subst (λ (e : ℕ). ClassReached j e class) (sym is)
-      (classing ea (lowField (j .setting .format .f) ea eb) (small-is (lowField (j .setting .format .f) ea eb) (inl (rw (le-leb eb ea l), low-le (j .setting .format .f) ea eb l)))
-      (a-larger j (fin .valid) ea eb (own .sa) (own .sb) (own .sa-lt) (own .posed) l (subst₂ (Classed (j .setting .format) (j .c .mask)) is js classed)))
+      let f = j .setting .format .f in
+      let r = lowField f ea eb in
+      let k = fields-at f r (low-le f ea eb l) in
+      rw (is, le-leb eb ea l)
+      (classing ea r r (f + 4) r (k .0) (k .1) (k .2)
+      (sums-moved j valid (sideA j (own .sa) (fieldIs ea)) (sideB j (own .sb) (fieldIs eb)) (finite-a j valid (fieldIs ea) (fieldIs eb) fin (own .sa) (own .sa-lt)) (finite-b j valid (fieldIs ea) (fieldIs eb) fin (own .sb))
+      (subst₂ (Classed (j .setting .format) (j .c .mask)) is js classed) l (own .posed .sums)))
   class-reached E e (inr (is, js, l)) classed =
-      subst (λ (e : ℕ). ClassReached j e class) (sym is)
-      (classing eb (lowField (j .setting .format .f) eb ea) (small-is (lowField (j .setting .format .f) eb ea) (inr (rw (lt-leb eb ea l))))
-      (b-larger j (fin .valid) ea eb (own .sa) (own .sb) (own .sa-lt) (own .posed) l (subst₂ (Classed (j .setting .format) (j .c .mask)) is js classed)))
+      let f = j .setting .format .f in
+      let r = lowField f eb ea in
+      let k = fields-past f r in
+      let A = sideA j (own .sa) (fieldIs ea) in
+      let B = sideB j (own .sb) (fieldIs eb) in
+      rw (is, lt-leb eb ea l)
+      (classing eb (f + 5 + r) r r (f + 4) (k .0) (k .1) (k .2)
+      (reached-map j eb r (λ (i : Mask). Sums (asking j i) (atField B (fieldIs (f + 4))) (atField A (fieldIs r))) (λ (i : Mask). Sums (asking j i) (atField A (fieldIs r)) (atField B (fieldIs (f + 4))))
+      (λ i s. exchanged (asking j i) (atField B (fieldIs (f + 4))) (atField A (fieldIs r)) s)
+      (sums-moved j valid B A (finite-b j valid (fieldIs ea) (fieldIs eb) fin (own .sb)) (finite-a j valid (fieldIs ea) (fieldIs eb) fin (own .sa) (own .sa-lt))
+      (subst₂ (Classed (j .setting .format) (j .c .mask)) is js classed) (omega arith) (exchanged j A B (own .posed .sums)))))
 
 -- ---- a class that admits nothing at all has no exponent field of c
 module _ (j : Job) (k i : ℕ) (valid : Valid j) (l : i ≤ allOnes (j .setting .format)) where
-  abbrev only : Job
-  only = asking j (onlyField (j .setting .format) i)
-
-  larger-less : (like : Bool) (s e : ℕ) (m : Mask) (g : ℕ) (n : Mask) → Larger only like s e m g n → Larger (asking j anyField) like s e m g n
-  larger-less like s e m g n (order, a) = (
+  larger-less : (x y : Side) → Larger (asking j (onlyField (j .setting .format) i)) x y → Larger (asking j anyField) x y
+  larger-less x y (order, a) = (
     order,
     record {
       x = a .x;
       made = a .made;
-      holds = asking-less (j .setting .format) (j .c .mask) (onlyField (j .setting .format) i) (valid .c .mask) (only-formed (j .setting .format) i l) (outcome (j .setting .format) (j .setting .mode) like s (unitAt e) (a .x)) (a .holds);
+      holds = asking-less (j .setting .format) (j .c .mask) (onlyField (j .setting .format) i) (valid .c .mask) (only-formed (j .setting .format) i l)
+          (outcome (j .setting .format) (j .setting .mode) (eqb (x .sign) (y .sign)) (x .sign) (unitOf (x .exponent)) (a .x)) (a .holds);
     },
   )
 
   pub class-less : ClassAdmits j k (onlyField (j .setting .format) i) → ClassAdmits j k anyField
-  class-less S = record {
-    sa = S .sa;
-    sb = S .sb;
-    sa-lt = S .sa-lt;
-    sb-lt = S .sb-lt;
-    posed = record {
-      a-sign = S .posed .a-sign;
-      b-sign = S .posed .b-sign;
-      sums = ⊎-elim (λ p. inl (larger-less _ _ _ _ _ _ p)) (λ p. inr (larger-less _ _ _ _ _ _ p)) (S .posed .sums);
-    };
-  }
+  class-less S =
+      let a = sideA j (S .sa) (fieldIs (aField (j .setting .format .f) k)) in
+      let b = sideB j (S .sb) (fieldIs (bField (j .setting .format .f) k)) in
+      record {
+        sa = S .sa;
+        sb = S .sb;
+        sa-lt = S .sa-lt;
+        sb-lt = S .sb-lt;
+        posed = record {
+          a-sign = S .posed .a-sign;
+          b-sign = S .posed .b-sign;
+          sums = ⊎-elim (λ p. inl (larger-less a b p)) (λ p. inr (larger-less b a p)) (S .posed .sums);
+        };
+      }
 
 -- ---- two pairs with a far gap and the same larger exponent field have one answer
-module _ (j : Job) (E e g : ℕ) (some : 1 ≤ e) (other : 1 ≤ g) (far-e : e + (j .setting .format .f + 3) ≤ E) (far-g : g + (j .setting .format .f + 3) ≤ E) where
-  far-larger : (like : Bool) (s : ℕ) (m n : Mask) → Valid j → WellFormed (j .setting .format .f) n → Larger j like s E m g n → Larger j like s E m e n
-  far-larger like s m n valid formed (order, a) =
-      (omega arith, subst (λ (t : Mask). Admits F (j .setting .mode) s (unitAt E) (record { like = like; head = tailMask (precision F) (significandMask (F .f) m E) 0; tail = t; carries = j .carries }) (j .c .mask)) same a)
+module _ (j : Job) (valid : Valid j) (x y : Side) (formed : WellFormed (j .setting .format .f) (y .fraction)) (g : ℕ) (some : 1 ≤ g) (far-g : g + (j .setting .format .f + 3) ≤ x .exponent .0)
+    (other : 1 ≤ y .exponent .0) (far-y : y .exponent .0 + (j .setting .format .f + 3) ≤ x .exponent .0) where
+  far-sums : Sums j x y → Sums j x (atField y (fieldIs g))
+  far-sums (inr l) = absurd (omega (arith, l .0))
+  far-sums (inl (order, a)) =
+      inl
+      (omega arith, subst (λ (t : Mask). Admits F (j .setting .mode) (x .sign) (unitOf (x .exponent)) (record { like = eqb (x .sign) (y .sign); head = tailMask (precision F) (significandsOf F x) 0; tail = t; carries = j .carries }) (j .c .mask)) same a)
     where
       F : Format
       F = j .setting .format
 
-      same : tailMask (precision F) (significandMask (F .f) n g) (unitAt E .0 - unitAt g .0) ≡ tailMask (precision F) (significandMask (F .f) n e) (unitAt E .0 - unitAt e .0)
+      same : tailMask (precision F) (significandsOf F y) (gapOf x y) ≡ tailMask (precision F) (significandsOf F (atField y (fieldIs g))) (gapOf x (atField y (fieldIs g)))
       same =
-          far F (valid .setting .format) n formed g (unitAt E .0 - unitAt g .0) (unitAt E .0 - unitAt e .0) (omega arith) (omega arith)
-          ∙ ap (λ (k : Mask). tailMask (precision F) k (unitAt E .0 - unitAt e .0)) (head-same F (valid .setting .format) n formed g e other some)
+          far F (valid .setting .format) (y .fraction) formed (y .exponent) (gapOf x y) (gapOf x (atField y (fieldIs g))) (omega arith) (omega arith)
+          ∙ ap (λ (k : Mask). tailMask (precision F) k (gapOf x (atField y (fieldIs g)))) (head-same F (valid .setting .format) (y .fraction) formed (y .exponent) (fieldIs g) other some)
 
-  pub far-a : Finites j E g → Finites j E e → PairFits j E g → PairFits j E e
-  far-a fin-g fin-e p =
-      let S = pair-signs j E g fin-g p in
-      signs-pair j E e fin-e (record {
+-- the pair of a larger field E and another field e: a has the larger one where the order is 0, else b
+abbrev pub Ordered : Job → ℕ → ℕ → ℕ → Type 0
+Ordered j zero E e = PairFits j (fieldIs E) (fieldIs e)
+Ordered j (suc o) E e = PairFits j (fieldIs e) (fieldIs E)
+
+-- the mask of the exponent field of the operand with the smaller field
+abbrev pub smallerMask : Job → ℕ → Mask
+smallerMask j zero = exponentMask (j .setting .format) (j .b .mask)
+smallerMask j (suc o) = exponentMask (j .setting .format) (j .a .mask)
+
+pub far-pair : (j : Job) → Valid j → (o E e g : ℕ) → E < allOnes (j .setting .format) → 1 ≤ e → 1 ≤ g → e + (j .setting .format .f + 3) ≤ E → g + (j .setting .format .f + 3) ≤ E
+    → Meets g (smallerMask j o) → Ordered j o E e → Ordered j o E g
+far-pair j valid zero E e g below some other far-e far-g met P =
+    let p = pair-finite j valid (fieldIs E) (fieldIs e) (record { supported = valid .setting .format; a-finite = below; b-finite = omega arith }) .0 P in
+    let S = p .2 in
+    pair-finite j valid (fieldIs E) (fieldIs g) (record { supported = valid .setting .format; a-finite = below; b-finite = omega arith }) .1 (
+      p .0,
+      met,
+      record {
         sa = S .sa;
         sb = S .sb;
         sa-lt = S .sa-lt;
@@ -330,14 +335,17 @@ module _ (j : Job) (E e g : ℕ) (some : 1 ≤ e) (other : 1 ≤ g) (far-e : e +
         posed = record {
           a-sign = S .posed .a-sign;
           b-sign = S .posed .b-sign;
-          sums = ⊎-elim (λ l. inl (far-larger _ _ _ _ (fin-g .valid) (fraction-formed (j .setting .format .w) (j .setting .format .f) (j .b .mask) (fin-g .valid .b .mask)) l)) (λ l. absurd (omega (arith, l .0))) (S .posed .sums);
+          sums = far-sums j valid (sideA j (S .sa) (fieldIs E)) (sideB j (S .sb) (fieldIs e)) (fraction-formed (j .setting .format .w) (j .setting .format .f) (j .b .mask) (valid .b .mask)) g other far-g some far-e (S .posed .sums);
         };
-      })
-
-  pub far-b : Finites j g E → Finites j e E → PairFits j g E → PairFits j e E
-  far-b fin-g fin-e p =
-      let S = pair-signs j g E fin-g p in
-      signs-pair j e E fin-e (record {
+      },
+    )
+far-pair j valid (suc o) E e g below some other far-e far-g met P =
+    let p = pair-finite j valid (fieldIs e) (fieldIs E) (record { supported = valid .setting .format; a-finite = omega arith; b-finite = below }) .0 P in
+    let S = p .2 in
+    pair-finite j valid (fieldIs g) (fieldIs E) (record { supported = valid .setting .format; a-finite = omega arith; b-finite = below }) .1 (
+      met,
+      p .1,
+      record {
         sa = S .sa;
         sb = S .sb;
         sa-lt = S .sa-lt;
@@ -345,6 +353,8 @@ module _ (j : Job) (E e g : ℕ) (some : 1 ≤ e) (other : 1 ≤ g) (far-e : e +
         posed = record {
           a-sign = S .posed .a-sign;
           b-sign = S .posed .b-sign;
-          sums = ⊎-elim (λ l. absurd (omega (arith, l .0))) (λ l. inr (far-larger _ _ _ _ (fin-g .valid) (fraction-formed (j .setting .format .w) (j .setting .format .f) (j .a .mask) (fin-g .valid .a .mask)) l)) (S .posed .sums);
+          sums = exchanged j (sideB j (S .sb) (fieldIs E)) (sideA j (S .sa) (fieldIs g))
+              (far-sums j valid (sideB j (S .sb) (fieldIs E)) (sideA j (S .sa) (fieldIs e)) (fraction-formed (j .setting .format .w) (j .setting .format .f) (j .a .mask) (valid .a .mask)) g other far-g some far-e (exchanged j (sideA j (S .sa) (fieldIs e)) (sideB j (S .sb) (fieldIs E)) (S .posed .sums)));
         };
-      })
+      },
+    )

@@ -1,12 +1,5 @@
-pub mod Tail
-pub mod Columns
-pub mod Sum
-pub mod Summed
-pub mod Words
+pub mod Numbers
 pub mod Finites
-pub mod SpecialWords
-pub mod SpecialLaws
-pub mod SpecialKinds
 pub mod Aligning
 pub mod ClassMasks
 pub mod Classes

@@ -17,6 +17,7 @@ use Rattle.mask.proofs.ByParts.{meets-fields}
 use Rattle.job.specs.declared.Job.{Job}
 use Rattle.job.specs.Job.{Valid}
 use Rattle.rounding.specs.declared.Direction.{Direction}
+use Rattle.word.specs.declared.Biased.{Biased}
 use Rattle.word.specs.declared.Unit as exponent
 use Rattle.word.specs.Word.{signed, infinityWord}
 use Rattle.rounding.specs.Rounding.{direction, overflowWord}
@@ -24,12 +25,14 @@ use Rattle.word.proofs.Bounds.{infinity-lt}
 use Rattle.rounding.proofs.Rounded.{overflow-le}
 use Rattle.word.proofs.Fields.{signed-sign}
 use Rattle.outcome.specs.declared.Aligned as pair
-use Rattle.outcome.specs.Outcome.{heldWord, boundedHeld, outcome, Admits}
+use Rattle.rounding.specs.Outcome.{heldWord, boundedHeld, outcome}
+use Rattle.outcome.specs.Outcome.{Admits}
 use Rattle.word.specs.Masks.{signMask}
-use Rattle.pair.specs.Asked.{PairFits}
-use Rattle.pair.specs.Pair.{turned, Posed, SomeSigns, Finites}
+use Rattle.special.specs.Asked.{PairFits}
+use Rattle.pair.specs.declared.Side.{Side}
+use Rattle.pair.specs.Pair.{Larger, turned, sideA, sideB, Posed, FinitePair}
 use Rattle.pair.specs.Signs.{signLeft, signsLeft}
-use Rattle.pair.proofs.Finites.{pair-signs}
+use Rattle.pair.proofs.Finites.{pair-finite}
 
 module _ (F : Format) (ok : Supported F) where
   bounded-lt : (d : Direction) (x : ℕ) (u : exponent.Unit) → boundedHeld F d x u < 2 ^ (F .w + F .f)
@@ -54,7 +57,11 @@ module _ (F : Format) (ok : Supported F) where
   like-sign mode s u A c h hs like a =
       like-outcome mode s u (a .x) c h hs (subst (λ (t : Bool). Meets (outcome F mode t s u (a .x)) c) like (a .holds))
 
-module _ (j : Job) (v : Valid j) (ea eb : ℕ) where
+module _ (j : Job) (v : Valid j) (ea eb : Biased) where
+  -- the larger side's sign is that of c
+  larger-sign : (x y : Side) → x .sign < 2 → x .sign ≡ y .sign → Larger j x y → Meets (x .sign) (signMask (j .setting .format) (j .c .mask))
+  larger-sign x y hs e l = like-sign (j .setting .format) (v .setting .format) (j .setting .mode) (x .sign) _ _ (j .c .mask) (v .c .mask) hs (eq-eqb (x .sign) (y .sign) e) (l .1)
+
   posed-left : (sa sb : ℕ) → sa < 2 → sb < 2 → Posed j ea eb sa sb → signLeft j sa sb ≡ true
   unfolding signLeft
   posed-left sa sb ha hb P =
@@ -64,11 +71,10 @@ module _ (j : Job) (v : Valid j) (ea eb : ℕ) where
     where
       of-c : sa ≡ turned (j .setting .operation) sb → Meets sa (signMask (j .setting .format) (j .c .mask))
       of-c e =
-          ⊎-elim
-          (λ s. like-sign (j .setting .format) (v .setting .format) (j .setting .mode) sa _ _ (j .c .mask) (v .c .mask) ha (eq-eqb sa (turned (j .setting .operation) sb) e) (s .1))
-          (λ s.
+          ⊎-elim (larger-sign (sideA j sa ea) (sideB j sb eb) ha e)
+          (λ l.
           subst (λ (n : ℕ). Meets n (signMask (j .setting .format) (j .c .mask))) (sym e)
-          (like-sign (j .setting .format) (v .setting .format) (j .setting .mode) (turned (j .setting .operation) sb) _ _ (j .c .mask) (v .c .mask) (mod-lt (sb + j .setting .operation) (omega arith)) (eq-eqb (turned (j .setting .operation) sb) sa (sym e)) (s .1)))
+          (larger-sign (sideB j sb eb) (sideA j sa ea) (mod-lt (sb + j .setting .operation) (omega arith)) (sym e) l))
           (P .sums)
 
       go : (t : Bool) → eqb sa (turned (j .setting .operation) sb) ≡ t → (not t || meets sa (signMask (j .setting .format) (j .c .mask))) ≡ true
@@ -90,8 +96,8 @@ left-some j zero (suc (suc n)) ha hb q = absurd (omega (arith, hb))
 left-some j (suc zero) (suc (suc n)) ha hb q = absurd (omega (arith, hb))
 left-some j (suc (suc n)) sb ha hb q = absurd (omega (arith, ha))
 
-pub signs-none : (j : Job) (ea eb : ℕ) → Finites j ea eb → signsLeft j ≡ false → PairFits j ea eb → ⊥
-signs-none j ea eb fin none P =
-    let S = pair-signs j ea eb fin P in
-    let some = left-some j (S .sa) (S .sb) (S .sa-lt) (S .sb-lt) (posed-left j (fin .valid) ea eb (S .sa) (S .sb) (S .sa-lt) (S .sb-lt) (S .posed)) in
+pub signs-none : (j : Job) → Valid j → (ea eb : Biased) → FinitePair (j .setting .format) ea eb → signsLeft j ≡ false → PairFits j ea eb → ⊥
+signs-none j valid ea eb fin none P =
+    let S = pair-finite j valid ea eb fin .0 P .2 in
+    let some = left-some j (S .sa) (S .sb) (S .sa-lt) (S .sb-lt) (posed-left j valid ea eb (S .sa) (S .sb) (S .sa-lt) (S .sb-lt) (S .posed)) in
     false≢true (sym none ∙ some)

@@ -7,14 +7,17 @@ use mathlib.Core.Logic.{_⊎_}
 use Prim.Native.Nat.{ℕ, zero, suc, _+_, _-_, _*_, _^_, _≤_, _<_}
 use lib.Dec.{leb}
 use Rattle.format.specs.declared.Format.{Format}
+use Rattle.format.specs.Format.{Supported}
 use Rattle.mask.specs.declared.Mask.{Mask}
 use Rattle.mask.specs.Mask.{Meets, WellFormed}
 use Rattle.job.specs.declared.Job.{Job}
 use Rattle.job.specs.declared.Role.the-variants.{C}
-use Rattle.job.specs.Job.{Valid}
 use Rattle.job.specs.Role.{withWanted, withMask}
 use Rattle.word.specs.Word.{allOnes}
-use Rattle.word.specs.Masks.{signMask, exponentMask, fractionMask}
+use Rattle.word.specs.declared.Biased.{Biased}
+use Rattle.pair.specs.declared.Side.{Side}
+use Rattle.word.specs.Masks.{signMask, fractionMask}
+use Rattle.special.specs.Asked.{fieldIs}
 use Rattle.pair.specs.Pair.{SomeSigns}
 
 -- the smaller field of the pair that stands for a class, whose larger one is f + 4: where the larger field is E and the smaller one e, as
@@ -42,6 +45,10 @@ smallField f k = cond (leb k (f + 4)) k (k - (f + 5))
 abbrev pub leastField : ℕ → ℕ → ℕ
 leastField f k = cond (leb (smallField f k) (f + 2)) (f + 3) 0
 
+-- a side with another exponent field
+abbrev pub atField : Side → Biased → Side
+atField x e = record { sign = x .sign; exponent = e; fraction = x .fraction }
+
 -- the mask c with another mask on its exponent field
 unfoldable pub withExponent : Format → Mask → Mask → Mask
 withExponent F c n = record {
@@ -59,14 +66,13 @@ onlyField F i = record { care = allOnes F; value = i }
 
 -- the pair that stands for the class k admits a case, where n is asked of c's exponent field
 abbrev pub ClassAdmits : Job → ℕ → Mask → Type 0
-ClassAdmits j k n = SomeSigns (asking j n) (aField (j .setting .format .f) k) (bField (j .setting .format .f) k)
+ClassAdmits j k n = SomeSigns (asking j n) (fieldIs (aField (j .setting .format .f) k)) (fieldIs (bField (j .setting .format .f) k))
 
--- what a question about a class states
-pub record ClassAsked (j : Job) (k : ℕ) (n : Mask) : Type 0 where
-  pub valid : Valid j
-  pub wide : j .setting .format .f + 9 ≤ allOnes (j .setting .format)
-  pub class-lt : k < 2 * (j .setting .format .f + 5)
-  pub formed : WellFormed (j .setting .format .w) n
+-- a supported format has the class k, and fields enough for the pair that stands for it
+pub record ClassIn (F : Format) (k : ℕ) : Type 0 where
+  pub supported : Supported F
+  pub wide : F .f + 9 ≤ allOnes F
+  pub class-lt : k < 2 * (F .f + 5)
 
 -- no word past the largest finite number meets c: those have the fraction 0 or all ones
 pub record NeverPast (F : Format) (c : Mask) : Type 0 where

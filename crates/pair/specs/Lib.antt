@@ -1,5 +1,3 @@
-pub mod Asked
 pub mod Pair
 pub mod Signs
-pub mod Special
 pub mod Class

@@ -1,28 +1,29 @@
 // The pair of exponent fields that stands for a class of pairs.
-use crate::finite::some_signs;
-use crate::special::word_of;
+use crate::finite::finite_admits;
 use bits::power;
 use format::Format;
+use format::format_cause;
 use job::Job;
 use job::Role;
-use job::job_cause;
 use job::words::with_mask;
 use job::words::with_wanted;
 use mask::Mask;
-use mask::mask_cause;
+use word::Biased;
 use word::masks::fraction_mask;
 use word::masks::sign_mask;
+use word::pack::word_of;
 ghost use mathlib.Core.Bool.{true};
 ghost use mathlib.Core.Logic.{_↔_};
 ghost use mathlib.Core.Path.{_≡_};
-ghost use Prim.Native.Nat.{_+_, _*_, _≤_, _<_};
+ghost use Prim.Native.Nat.{_+_, _<_};
 ghost use Rattle.format.specs.Format.{Supported, wordBits};
 ghost use Rattle.mask.specs.Mask.{WellFormed};
-ghost use Rattle.pair.specs.Class.{aField, bField, withExponent, asking, ClassAdmits, ClassAsked};
+ghost use Rattle.job.specs.Job.{Valid};
+ghost use Rattle.pair.specs.Class.{aField, bField, withExponent, asking, ClassAdmits, ClassIn};
 
 // a's exponent field.
 fn a_field(f: u64, k: u64) -> u64
-    requires { ⌜ f ≤ 23 ⌝ }
+    requires { ⌜ f + 5 < 64 ⌝ }
     ensures { λ r. ⌜ r ≡ aField f k ⌝ }
 {
     if k <= f + 4 { f + 4 } else { k - (f + 5) }
@@ -30,7 +31,7 @@ fn a_field(f: u64, k: u64) -> u64
 
 // b's.
 fn b_field(f: u64, k: u64) -> u64
-    requires { ⌜ f ≤ 23 ⌝ }
+    requires { ⌜ f + 5 < 64 ⌝ }
     ensures { λ r. ⌜ r ≡ bField f k ⌝ }
 {
     if k <= f + 4 { k } else { f + 4 }
@@ -38,8 +39,7 @@ fn b_field(f: u64, k: u64) -> u64
 
 // The mask c with another mask on its exponent field.
 fn with_exponent(format: Format, c: Mask, n: Mask) -> Mask
-    requires { ⌜ Supported format × WellFormed (wordBits format) c × WellFormed (format .w) n ⌝ }
-    ensures { λ r. ⌜ r ≡ withExponent format c n ⌝ }
+    ensures { λ r. ⌜ (Supported format → WellFormed (wordBits format) c → WellFormed (format .w) n → r ≡ withExponent format c n) ⌝ }
 {
     let sign = sign_mask(format, c);
     let fraction = fraction_mask(format, c);
@@ -50,38 +50,37 @@ fn with_exponent(format: Format, c: Mask, n: Mask) -> Mask
 
 // The job that asks for another mask of c's exponent field.
 fn asking(job: Job, n: Mask) -> Job
-    requires { ⌜ Supported (job .setting .format) × WellFormed (wordBits (job .setting .format)) (job .c .mask) × WellFormed (job .setting .format .w) n ⌝ }
-    ensures { λ r. ⌜ r ≡ asking job n ⌝ }
+    ensures { λ r. ⌜ (Supported (job .setting .format) → WellFormed (wordBits (job .setting .format)) (job .c .mask) → WellFormed (job .setting .format .w) n → r ≡ asking job n) ⌝ }
 {
-    let asked = with_exponent(job.setting.format, job.c.mask, n);
-    with_wanted(job, Role::C, with_mask(job.c, asked))
+    let wanted = with_mask(job.c, with_exponent(job.setting.format, job.c.mask, n));
+    with_wanted(job, Role::C, wanted)
 }
 
-// Whether a question about a class may be put.
-fn asked(job: Job, k: u64, n: Mask) -> bool
-    ensures { λ r. ⌜ (r ≡ true) ↔ ClassAsked job k n ⌝ }
+// Whether a supported format has the class k, and fields enough for the pair that stands for it.
+fn class_in(format: Format, k: u64) -> bool
+    ensures { λ r. ⌜ (r ≡ true) ↔ ClassIn format k ⌝ }
 {
-    if job_cause(job) != 0 {
+    if format_cause(format) != 0 {
         return false;
     }
-    if mask_cause(job.setting.format.w, n) != 0 {
+    if power(format.w) - 1 < format.f + 9 {
         return false;
     }
-    (job.setting.format.f + 9 <= power(job.setting.format.w) - 1)
-        & (k < 2 * (job.setting.format.f + 5))
+    k < 2 * (format.f + 5)
 }
 
-// Whether the pair that stands for the class k admits a case, where n is asked of c's exponent field; false where the job is not valid, its
-// format has no such pair, or there is no such class or mask.
+// Whether the pair that stands for the class k admits a case, where n is asked of c's exponent field; false where there is no such class or
+// pair. For a job with a malformed mask, and for a malformed n, the answer is free: a job is tested once, where the generator is asked.
 pub fn class_admits(job: Job, k: u64, n: Mask) -> bool
-    ensures { λ r. ⌜ (ClassAsked job k n → (r ≡ true) ↔ ClassAdmits job k n) ⌝ }
+    ensures in_format { λ r. ⌜ (r ≡ true → ClassIn (job .setting .format) k) ⌝ }
+    ensures exact { λ r. ⌜ (Valid job → WellFormed (job .setting .format .w) n → ClassIn (job .setting .format) k → (r ≡ true) ↔ ClassAdmits job k n) ⌝ }
 {
-    if !asked(job, k, n) {
+    if !class_in(job.setting.format, k) {
         return false;
     }
-    some_signs(
+    finite_admits(
         asking(job, n),
-        a_field(job.setting.format.f, k),
-        b_field(job.setting.format.f, k),
+        Biased(a_field(job.setting.format.f, k)),
+        Biased(b_field(job.setting.format.f, k)),
     )
 }

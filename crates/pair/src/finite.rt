@@ -1,52 +1,48 @@
 // Two finite operands.
+use crate::Side;
+use bits::power;
+use format::Format;
+use format::format_cause;
 use job::Job;
-use mask::Mask;
 use mask::meets;
 use outcome::Aligned;
 use outcome::admits;
 use significand::significand_mask;
 use significand::tail_mask;
 use word::Biased;
-use word::Unit;
 use word::exponent::unit_of;
+use word::masks::exponent_mask;
 use word::masks::fraction_mask;
 use word::masks::sign_mask;
 ghost use mathlib.Core.Bool.{true};
+ghost use mathlib.Core.Logic.{_↔_};
 ghost use mathlib.Core.Path.{_≡_};
-ghost use Prim.Native.Nat.{_≤_, _<_};
+ghost use Prim.Native.Nat.{_<_};
 ghost use Rattle.format.specs.Format.{Supported};
-ghost use Rattle.mask.specs.Mask.{Meets, WellFormed};
 ghost use Rattle.job.specs.Job.{Valid};
-ghost use Rattle.word.specs.Word.{allOnes};
-ghost use Rattle.outcome.specs.Outcome.{Admits};
-ghost use Rattle.word.specs.Masks.{exponentMask, fractionMask};
-ghost use Rattle.pair.specs.Asked.{PairFits};
-ghost use Rattle.pair.specs.Pair.{unitAt, alignedOf, FinitePair, SomeSigns, Finites, Larger, turned, Posed};
+ghost use Rattle.special.specs.Asked.{PairFits};
+ghost use Rattle.pair.specs.Pair.{FiniteSide, Larger, sideA, sideB, Posed, SomeSigns, FinitePair};
 
-// The exponent of the unit that goes with an exponent field.
-fn unit_at(e: u64) -> Unit
-    ensures { λ r. ⌜ r ≡ unitAt e ⌝ }
+// Whether two operands, x the larger, sum as the job asks.
+fn larger(job: Job, x: Side, y: Side) -> bool
+    requires { ⌜ Supported (job .setting .format) ⌝ }
+    ensures { λ r. ⌜ (Valid job → FiniteSide (job .setting .format) x → FiniteSide (job .setting .format) y → (r ≡ true) ↔ Larger job x y) ⌝ }
 {
-    unit_of(Biased(e))
-}
-
-// Whether two operands, the one with the exponent field e and the fraction mask m the larger, sum as the job asks; `sign` is the
-// larger one's.
-fn larger(job: Job, like: bool, sign: u64, e: u64, m: Mask, g: u64, n: Mask) -> bool
-    requires { ⌜ Valid job × (sign < 2) × (e < allOnes (job .setting .format)) × (g < allOnes (job .setting .format)) × WellFormed (job .setting .format .f) m × WellFormed (job .setting .format .f) n ⌝ }
-    ensures { λ r. ⌜ (r ≡ true → Larger job like sign e m g n) × (Larger job like sign e m g n → r ≡ true) ⌝ }
-{
-    let u = unit_at(e);
-    let v = unit_at(g);
+    let u = unit_of(x.exponent);
+    let v = unit_of(y.exponent);
     if u.0 < v.0 {
         return false;
     }
-    let p = job.setting.format.f + 1;
-    let head = tail_mask(p, significand_mask(job.setting.format.f, m, e), 0);
-    let tail = tail_mask(p, significand_mask(job.setting.format.f, n, g), u.0 - v.0);
+    let f = job.setting.format.f;
+    let head = tail_mask(f + 1, significand_mask(f, x.fraction, x.exponent), 0);
+    let tail = tail_mask(
+        f + 1,
+        significand_mask(f, y.fraction, y.exponent),
+        u.0 - v.0,
+    );
     let carries = job.carries;
     let aligned = Aligned {
-        like,
+        like: x.sign == y.sign,
         head,
         tail,
         carries,
@@ -54,17 +50,42 @@ fn larger(job: Job, like: bool, sign: u64, e: u64, m: Mask, g: u64, n: Mask) -> 
     admits(
         job.setting.format,
         job.setting.mode,
-        sign,
+        x.sign,
         u,
         aligned,
         job.c.mask,
     )
 }
 
-// Whether a case with these signs and exponent fields fits.
-fn signs_admit(job: Job, sa: u64, ea: u64, sb: u64, eb: u64) -> bool
-    requires { ⌜ FinitePair job ea eb × (sa < 2) × (sb < 2) ⌝ }
-    ensures { λ r. ⌜ (r ≡ true → Posed job ea eb sa sb) × (Posed job ea eb sa sb → r ≡ true) ⌝ }
+// What is asked of a, by its sign and exponent field.
+fn side_a(job: Job, sign: u64, exponent: Biased) -> Side
+    ensures { λ r. ⌜ r ≡ sideA job sign exponent ⌝ }
+{
+    let fraction = fraction_mask(job.setting.format, job.a.mask);
+    Side {
+        sign,
+        exponent,
+        fraction,
+    }
+}
+
+// What is asked of b; subtracting turns its sign.
+fn side_b(job: Job, sign: u64, exponent: Biased) -> Side
+    requires { ⌜ sign < 2 ⌝ }
+    ensures { λ r. ⌜ r ≡ sideB job sign exponent ⌝ }
+{
+    let fraction = fraction_mask(job.setting.format, job.b.mask);
+    Side {
+        sign: (sign + job.setting.operation % 2) % 2,
+        exponent,
+        fraction,
+    }
+}
+
+// Whether a case with these exponent fields and signs fits.
+fn signs_admit(job: Job, ea: Biased, eb: Biased, sa: u64, sb: u64) -> bool
+    requires { ⌜ FinitePair (job .setting .format) ea eb × (sa < 2) × (sb < 2) ⌝ }
+    ensures { λ r. ⌜ (Valid job → (r ≡ true) ↔ Posed job ea eb sa sb) ⌝ }
 {
     if !meets(sign_mask(job.setting.format, job.a.mask), sa) {
         return false;
@@ -72,36 +93,67 @@ fn signs_admit(job: Job, sa: u64, ea: u64, sb: u64, eb: u64) -> bool
     if !meets(sign_mask(job.setting.format, job.b.mask), sb) {
         return false;
     }
-    let m = fraction_mask(job.setting.format, job.a.mask);
-    let n = fraction_mask(job.setting.format, job.b.mask);
-    let sign = (sb + job.setting.operation) % 2;
-    if larger(job, sa == sign, sa, ea, m, eb, n) {
+    let x = side_a(job, sa, ea);
+    let y = side_b(job, sb, eb);
+    if larger(job, x, y) {
         return true;
     }
-    larger(job, sign == sa, sign, eb, n, ea, m)
+    larger(job, y, x)
 }
 
-// Whether a case with these exponent fields, both finite, is posed by some signs; their masks are not asked.
-pub(crate) fn some_signs(job: Job, ea: u64, eb: u64) -> bool
-    requires { ⌜ FinitePair job ea eb ⌝ }
-    ensures { λ r. ⌜ (r ≡ true → SomeSigns job ea eb) × (SomeSigns job ea eb → r ≡ true) ⌝ }
+// Whether some two signs pose a case with these exponent fields.
+fn some_signs(job: Job, ea: Biased, eb: Biased) -> bool
+    requires { ⌜ FinitePair (job .setting .format) ea eb ⌝ }
+    ensures { λ r. ⌜ (Valid job → (r ≡ true) ↔ SomeSigns job ea eb) ⌝ }
 {
-    if signs_admit(job, 0, ea, 0, eb) {
+    if signs_admit(job, ea, eb, 0, 0) {
         return true;
     }
-    if signs_admit(job, 0, ea, 1, eb) {
+    if signs_admit(job, ea, eb, 0, 1) {
         return true;
     }
-    if signs_admit(job, 1, ea, 0, eb) {
+    if signs_admit(job, ea, eb, 1, 0) {
         return true;
     }
-    signs_admit(job, 1, ea, 1, eb)
+    signs_admit(job, ea, eb, 1, 1)
 }
 
-// Whether a case with these exponent fields, both finite, fits.
-pub(crate) fn finite_pair(job: Job, ea: u64, eb: u64) -> bool
-    requires { ⌜ Finites job ea eb ⌝ }
-    ensures { λ r. ⌜ (r ≡ true → PairFits job ea eb) × (PairFits job ea eb → r ≡ true) ⌝ }
+// Whether the exponent fields are those of finite operands of a supported format.
+pub(crate) fn finite_fields(format: Format, ea: Biased, eb: Biased) -> bool
+    ensures { λ r. ⌜ (r ≡ true) ↔ FinitePair format ea eb ⌝ }
 {
+    if format_cause(format) != 0 {
+        return false;
+    }
+    let ones = power(format.w) - 1;
+    if ones <= ea.0 {
+        return false;
+    }
+    eb.0 < ones
+}
+
+// Whether some two signs pose a case with these exponent fields, both finite, whose masks are not asked; false where they are no such
+// fields. For a job with a malformed mask the answer is free: a job is tested once, where the generator is asked.
+pub fn finite_admits(job: Job, ea: Biased, eb: Biased) -> bool
+    ensures finite { λ r. ⌜ (r ≡ true → FinitePair (job .setting .format) ea eb) ⌝ }
+    ensures exact { λ r. ⌜ (Valid job → FinitePair (job .setting .format) ea eb → (r ≡ true) ↔ SomeSigns job ea eb) ⌝ }
+{
+    if !finite_fields(job.setting.format, ea, eb) {
+        return false;
+    }
+    some_signs(job, ea, eb)
+}
+
+// Whether a case with these exponent fields fits.
+pub(crate) fn finite_pair(job: Job, ea: Biased, eb: Biased) -> bool
+    requires { ⌜ FinitePair (job .setting .format) ea eb ⌝ }
+    ensures { λ r. ⌜ (Valid job → (r ≡ true) ↔ PairFits job ea eb) ⌝ }
+{
+    if !meets(exponent_mask(job.setting.format, job.a.mask), ea.0) {
+        return false;
+    }
+    if !meets(exponent_mask(job.setting.format, job.b.mask), eb.0) {
+        return false;
+    }
     some_signs(job, ea, eb)
 }

@@ -6,3 +6,4 @@ pub mod Held
 pub mod Rounded
 pub mod Align
 pub mod RoundedFields
+pub mod Outcome

@@ -18,14 +18,15 @@ use Rattle.mask.specs.declared.Mask.{Mask}
 use Rattle.job.specs.declared.Job.{Job}
 use Rattle.job.specs.Job.{Valid}
 use Rattle.word.specs.Word.{allOnes}
-use Rattle.pair.specs.Asked.{Asked, PairFits}
-use Rattle.pair.specs.Pair.{Finites}
-use Rattle.pair.specs.Class.{classOf, onlyField, ClassAdmits, ClassAsked, NeverPast, Classed}
-use Rattle.pair.proofs.ClassMasks.{anyField, any-formed}
+use Rattle.search.specs.Fields.{Asked, PairAt}
+use Rattle.special.specs.Asked.{fieldIs}
+use Rattle.mask.specs.Mask.{Meets}
+use Rattle.pair.specs.Pair.{FinitePair}
+use Rattle.pair.specs.Class.{classOf, onlyField, ClassAdmits, ClassIn, NeverPast, Classed}
+use Rattle.pair.proofs.ClassMasks.{anyField}
 use Rattle.pair.proofs.Aligning.{low-le}
-use Rattle.pair.proofs.Classes.{only-formed, class-reached, class-less, far-a, far-b}
+use Rattle.pair.proofs.Classes.{class-reached, class-less, smallerMask, far-pair}
 use Rattle.search.specs.Classes.{Never, Refuses, Kept, ClassOf, NoField, ClassEnd, Ordered, NoneFar, farPlace, FarPair}
-use Rattle.search.proofs.Pairs.{pair-asked}
 
 -- ---- the word of a class
 module _ (j : Job) (k : ℕ) where
@@ -63,12 +64,8 @@ module _ (j : Job) (k : ℕ) where
   closed-none word u kept e i least met = kept i (inl e)
 
 -- ---- the questions
-module _ (j : Job) (k u : ℕ) (class : ClassOf j k u) where
-  pub only-asked : (i : ℕ) → i ≤ j .setting .format .f + 6 → ClassAsked j k (onlyField (j .setting .format) i)
-  only-asked i l = record { valid = class .valid; wide = class .wide; class-lt = class .class-lt; formed = only-formed (j .setting .format) i (omega (arith, class .wide)) }
-
-  pub any-asked : ClassAsked j k anyField
-  any-asked = record { valid = class .valid; wide = class .wide; class-lt = class .class-lt; formed = any-formed (j .setting .format) }
+pub class-in : (j : Job) (k u : ℕ) → ClassOf j k u → ClassIn (j .setting .format) k
+class-in j k u class = record { supported = class .valid .setting .format; wide = class .wide; class-lt = class .class-lt }
 
 -- the mask that the code forms
 pub only-is : (j : Job) (p i : ℕ) → Valid j → p ≡ 2 ^ j .setting .format .w % 2 ^ 64 → _≡_ {A = Mask} (record { care = p - 1; value = i }) (onlyField (j .setting .format) i)
@@ -107,14 +104,14 @@ module _ (j : Job) (t : List ℕ) (ea eb place : ℕ) (far : FarPair j ea eb pla
   order-lt : far .order < 2
   order-lt = ⊎-elim (λ e. omega arith) (λ e. omega arith) (far .fields)
 
-  ordered : PairFits j ea eb → Ordered j (far .order) (far .larger) (far .smaller)
+  ordered : PairAt j ea eb → Ordered j (far .order) (far .larger) (far .smaller)
   ordered p =
       ⊎-elim
       (λ e. rw (e .0, e .1, e .2) p)
       (λ e. rw (e .0, e .1, e .2) p)
       (far .fields)
 
-  pub far-known : getD t place 0 ≡ 1 → PairFits j ea eb → ⊥
+  pub far-known : getD t place 0 ≡ 1 → PairAt j ea eb → ⊥
   far-known is p =
       kept .far (far .order) (far .larger) order-lt (far .below) (subst (λ (k : ℕ). getD t k 0 ≡ 1) (far .at) is) (far .smaller) (far .some) (far .far) (ordered p)
 
@@ -133,30 +130,16 @@ module _ (j : Job) (t : List ℕ) (ea eb place : ℕ) (far : FarPair j ea eb pla
       go o E ho hE is (no ne) = kept .far o E ho hE (sym (getD-set-other t place (farPlace j o E) 1 0 ne) ∙ is)
 
 -- a pair that is refused refuses all of its kind
-module _ (j : Job) (ea eb place : ℕ) (far : FarPair j ea eb place) (asked : Asked j ea eb) (none : PairFits j ea eb → ⊥) where
-  finites : (d e : ℕ) → d < allOnes (j .setting .format) → e < allOnes (j .setting .format) → Asked j d e → Finites j d e
-  finites d e hd he a = record { valid = a .valid; a-finite = hd; b-finite = he; a-exponent = a .a-exponent; b-exponent = a .b-exponent }
+module _ (j : Job) (ea eb place : ℕ) (far : FarPair j ea eb place) (asked : Asked j ea eb) (none : PairAt j ea eb → ⊥) where
+  met : Meets (far .smaller) (smallerMask j (far .order))
+  met = ⊎-elim (λ e. rw (e .0, e .2) (asked .b-exponent)) (λ e. rw (e .0, e .2) (asked .a-exponent)) (far .fields)
+
+  own-pair : Ordered j (far .order) (far .larger) (far .smaller) → PairAt j ea eb
+  own-pair p = ⊎-elim (λ e. rw (e .0, e .1, e .2) at p) (λ e. rw (e .0, e .1, e .2) at p) (far .fields)
 
   pub none-far : NoneFar j (far .order) (far .larger)
-  none-far e some gap = ⊎-elim first second (far .fields)
-    where
-      low : e < allOnes (j .setting .format)
-      low = omega (arith, far .below)
-
-      own : far .smaller < allOnes (j .setting .format)
-      own = omega (arith, far .below, far .far)
-
-      first : (far .order ≡ 0) × (far .larger ≡ ea) × (far .smaller ≡ eb) → Ordered j (far .order) (far .larger) e → ⊥
-      first (o, l, s) p =
-          let q : PairFits j (far .larger) e = rw o at p in
-          let mine : Asked j (far .larger) (far .smaller) = rw (l, s) asked in
-          none (rw (l, s) at (far-a j (far .larger) (far .smaller) e (far .some) some (far .far) gap (finites (far .larger) e (far .below) low (pair-asked j (far .larger) e (asked .valid) q)) (finites (far .larger) (far .smaller) (far .below) own mine) q))
-
-      second : (far .order ≡ 1) × (far .larger ≡ eb) × (far .smaller ≡ ea) → Ordered j (far .order) (far .larger) e → ⊥
-      second (o, l, s) p =
-          let q : PairFits j e (far .larger) = rw o at p in
-          let mine : Asked j (far .smaller) (far .larger) = rw (l, s) asked in
-          none (rw (l, s) at (far-b j (far .larger) (far .smaller) e (far .some) some (far .far) gap (finites e (far .larger) low (far .below) (pair-asked j e (far .larger) (asked .valid) q)) (finites (far .smaller) (far .larger) own (far .below) mine) q))
+  none-far e some gap p =
+      none (own-pair (far-pair j (asked .valid) (far .order) (far .larger) e (far .smaller) (far .below) some (far .some) gap (far .far) met p))
 
 -- ---- the pairs that classes answer for
 pub end-short : (j : Job) (ones : ℕ) → ones ≡ allOnes (j .setting .format) → j .setting .format .f + 9 ≤ ones → ClassEnd j (ones - 2)
@@ -187,15 +170,12 @@ module _ (j : Job) (ea eb E e : ℕ) (valid : Valid j) (first : eb ≤ ea → (E
       record { valid = valid; wide = wide; class-lt = class-small; unit-lt = omega arith }
 
   -- a class that admits nothing there has no pair that does
-  pub pair-never : Classed (j .setting .format) (j .c .mask) E e → NoField j (classOf (j .setting .format .f) ea eb) (E - 1) → PairFits j ea eb → ⊥
+  pub pair-never : Classed (j .setting .format) (j .c .mask) E e → NoField j (classOf (j .setting .format .f) ea eb) (E - 1) → PairAt j ea eb → ⊥
   pair-never classed none p =
-      let asked = pair-asked j ea eb valid p in
-      let fin : Finites j ea eb = record {
-        valid = valid;
+      let fin : FinitePair (j .setting .format) (fieldIs ea) (fieldIs eb) = record {
+        supported = valid .setting .format;
         a-finite = ⊎-elim (λ o. omega arith) (λ o. omega arith) order;
         b-finite = ⊎-elim (λ o. omega arith) (λ o. omega arith) order;
-        a-exponent = asked .a-exponent;
-        b-exponent = asked .b-exponent;
       } in
-      let r = class-reached j ea eb fin p E e order classed in
+      let r = class-reached j valid ea eb fin p E e order classed in
       none (r .field) (r .least) (r .meets) (r .most) (r .holds)

@@ -15,8 +15,9 @@ use Rattle.mask.proofs.Checks.{meets-true}
 use Rattle.mask.proofs.ByParts.{meets-fields}
 use Rattle.job.specs.declared.Job.{Job}
 use Rattle.job.specs.Job.{Valid}
+use Rattle.word.specs.declared.Biased.{Biased}
 use Rattle.word.specs.Word.{biased}
-use Rattle.pair.specs.Asked.{Asked, PairFits}
+use Rattle.search.specs.Fields.{Asked, PairAt}
 use Rattle.word.specs.Masks.{exponentMask}
 use Rattle.search.specs.Left.{Left}
 use Rattle.search.specs.Walk.{FirstRow}
@@ -30,20 +31,20 @@ field-meets : (F : Format) (m : Mask) (x e : ℕ) → WellFormed (wordBits F) m 
 field-meets F m x e h met is = subst (λ (u : ℕ). Meets u (exponentMask F m)) is (meets-fields (F .w) (F .f) m h x .0 met .1)
 
 -- a pair that admits a case may be asked
-pub pair-asked : (j : Job) (ea eb : ℕ) → Valid j → PairFits j ea eb → Asked j ea eb
+pub pair-asked : (j : Job) (ea eb : ℕ) → Valid j → PairAt j ea eb → Asked j ea eb
 pair-asked j ea eb v p = record {
   valid = v;
-  a-lt = subst (λ (u : ℕ). u < 2 ^ j .setting .format .w) (p .a-exponent) (field-lt (j .setting .format) (p .a));
-  b-lt = subst (λ (u : ℕ). u < 2 ^ j .setting .format .w) (p .b-exponent) (field-lt (j .setting .format) (p .b));
-  a-exponent = field-meets (j .setting .format) (j .a .mask) (p .a) ea (v .a .mask) (p .fits .satisfies .a-allowed .mask) (p .a-exponent);
-  b-exponent = field-meets (j .setting .format) (j .b .mask) (p .b) eb (v .b .mask) (p .fits .satisfies .b-allowed .mask) (p .b-exponent);
+  a-lt = subst (λ (u : Biased). u .0 < 2 ^ j .setting .format .w) (p .a-exponent) (field-lt (j .setting .format) (p .a));
+  b-lt = subst (λ (u : Biased). u .0 < 2 ^ j .setting .format .w) (p .b-exponent) (field-lt (j .setting .format) (p .b));
+  a-exponent = field-meets (j .setting .format) (j .a .mask) (p .a) ea (v .a .mask) (p .fits .satisfies .a-allowed .mask) (ap (λ (u : Biased). u .0) (p .a-exponent));
+  b-exponent = field-meets (j .setting .format) (j .b .mask) (p .b) eb (v .b .mask) (p .fits .satisfies .b-allowed .mask) (ap (λ (u : Biased). u .0) (p .b-exponent));
 }
 
-pub pair-left : (j : Job) (ea eb : ℕ) → PairFits j ea eb → Left j
+pub pair-left : (j : Job) (ea eb : ℕ) → PairAt j ea eb → Left j
 pair-left j ea eb p = record { a = p .a; b = p .b; c = p .c; fits = p .fits }
 
 -- no pair admits a case, so none is left
-pub none-left : (j : Job) → ((ea eb : ℕ) → ea < 2 ^ j .setting .format .w → eb < 2 ^ j .setting .format .w → PairFits j ea eb → ⊥) → Left j → ⊥
+pub none-left : (j : Job) → ((ea eb : ℕ) → ea < 2 ^ j .setting .format .w → eb < 2 ^ j .setting .format .w → PairAt j ea eb → ⊥) → Left j → ⊥
 none-left j none p =
     none (biased (j .setting .format) (p .a) .0) (biased (j .setting .format) (p .b) .0) (field-lt (j .setting .format) (p .a)) (field-lt (j .setting .format) (p .b))
     (record { a = p .a; b = p .b; c = p .c; fits = p .fits; a-exponent = refl; b-exponent = refl })

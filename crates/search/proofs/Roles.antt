@@ -9,6 +9,7 @@ use Rattle.job.specs.declared.Job.{Job}
 use Rattle.job.specs.declared.Role.{Role}
 use Rattle.job.specs.Role.{wanted, withWanted, withMask}
 use Rattle.word.specs.Word.{biased}
+use Rattle.special.specs.Asked.{fieldIs}
 use Rattle.fit.specs.Fit.{Allowed}
 use Rattle.fit.proofs.Roles.{fits-allowed, fits-with, with-allowed, fits-back}
 use Rattle.search.specs.Walk.{NoneBelow, Case, CaseFits, memberOf}
@@ -29,6 +30,6 @@ none-back j t n same back none d e h p = none d e h (record {
   b = p .b;
   c = p .c;
   fits = back (p .a, p .b, p .c) (p .fits);
-  a-exponent = subst (λ (S : Setting). biased (S .format) (p .a) .0 ≡ d) same (p .a-exponent);
-  b-exponent = subst (λ (S : Setting). biased (S .format) (p .b) .0 ≡ e) same (p .b-exponent);
+  a-exponent = subst (λ (S : Setting). biased (S .format) (p .a) ≡ fieldIs d) same (p .a-exponent);
+  b-exponent = subst (λ (S : Setting). biased (S .format) (p .b) ≡ fieldIs e) same (p .b-exponent);
 })

@@ -14,7 +14,7 @@ use Rattle.job.specs.Job.{Valid}
 use Rattle.word.specs.Word.{allOnes}
 use Rattle.outcome.specs.Class.{fieldAt}
 use Rattle.word.specs.Masks.{exponentMask}
-use Rattle.pair.specs.Asked.{PairFits}
+use Rattle.search.specs.Fields.{PairAt}
 use Rattle.pair.specs.Class.{leastField, onlyField, ClassAdmits, Classed}
 
 -- no case of the class k has c's exponent field i
@@ -27,8 +27,8 @@ Refuses j k word = (i : ℕ) → (bit word 63 ≡ 1) ⊎ (bit word i ≡ 1) → 
 
 -- the pair of a larger field E and another field e: a has the larger one where the order is 0, else b
 abbrev pub Ordered : Job → ℕ → ℕ → ℕ → Type 0
-Ordered j zero E e = PairFits j E e
-Ordered j (suc o) E e = PairFits j e E
+Ordered j zero E e = PairAt j E e
+Ordered j (suc o) E e = PairAt j e E
 
 -- no pair with the larger field E and a far gap admits a case
 abbrev pub NoneFar : Job → ℕ → ℕ → Type 0

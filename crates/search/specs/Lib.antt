@@ -1,3 +1,4 @@
+pub mod Fields
 pub mod Left
 pub mod Choice
 pub mod Walk

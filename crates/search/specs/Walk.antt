@@ -11,7 +11,7 @@ use Rattle.job.specs.Role.{member, wanted}
 use Rattle.fit.specs.Fit.{Fits}
 use Rattle.mask.specs.Mask.{Meets}
 use Rattle.word.specs.Masks.{exponentMask}
-use Rattle.pair.specs.Asked.{PairFits}
+use Rattle.search.specs.Fields.{PairAt}
 use Rattle.pair.specs.Signs.{signsLeft}
 use Rattle.search.specs.declared.Pass.{Pass}
 use Rattle.search.specs.Classes.{ClassEnd}
@@ -25,7 +25,7 @@ pub record Open (j : Job) (role : Role) (k : ℕ) : Type 0 where
 
 -- no pair of exponent fields of which a's is below n admits a case
 abbrev pub NoneBelow : Job → ℕ → Type 0
-NoneBelow j n = (d e : ℕ) → d < n → PairFits j d e → ⊥
+NoneBelow j n = (d e : ℕ) → d < n → PairAt j d e → ⊥
 
 -- what a pass over the exponent fields asks: the masks on them, one past the last one, whether signs are left for finite operands, and
 -- one past the fields that the classes of pairs answer for
@@ -38,7 +38,7 @@ pub record PassOf (j : Job) (p : Pass) : Type 0 where
 
 -- no pair of a's exponent field e with one of b's below n admits a case, and where n is a field of b, a's meets its mask
 pub record RowStart (j : Job) (e n : ℕ) : Type 0 where
-  pub none : (d : ℕ) → d < n → PairFits j e d → ⊥
+  pub none : (d : ℕ) → d < n → PairAt j e d → ⊥
   pub meets : n < 2 ^ j .setting .format .w → Meets e (exponentMask (j .setting .format) (j .a .mask))
 
 -- r is the first exponent field of a that a case left has, or one past them all

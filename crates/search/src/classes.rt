@@ -16,7 +16,7 @@ ghost use Rattle.mask.specs.Mask.{Meets};
 ghost use Rattle.job.specs.Job.{Valid};
 ghost use Rattle.outcome.specs.Class.{fieldAt};
 ghost use Rattle.word.specs.Masks.{exponentMask};
-ghost use Rattle.pair.specs.Asked.{Asked, PairFits};
+ghost use Rattle.search.specs.Fields.{Asked, PairAt};
 ghost use Rattle.pair.specs.Class.{lowField, classOf, smallField, leastField};
 ghost use Rattle.search.specs.Classes.{Never, Refuses, Kept, ClassOf, NoField, Normal, ClassEnd, FarPair};
 
@@ -244,7 +244,7 @@ fn far_place(job: Job, ea: u64, eb: u64) -> u64
 // Whether a pair is open still: pairs with a far gap and the same larger field have one answer.
 fn far_open(job: Job, ea: u64, eb: u64, table: &[u64; 128]) -> bool
     requires { ⌜ Valid job × (ea < 2 ^ job .setting .format .w) × (eb < 2 ^ job .setting .format .w) × Kept job (now table) ⌝ }
-    ensures { λ r. ⌜ (r ≡ false → PairFits job ea eb → ⊥) ⌝ }
+    ensures { λ r. ⌜ (r ≡ false → PairAt job ea eb → ⊥) ⌝ }
 {
     let place = far_place(job, ea, eb);
     if place == 0 {
@@ -256,7 +256,7 @@ fn far_open(job: Job, ea: u64, eb: u64, table: &[u64; 128]) -> bool
 
 // Keeps that a pair admits no case.
 pub(crate) fn keep_refused(job: Job, ea: u64, eb: u64, table: &mut [u64; 128])
-    requires { ⌜ Asked job ea eb × (PairFits job ea eb → ⊥) × Kept job (now table) ⌝ }
+    requires { ⌜ Asked job ea eb × (PairAt job ea eb → ⊥) × Kept job (now table) ⌝ }
     ensures { λ _. ⌜ Kept job (now (table .exit)) ⌝ }
 {
     let place = far_place(job, ea, eb);
@@ -270,7 +270,7 @@ pub(crate) fn keep_refused(job: Job, ea: u64, eb: u64, table: &mut [u64; 128])
 // Whether a pair may admit a case, as far as its class tells.
 pub(crate) fn may_admit(job: Job, ea: u64, eb: u64, end: u64, table: &mut [u64; 128]) -> bool
     requires { ⌜ Valid job × (ea < 2 ^ job .setting .format .w) × (eb < 2 ^ job .setting .format .w) × ClassEnd job end × Kept job (now table) ⌝ }
-    ensures { λ r. ⌜ Kept job (now (table .exit)) × (r ≡ false → PairFits job ea eb → ⊥) ⌝ }
+    ensures { λ r. ⌜ Kept job (now (table .exit)) × (r ≡ false → PairAt job ea eb → ⊥) ⌝ }
 {
     let most = larger(ea, eb);
     if !normal(job.setting.format.f, most, smaller(ea, eb)) {

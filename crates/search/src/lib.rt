@@ -13,6 +13,7 @@ use mask::Mask;
 use mask::meets;
 use pair::pair_admits;
 use pair::signs::signs_left;
+use word::Biased;
 use word::masks::exponent_mask;
 ghost use mathlib.Core.Path.{_≡_};
 ghost use mathlib.Core.Bool.{true};
@@ -22,7 +23,7 @@ ghost use Rattle.job.specs.declared.Job.{Job};
 ghost use Rattle.job.specs.Job.{Valid};
 ghost use Rattle.mask.specs.Mask.{Meets};
 ghost use Rattle.word.specs.Masks.{exponentMask};
-ghost use Rattle.pair.specs.Asked.{PairFits};
+ghost use Rattle.search.specs.Fields.{PairAt};
 ghost use Rattle.search.specs.Classes.{Kept};
 ghost use Rattle.search.specs.Walk.{NoneBelow, FirstRow, PassOf, RowStart};
 ghost use Rattle.search.specs.Choice.{Chosen};
@@ -68,7 +69,7 @@ fn pass_of(job: Job) -> Pass
 // pair leaves it open.
 fn admits(job: Job, pass: Pass, ea: u64, eb: u64, table: &mut [u64; 128]) -> bool
     requires { ⌜ Valid job × PassOf job pass × (ea < pass .past) × (eb < pass .past) × Meets ea (exponentMask (job .setting .format) (job .a .mask)) × Kept job (now table) ⌝ }
-    ensures { λ r. ⌜ Kept job (now (table .exit)) × ((r ≡ true) ↔ PairFits job ea eb) ⌝ }
+    ensures { λ r. ⌜ Kept job (now (table .exit)) × ((r ≡ true) ↔ PairAt job ea eb) ⌝ }
 {
     if !meets(pass.b, eb) {
         return false;
@@ -76,7 +77,7 @@ fn admits(job: Job, pass: Pass, ea: u64, eb: u64, table: &mut [u64; 128]) -> boo
     if !may_admit(job, ea, eb, pass.end, table) {
         return false;
     }
-    if pair_admits(job, ea, eb) {
+    if pair_admits(job, Biased(ea), Biased(eb)) {
         return true;
     }
     keep_refused(job, ea, eb, table);

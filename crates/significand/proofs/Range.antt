@@ -2,8 +2,8 @@
 -- and two such numbers make the mask that they span. Assumes nothing.
 use mathlib.Core.Logic.{_↔_}
 use mathlib.Core.Path.{_≡_, sym, ap, ap₂, _∙_, subst}
-use Prim.Native.Nat.{ℕ, _-_, _^_, _<_}
-use native.Mathlib.Nat.{lt-of-lt-of-le, lt-of-le-of-lt}
+use Prim.Native.Nat.{ℕ, _-_, _%_, _^_, _<_}
+use native.Mathlib.Nat.{mod-eq-of-lt, lt-of-lt-of-le, lt-of-le-of-lt}
 use native.Mathlib.Decide.{decLt}
 use native.Mathlib.Omega.{arith}
 use lib.Bits.{bitAnd, bitOr, bitXor, and-zero-l, and-le-r, or-zero-r, or-disjoint, xor-add-and}
@@ -87,6 +87,10 @@ module _ (k : ℕ) (m : Mask) (w : WellFormed k m) where
               (λ z. part-bits x (greatest k m) .0 (p .1) i (greatest-fixed i l f ∙ z) ∙ sym z)
               (λ z. e ∙ sym z))
           at i f (no l) = absurd (omega (arith, beyond k i (w .below) l))
+
+-- the greatest number, as far as a word holds it
+pub greatest-word : (k : ℕ) (m : Mask) → k < 64 → WellFormed k m → greatest k m % 2 ^ 64 ≡ greatest k m
+greatest-word k m h w = mod-eq-of-lt (lt-of-lt-of-le (greatest-lt k m w) (pow-mono {i = k} {j = 64} (omega arith)))
 
 -- ---- the mask that two numbers span
 module _ (k l g : ℕ) (h : Part l g) (hg : g < 2 ^ k) where

@@ -13,8 +13,9 @@ use Rattle.mask.specs.declared.Mask.{Mask}
 use Rattle.mask.specs.Mask.{WellFormed, Meets, fixed, fix}
 use Rattle.mask.proofs.ByParts.{meets-within}
 use Rattle.mask.proofs.Fixing.{fix-free, fixed-formed, fixed-meets}
+use Rattle.word.specs.declared.Biased.{Biased}
 use Rattle.word.specs.Word.{significand}
-use Rattle.significand.specs.Significand.{significandMask}
+use Rattle.significand.specs.Significand.{topBit, significandMask}
 
 module _ (f : ℕ) (m : Mask) (hf : f < 64) (w : WellFormed f m) where
   -- bit f is free in a mask on f bits
@@ -64,13 +65,19 @@ module _ (f : ℕ) (m : Mask) (hf : f < 64) (w : WellFormed f m) where
                 subst (λ (n : ℕ). n < 2 ^ (f + 1)) e (rw add-one (more-lt b (p .0) f hb (p .1))),
               )
 
-  pub significand-formed : (e : ℕ) → WellFormed (f + 1) (significandMask f m e)
+  pub significand-formed : (e : Biased) → WellFormed (f + 1) (significandMask f m e)
   unfolding significandMask
-  significand-formed zero = top-formed 0 (omega arith)
-  significand-formed (suc e) = top-formed 1 (omega arith)
+  significand-formed e = go (e .0)
+    where
+      go : (n : ℕ) → WellFormed (f + 1) (fix m f (topBit n))
+      go zero = top-formed 0 (omega arith)
+      go (suc n) = top-formed 1 (omega arith)
 
   -- the numbers of f + 1 bits that meet the mask are the significands of the fractions that meet theirs
-  pub significand-meets : (e x : ℕ) → (Meets x (significandMask f m e) × (x < 2 ^ (f + 1))) ↔ ((t : ℕ) × (t < 2 ^ f) × Meets t m × (significand f e t ≡ x))
+  pub significand-meets : (e : Biased) (x : ℕ) → (Meets x (significandMask f m e) × (x < 2 ^ (f + 1))) ↔ ((t : ℕ) × (t < 2 ^ f) × Meets t m × (significand f (e .0) t ≡ x))
   unfolding significandMask significand
-  significand-meets zero x = top-meets 0 (omega arith) (λ (t : ℕ). t) (λ t. omega (arith, zero-mul (2 ^ f))) x
-  significand-meets (suc e) x = top-meets 1 (omega arith) (λ (t : ℕ). 2 ^ f + t) (λ t. omega (arith, one-mul (2 ^ f))) x
+  significand-meets e x = go (e .0)
+    where
+      go : (n : ℕ) → (Meets x (fix m f (topBit n)) × (x < 2 ^ (f + 1))) ↔ ((t : ℕ) × (t < 2 ^ f) × Meets t m × (significand f n t ≡ x))
+      go zero = top-meets 0 (omega arith) (λ (t : ℕ). t) (λ t. omega (arith, zero-mul (2 ^ f))) x
+      go (suc n) = top-meets 1 (omega arith) (λ (t : ℕ). 2 ^ f + t) (λ t. omega (arith, one-mul (2 ^ f))) x

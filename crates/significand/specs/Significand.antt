@@ -3,9 +3,13 @@
 use Prim.Native.Nat.{ℕ, zero, suc}
 use Rattle.mask.specs.declared.Mask.{Mask}
 use Rattle.mask.specs.Mask.{fix}
+use Rattle.word.specs.declared.Biased.{Biased}
 
--- "t where e = 0, and (2^f + t)" where it is not: the fraction's mask with bit f also fixed to 0 where e = 0, else to 1;
--- as it is where f is 64 or more or bit f is fixed already
-unfoldable pub significandMask : ℕ → Mask → ℕ → Mask
-significandMask f m zero = fix m f 0
-significandMask f m (suc e) = fix m f 1
+-- the bit above the fraction: "t where e = 0, and (2^f + t)" where it is not
+abbrev pub topBit : ℕ → ℕ
+topBit zero = 0
+topBit (suc e) = 1
+
+-- the fraction's mask with that bit also fixed; as it is where f is 64 or more or bit f is fixed already
+unfoldable pub significandMask : ℕ → Mask → Biased → Mask
+significandMask f m e = fix m f (topBit (e .0))

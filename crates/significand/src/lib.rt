@@ -1,20 +1,23 @@
 // Masks on significands, and on their aligned forms.
+use bits::minus;
 use bits::power;
 use mask::Mask;
 use mask::fix;
 use mask::mask_cause;
 use rounding::alignment::aligned;
+use std::num::wrapping_add_u64;
+use word::Biased;
 ghost use mathlib.Core.Path.{_≡_};
-ghost use Prim.Native.Nat.{_≤_, _<_, _^_};
+ghost use Prim.Native.Nat.{_%_, _≤_, _<_, _^_};
 ghost use Rattle.mask.specs.Mask.{WellFormed};
 ghost use Rattle.significand.specs.Significand.{significandMask};
 ghost use Rattle.significand.specs.Tail.{complement, greatest, spanned, alignedMask, tailMask};
 
 // The mask on the significand of a fraction and an exponent field; the fraction's as it is where f is 64 or more or bit f is fixed.
-pub fn significand_mask(f: u64, fraction: Mask, exponent: u64) -> Mask
+pub fn significand_mask(f: u64, fraction: Mask, exponent: Biased) -> Mask
     ensures { λ r. ⌜ r ≡ significandMask f fraction exponent ⌝ }
 {
-    if exponent == 0 {
+    if exponent.0 == 0 {
         fix(fraction, f, 0)
     } else {
         fix(fraction, f, 1)
@@ -23,18 +26,20 @@ pub fn significand_mask(f: u64, fraction: Mask, exponent: u64) -> Mask
 
 // The k bits that x has not.
 fn complement(k: u64, x: u64) -> u64
-    requires { ⌜ (k < 64) × (x < 2 ^ k) ⌝ }
+    requires { ⌜ k < 64 ⌝ }
     ensures { λ r. ⌜ r ≡ complement k x ⌝ }
 {
-    power(k) - 1 - x
+    minus(power(k) - 1, x)
 }
 
-// The greatest number of k bits that meets m.
-fn greatest(k: u64, m: Mask) -> u64
-    requires { ⌜ (k < 64) × WellFormed k m ⌝ }
-    ensures { λ r. ⌜ r ≡ greatest k m ⌝ }
+// The greatest number of k bits that meets m; 0 where k is 64 or more, and what a word holds of it where m is not well formed for k bits.
+pub fn greatest(k: u64, m: Mask) -> u64
+    ensures { λ r. ⌜ (k < 64 → r ≡ greatest k m % 2 ^ 64) × (64 ≤ k → r ≡ 0) ⌝ }
 {
-    m.value + complement(k, m.care)
+    if 64 <= k {
+        return 0;
+    }
+    wrapping_add_u64(m.value, complement(k, m.care))
 }
 
 // The mask on 63 bits from its least number and its greatest.

@@ -7,7 +7,8 @@ use native.Mathlib.Decide.{decLt}
 use native.Mathlib.Omega.{arith}
 use lib.Ieee.{size}
 use Rattle.mask.specs.Mask.{Meets}
-use Rattle.outcome.specs.Outcome.{outcome, Formed, Making}
+use Rattle.rounding.specs.Outcome.{outcome}
+use Rattle.outcome.specs.Outcome.{Formed, Making}
 use Rattle.outcome.proofs.Room.{columns-lt}
 use Rattle.outcome.proofs.some_count.Statement.{statement}
 use Rattle.outcome.proofs.some_count.Tie as tie

@@ -1,91 +1,64 @@
--- `pair::pair_admits` meets its contract. Assumes nothing.
-use mathlib.Core.Path.{_≡_, refl, sym, ap, ap₂, _∙_, subst}
-use Prim.Native.Nat.{ℕ, zero, suc, _+_, _-_, _*_, _/_, _%_, _^_, _≤_, _<_}
-use native.Mathlib.Omega.{arith}
-use mathlib.Core.Bool.{Bool, true, false, not, _&&_, and-eq-true-iff, false≢true}
+-- `pair::pair_admits` meets its contract: fields that are not finite are special or none. Assumes nothing.
+use mathlib.Core.Bool.{false≢true}
 use mathlib.Core.Logic.{inl, inr}
-use borrow.Author.Tests.{not-true, not-false}
-use lib.Pow.{pow-pos}
-use Rattle.bits.proofs.Laws.{power-exact}
-use Rattle.format.specs.declared.Format.{Format}
-use Rattle.format.specs.Format.{Supported}
+use mathlib.Core.Path.{_≡_, sym, _∙_}
+use native.Mathlib.Decide.{ℕ-discrete}
+use native.Mathlib.Omega.{arith}
+use Rattle.job.specs.declared.Job.{Job}
+use Rattle.job.specs.Job.{Valid}
+use Rattle.word.specs.declared.Biased.{Biased}
 use Rattle.word.specs.Word.{allOnes}
-use Rattle.pair.specs.Asked.{Asked}
-use Rattle.pair.specs.Pair.{Finites}
+use Rattle.special.specs.Asked.{PairFits}
+use Rattle.special.specs.Special.{Special}
+use Rattle.special.proofs.Laws.{fields-in-range}
+use Rattle.pair.specs.Pair.{FinitePair}
 use borrow.Author.Needs.{needs}
 use Rattle.pair.proofs.pair_admits.Statement.{statement}
 use Rattle.pair.proofs.pair_admits.Tie as tie
 
--- the field of all ones
-ones : (F : Format) → Supported F → (p : ℕ) → p ≡ 2 ^ F .w % 2 ^ 64 → p - 1 ≡ allOnes F
-ones F ok p e = ap (λ (n : ℕ). n - 1) (e ∙ power-exact (F .w) (omega (arith, ok .w-most)))
+-- the fields of a case that are not both finite
+special-fields : (j : Job) → Valid j → (ea eb : Biased) → PairFits j ea eb → (FinitePair (j .setting .format) ea eb → ⊥) → Special (j .setting .format) ea eb
+special-fields j valid ea eb P none = go (ℕ-discrete (ea .0) (allOnes (j .setting .format))) (ℕ-discrete (eb .0) (allOnes (j .setting .format)))
+  where
+    go : Dec (ea .0 ≡ allOnes (j .setting .format)) → Dec (eb .0 ≡ allOnes (j .setting .format)) → Special (j .setting .format) ea eb
+    go (yes e) d = inl e
+    go (no n) (yes e) = inr e
+    go (no m) (no n) =
+        let r = fields-in-range j valid ea eb P in
+        absurd (none (record { supported = valid .setting .format; a-finite = omega (arith, r .a-lt, m); b-finite = omega (arith, r .b-lt, n) }))
 
-asked-requires : tie.Need-asked-requires
-asked-requires c κs = search needs
+finite-fields-requires : tie.Need-finite-fields-requires
+finite-fields-requires c κs = search needs
+
+finite-pair-requires : tie.Need-finite-pair-requires
+finite-pair-requires c κs = c .before .finite-fields .ensures .0 (c .if1 .taken)
 
 returns : tie.Need-returns
 returns c =
-    let no = not-true (c .before .asked .result) (c .if1 .taken) in
-    (λ A e. absurd (false≢true e), λ A P. absurd (false≢true (sym no ∙ c .before .asked .ensures .1 A)))
+    let fin = finite-pair-requires (c .before) tt in
+    ((λ e. record { supported = fin .supported; a-lt = omega (arith, fin .a-finite); b-lt = omega (arith, fin .b-finite) }), λ valid. c .finite-pair .ensures valid)
 
-power-requires : tie.Need-power-requires
-power-requires c κs = search needs
-
-sub-ones : tie.Need-sub-ones
-sub-ones c =
-    let s = c .before .before .before in
-    let A = c .before .before .asked .ensures .0 (not-false (c .before .before .asked .result) (c .before .if1 .left)) in
-    rw (c .power .ensures ∙ power-exact (s .args .job .setting .format .w) (omega (arith, A .valid .setting .format .w-most))) (pow-pos (s .args .job .setting .format .w))
-
-special-pair-requires : tie.Need-special-pair-requires
-special-pair-requires c κs =
-    let s = c .before .before .before .before in
-    let A = c .before .before .before .asked .ensures .0 (not-false (c .before .before .before .asked .result) (c .before .before .if1 .left)) in
-    (A, inl (c .if2 .taken ∙ ones (s .args .job .setting .format) (A .valid .setting .format) (c .before .power .result) (c .before .power .ensures)))
+special-admits-requires : tie.Need-special-admits-requires
+special-admits-requires c κs = search needs
 
 returns-2 : tie.Need-returns-2
-returns-2 c = search needs
-
-special-pair-requires-2 : tie.Need-special-pair-requires-2
-special-pair-requires-2 c κs =
-    let s = c .before .before .before .before .before in
-    let A = c .before .before .before .before .asked .ensures .0 (not-false (c .before .before .before .before .asked .result) (c .before .before .before .if1 .left)) in
-    (A, inr (c .if3 .taken ∙ ones (s .args .job .setting .format) (A .valid .setting .format) (c .before .before .power .result) (c .before .before .power .ensures)))
-
-returns-3 : tie.Need-returns-3
-returns-3 c = search needs
-
-finite-pair-requires : tie.Need-finite-pair-requires
-finite-pair-requires c κs =
-    let s = c .before .before .before .before .before in
-    let A = c .before .before .before .before .asked .ensures .0 (not-false (c .before .before .before .before .asked .result) (c .before .before .before .if1 .left)) in
-    let o = ones (s .args .job .setting .format) (A .valid .setting .format) (c .before .before .power .result) (c .before .before .power .ensures) in
-    let a-lt = A .a-lt in
-    let b-lt = A .b-lt in
-    let na = c .before .if2 .left in
-    let nb = c .if3 .left in
-    record {
-      valid = A .valid;
-      a-finite = omega (arith, o, na);
-      b-finite = omega (arith, o, nb);
-      a-exponent = A .a-exponent;
-      b-exponent = A .b-exponent;
-    }
-
-returns-4 : tie.Need-returns-4
-returns-4 c = search needs
+returns-2 c =
+    let a = c .before .before .before .args in
+    let no = c .before .if1 .left in
+    let r = c .special-admits in (
+      (λ e. r .ensures .0 e .0),
+      λ valid. (
+        (λ e. r .ensures .1 valid (r .ensures .0 e .1) .0 e),
+        λ P. r .ensures .1 valid (special-fields (a .job) valid (a .ea) (a .eb) P (λ fin. false≢true (sym no ∙ c .before .before .finite-fields .ensures .1 fin))) .1 P,
+      ),
+    )
 
 pub pair-admits-spec : {M : Type 1} → statement M
 pair-admits-spec =
     tie.close
     (tie.spec
-    asked-requires
-    returns
-    power-requires
-    sub-ones
-    special-pair-requires
-    returns-2
-    special-pair-requires-2
-    returns-3
+    finite-fields-requires
     finite-pair-requires
-    returns-4)
+    returns
+    special-admits-requires
+    returns-2)

@@ -3,7 +3,7 @@ use mathlib.Core.Path.{refl, sym, _∙_, subst}
 use Prim.Native.Nat.{ℕ, _<_}
 use mathlib.Core.Bool.{false≢true}
 use borrow.Author.Tests.{not-true, not-false}
-use Rattle.pair.specs.Asked.{Asked}
+use Rattle.search.specs.Fields.{Asked}
 use Rattle.search.proofs.Pairs.{pair-asked, tested}
 use borrow.Author.Needs.{needs}
 use Rattle.search.proofs.admits.Statement.{statement}
@@ -65,19 +65,19 @@ returns-3 : tie.Need-returns-3
 returns-3 c =
     let q = c .before in
     let asked = asked-at q in
-    (q .before .before .may-admit .ensures .0, (λ e. q .pair-admits .ensures .0 asked (c .if3 .taken), λ p. refl))
+    (q .before .before .may-admit .ensures .0, (λ e. q .pair-admits .ensures .1 (asked .valid) .0 (c .if3 .taken), λ p. refl))
 
 keep-refused-requires : tie.Need-keep-refused-requires
 keep-refused-requires c κs =
     let q = c .before .before in
     let asked = asked-at q in
-    (asked, λ p. false≢true (sym (c .before .if3 .left) ∙ q .pair-admits .ensures .1 asked p), q .before .before .may-admit .ensures .0)
+    (asked, λ p. false≢true (sym (c .before .if3 .left) ∙ q .pair-admits .ensures .1 (asked .valid) .1 p), q .before .before .may-admit .ensures .0)
 
 returns-4 : tie.Need-returns-4
 returns-4 c =
     let q = c .before .before .before in
     let asked = asked-at q in
-    (c .keep-refused .ensures, (λ e. absurd (false≢true e), λ p. absurd (false≢true (sym (c .before .before .if3 .left) ∙ q .pair-admits .ensures .1 asked p))))
+    (c .keep-refused .ensures, (λ e. absurd (false≢true e), λ p. absurd (false≢true (sym (c .before .before .if3 .left) ∙ q .pair-admits .ensures .1 (asked .valid) .1 p))))
 
 pub admits-spec : {M : Type 1} → statement M
 admits-spec =

@@ -8,7 +8,7 @@ use borrow.Author.Count.{below-more}
 use borrow.Author.Needs.{needs}
 use Rattle.mask.specs.Mask.{Meets}
 use Rattle.word.specs.Masks.{exponentMask}
-use Rattle.pair.specs.Asked.{PairFits}
+use Rattle.search.specs.Fields.{PairAt}
 use Rattle.search.specs.Walk.{NoneBelow}
 use Rattle.search.specs.Classes.{Kept}
 use Rattle.search.proofs.Pairs.{pair-asked, pair-left}
@@ -18,7 +18,7 @@ use Rattle.search.proofs.first_row.Tie as tie
 
 abbrev Inv-loop : tie.InvT-loop
 Inv-loop job start pass past table₀ ea eb₀ table eb =
-    Kept job table × (eb < past → Meets ea (exponentMask (job .setting .format) (job .a .mask))) × ((e : ℕ) → e < eb → PairFits job ea e → ⊥)
+    Kept job table × (eb < past → Meets ea (exponentMask (job .setting .format) (job .a .mask))) × ((e : ℕ) → e < eb → PairAt job ea e → ⊥)
 
 abbrev μ-loop : tie.MeasureT-loop
 μ-loop job start pass past table₀ ea eb₀ table eb = past - eb
@@ -69,7 +69,7 @@ loop-again c =
     let job = o .before .before .args .job in (
       c .before .admits .ensures .0,
       λ h. r .loop .inv .1 (l .loop-test .taken),
-      below-more (λ e. PairFits job (o .pairs .ea) e → ⊥) (r .loop .eb) (r .loop .inv .2)
+      below-more (λ e. PairAt job (o .pairs .ea) e → ⊥) (r .loop .eb) (r .loop .inv .2)
           (λ p. false≢true (sym (c .if1 .left) ∙ c .before .admits .ensures .1 .1 p)),
     )
 
@@ -88,7 +88,7 @@ pairs-again c =
     let job = s .args .job in
     let is = p .pass-of .ensures .past in (
       l .loop .inv .0,
-      λ d e h. below-more (λ d. PairFits job d e → ⊥) (o .pairs .ea) (λ d h. o .pairs .inv .1 d e h)
+      λ d e h. below-more (λ d. PairAt job d e → ⊥) (o .pairs .ea) (λ d h. o .pairs .inv .1 d e h)
           (λ q. l .loop .inv .2 e (omega (arith, is, c .loop-test .left, pair-asked job (o .pairs .ea) e (s .pre .0) q .b-lt)) q) d h,
     )
 

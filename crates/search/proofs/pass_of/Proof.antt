@@ -30,7 +30,7 @@ returns c =
       a = a .exponent-mask .ensures;
       b = b .exponent-mask2 .ensures;
       past = count-is (s .args .job) (w .power .result) (s .pre) (w .power .ensures);
-      signs = g .signs-left .ensures (s .pre);
+      signs = g .signs-left .ensures;
       end = c .class-end .ensures;
     }
 

@@ -6,6 +6,7 @@ use native.Mathlib.Omega.{arith}
 use borrow.Author.Tests.{not-true, not-false}
 use Rattle.job.specs.declared.Job.{Job}
 use Rattle.job.specs.Job.{Valid}
+use Rattle.special.specs.Asked.{fieldIs}
 use Rattle.pair.proofs.LikeSigns.{signs-none}
 use Rattle.search.specs.Walk.{PassOf, RowStart}
 use Rattle.search.proofs.Pairs.{pair-asked, tested}
@@ -47,9 +48,8 @@ returns-3 c =
     let a = t .before .before .args in
     λ job valid is. record {
       none = λ d h p.
-          let asked = pair-asked job (a .ea) d valid p in
-          signs-none job (a .ea) d
-          (record { valid = valid; a-finite = omega (arith, is .past, c .if3 .taken); b-finite = omega (arith, is .past); a-exponent = asked .a-exponent; b-exponent = asked .b-exponent })
+          signs-none job valid (fieldIs (a .ea)) (fieldIs d)
+          (record { supported = valid .setting .format; a-finite = omega (arith, is .past, c .if3 .taken); b-finite = omega (arith, is .past) })
           (sym (is .signs) ∙ c .before .before .if2 .left) p;
       meets = λ h. first-pair t job valid is .meets (omega arith);
     }

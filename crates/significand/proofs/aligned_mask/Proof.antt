@@ -12,7 +12,7 @@ use Rattle.mask.proofs.ByBits.{value-below}
 use Rattle.rounding.specs.Sticky.{withSticky}
 use Rattle.significand.specs.Tail.{least, greatest, spanned}
 use Rattle.significand.proofs.Part.{part-le}
-use Rattle.significand.proofs.Range.{greatest-lt}
+use Rattle.significand.proofs.Range.{greatest-lt, greatest-word}
 use Rattle.significand.proofs.Tail.{ends-part, ends-lt}
 use Rattle.significand.proofs.aligned_mask.Statement.{statement}
 use Rattle.significand.proofs.aligned_mask.Tie as tie
@@ -41,8 +41,9 @@ greatest-form : (c : tie.After-aligned2) → c .aligned2 .result ≡ withSticky 
 greatest-form c =
     let s = c .before .before .before in
     let a = s .args in
-    let lt : c .before .greatest .result < 2 ^ 60 = rw (c .before .greatest .ensures) (greatest-fits (a .p) (a .m) (s .pre .0) (s .pre .1)) in
-    c .aligned2 .ensures .0 lt ∙ ap (λ (n : ℕ). withSticky (4 * n) (a .gap)) (c .before .greatest .ensures)
+    let is = c .before .greatest .ensures .0 (omega arith) ∙ greatest-word (a .p) (a .m) (omega arith) (s .pre .1) in
+    let lt : c .before .greatest .result < 2 ^ 60 = rw is (greatest-fits (a .p) (a .m) (s .pre .0) (s .pre .1)) in
+    c .aligned2 .ensures .0 lt ∙ ap (λ (n : ℕ). withSticky (4 * n) (a .gap)) is
 
 spanned-requires : tie.Need-spanned-requires
 spanned-requires c κs =

@@ -11,14 +11,16 @@ use Rattle.significand.proofs.complement.Tie as tie
 power-requires : tie.Need-power-requires
 power-requires c κs = search needs
 
-sub-result : tie.Need-sub-result
-sub-result c = let k = c .before .args .k in omega (arith, c .power .ensures ∙ power-exact k (c .before .pre .0), pow-pos k)
+sub-minus : tie.Need-sub-minus
+sub-minus c = let k = c .before .args .k in omega (arith, c .power .ensures ∙ power-exact k (c .before .pre), pow-pos k)
 
-sub-result-2 : tie.Need-sub-result-2
-sub-result-2 c = omega (arith, c .power .ensures ∙ power-exact (c .before .args .k) (c .before .pre .0), c .before .pre .1)
+minus-requires : tie.Need-minus-requires
+minus-requires c κs = search needs
 
 returns : tie.Need-returns
-returns c = ap (λ (n : ℕ). n - 1 - c .before .args .x) (c .power .ensures ∙ power-exact (c .before .args .k) (c .before .pre .0))
+returns c =
+    let s = c .before .before in
+    c .minus .ensures ∙ ap (λ (n : ℕ). n - 1 - s .args .x) (c .before .power .ensures ∙ power-exact (s .args .k) (s .pre))
 
 pub complement-spec : {M : Type 1} → statement M
-complement-spec = tie.close (tie.spec power-requires sub-result sub-result-2 returns)
+complement-spec = tie.close (tie.spec power-requires sub-minus minus-requires returns)

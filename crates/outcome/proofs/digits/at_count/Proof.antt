@@ -6,8 +6,8 @@ use native.Mathlib.Omega.{arith}
 use lib.Dec.{ltb}
 use Rattle.mask.specs.Mask.{Meets}
 use Rattle.word.specs.Word.{signed}
-use Rattle.outcome.specs.Width.{alignedBits}
-use Rattle.outcome.specs.Outcome.{boundedHeld}
+use Rattle.rounding.specs.Width.{alignedBits}
+use Rattle.rounding.specs.Outcome.{boundedHeld}
 use Rattle.outcome.proofs.Room.{columns-lt, unit-short}
 use Rattle.outcome.proofs.Counted.{first-quotient, second-quotient}
 use borrow.Author.Needs.{needs}

@@ -8,8 +8,9 @@ use Rattle.format.specs.declared.Format.{Format}
 use Rattle.word.specs.declared.Biased.{Biased}
 use Rattle.word.specs.declared.Unit as exponent
 use Rattle.word.specs.Word.{fieldOf}
-use Rattle.outcome.specs.Width.{sumBits}
-use Rattle.outcome.specs.Outcome.{roundedUnit, InFormat}
+use Rattle.rounding.specs.Width.{sumBits}
+use Rattle.rounding.specs.Outcome.{roundedUnit}
+use Rattle.outcome.specs.Outcome.{InFormat}
 use Rattle.outcome.proofs.Room.{columns-lt, unit-short}
 use Rattle.outcome.proofs.Counted.{quotient-asked}
 use borrow.Author.Needs.{needs}

@@ -11,7 +11,7 @@ use lib.Pow.{pow-add, pow-mono, shr-le}
 use Rattle.mask.specs.declared.Mask.{Mask}
 use Rattle.mask.specs.Mask.{high}
 use Rattle.word.specs.declared.Unit as exponent
-use Rattle.outcome.specs.Width.{columnsOf, shortBits}
+use Rattle.rounding.specs.Width.{columnsOf, shortBits}
 use Rattle.outcome.specs.Question.{topped}
 use Rattle.outcome.proofs.Counted.{counted-asked, counted-refused}
 use borrow.Author.Needs.{needs}

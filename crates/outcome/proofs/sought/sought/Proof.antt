@@ -2,7 +2,7 @@
 -- open, past it the one word is tested. Assumes nothing.
 use mathlib.Core.Path.{_≡_, refl, ap, ap₂, _∙_}
 use Prim.Native.Nat.{ℕ, _+_, _-_, _*_, _%_, _^_, _≤_, _<_}
-use native.Mathlib.Nat.{mul-le-mul-right, one-mul}
+use native.Mathlib.Nat.{mul-le-mul-right, one-mul, lt-of-le-of-lt}
 use native.Mathlib.Omega.{arith}
 use lib.Pow.{pow-pos, shl-exact}
 use Rattle.bits.proofs.Laws.{one-shl}
@@ -10,6 +10,12 @@ use Rattle.format.specs.declared.Format.{Format}
 use Rattle.format.specs.Format.{Supported}
 use Rattle.format.proofs.Room.{exponent-room}
 use Rattle.mask.specs.Mask.{meets}
+use Rattle.word.specs.Word.{signed}
+use Rattle.word.specs.Parts.{SignedFits}
+use Rattle.word.proofs.Bounds.{infinity-lt}
+use Rattle.rounding.specs.declared.Direction.{Direction}
+use Rattle.rounding.specs.Rounding.{overflowWord}
+use Rattle.rounding.proofs.Rounded.{overflow-le}
 use Rattle.outcome.proofs.Room.{exponents-lt}
 use Rattle.outcome.proofs.Fields.{within-seeks, past-seeks}
 use borrow.Author.Needs.{needs}
@@ -53,8 +59,8 @@ add-meets : tie.Need-add-meets
 add-meets c =
     let s = c .before .before .before .before .before .before .before in
     let F = s .args .format in
-    let e = within F (s .pre .0) (s .args .exponent .0) (c .before .before .before .before .if1 .taken) in
-    record { fits = rw (placed F (s .pre .0) (s .args .sign) (s .pre .1)) (omega (arith, short F (s .pre .0) (s .args .sign) (s .pre .1), exponents-lt F (s .pre .0))) }
+    let e = c .before .before .before .before .if1 .taken in
+    record { fits = rw (placed F (s .pre .0) (s .args .sign) (s .pre .1)) (omega (arith, ones F (s .pre .0), short F (s .pre .0) (s .args .sign) (s .pre .1), exponents-lt F (s .pre .0))) }
 
 meets-requires : tie.Need-meets-requires
 meets-requires c κs = search needs
@@ -69,20 +75,31 @@ returns c =
     (c .meets .ensures ∙ ap₂ meets (ap (λ (n : ℕ). n + a .exponent .0) (placed F (s .pre .0) (a .sign) (s .pre .1))) (c .before .before .before .before .high .ensures))
     (c .before .before .before .low .ensures)
 
-past-word-requires : tie.Need-past-word-requires
-past-word-requires c κs = search needs
+overflow-word-requires : tie.Need-overflow-word-requires
+overflow-word-requires c κs = search needs
+
+signed-requires : tie.Need-signed-requires
+signed-requires c κs = search needs
 
 meets-requires-2 : tie.Need-meets-requires-2
 meets-requires-2 c κs = search needs
 
+-- the word past the largest finite number
+past-word : (F : Format) → Supported F → (d : Direction) (s : ℕ) → s < 2 → (m w : ℕ) → m ≡ overflowWord F d → (SignedFits F s m → w ≡ signed F s m) → w ≡ signed F s (overflowWord F d)
+past-word F ok d s hs m w em ew =
+    ew (record { supported = ok; sign-lt = hs; magnitude-lt = rw em (lt-of-le-of-lt (overflow-le F d) (infinity-lt F ok)) }) ∙ ap (signed F s) em
+
 returns-2 : tie.Need-returns-2
 returns-2 c =
-    let s = c .before .before .before .before .before in
+    let s = c .before .before .before .before .before .before in
     let a = s .args in
     let F = a .format in
+    let o = c .before .before .overflow-word in
+    let w = c .before .signed in
     past-seeks F (a .direction) (a .sign) (a .exponent) (a .c) (c .meets2 .result) (record { care = 0; value = 0 })
-    (past F (s .pre .0) (a .exponent .0) (c .before .before .if1 .left))
-    (c .meets2 .ensures ∙ ap (λ (n : ℕ). meets n (a .c)) (c .before .past-word .ensures))
+    (past F (s .pre .0) (a .exponent .0) (c .before .before .before .if1 .left))
+    (c .meets2 .ensures
+    ∙ ap (λ (n : ℕ). meets n (a .c)) (past-word F (s .pre .0) (a .direction) (a .sign) (s .pre .1) (o .result) (w .result) (o .ensures .0 (s .pre .0)) (w .ensures .0)))
     refl
 
 pub sought-spec : {M : Type 1} → statement M
@@ -97,6 +114,7 @@ sought-spec =
     add-meets
     meets-requires
     returns
-    past-word-requires
+    overflow-word-requires
+    signed-requires
     meets-requires-2
     returns-2)

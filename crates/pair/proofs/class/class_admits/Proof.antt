@@ -1,18 +1,23 @@
 -- `pair::class::class_admits` meets its contract: it asks about the pair that stands for the class. Assumes nothing.
-use mathlib.Core.Path.{sym, _∙_}
-use mathlib.Core.Bool.{false≢true}
+use mathlib.Core.Bool.{Bool, true, false≢true}
+use mathlib.Core.Logic.{_↔_}
+use mathlib.Core.Path.{_≡_, sym, _∙_, subst, subst₂}
 use Prim.Native.Nat.{ℕ, _+_, _*_, _≤_, _<_}
 use native.Mathlib.Decide.{decLe}
 use native.Mathlib.Omega.{arith}
 use borrow.Author.Tests.{not-true, not-false, le-leb, lt-leb}
+use Rattle.format.specs.declared.Format.{Format}
+use Rattle.format.proofs.Room.{significand-room}
+use Rattle.mask.specs.declared.Mask.{Mask}
+use Rattle.mask.specs.Mask.{WellFormed}
 use Rattle.job.specs.declared.Job.{Job}
 use Rattle.job.specs.declared.Role.the-variants.{C}
 use Rattle.job.specs.Job.{Valid}
 use Rattle.job.specs.Role.{withMask}
 use Rattle.job.proofs.Roles.{valid-with}
-use Rattle.mask.specs.declared.Mask.{Mask}
-use Rattle.pair.specs.Pair.{FinitePair}
-use Rattle.pair.specs.Class.{aField, bField, withExponent, asking, ClassAsked}
+use Rattle.special.specs.Asked.{fieldIs}
+use Rattle.pair.specs.Pair.{SomeSigns, FinitePair}
+use Rattle.pair.specs.Class.{aField, bField, withExponent, asking, ClassIn, ClassAdmits}
 use Rattle.pair.proofs.ClassMasks.{asking-formed}
 use borrow.Author.Needs.{needs}
 use Rattle.pair.proofs.class.class_admits.Statement.{statement}
@@ -33,62 +38,68 @@ b-small f k h = go (decLe k (f + 4))
     go (yes l) = rw (le-leb k (f + 4) l) (omega arith)
     go (no l) = rw (lt-leb k (f + 4) (omega arith)) (omega arith)
 
-asking-valid : (j : Job) (n : Mask) (k : ℕ) → ClassAsked j k n → Valid (asking j n)
-asking-valid j n k A =
-    let v = A .valid in
-    valid-with C j (withMask (j .c) (withExponent (j .setting .format) (j .c .mask) n)) v (record { mask = asking-formed (j .setting .format) (j .c .mask) n (v .c .mask) (A .formed) })
+asking-valid : (j : Job) (n : Mask) → Valid j → WellFormed (j .setting .format .w) n → Valid (asking j n)
+asking-valid j n v wn =
+    valid-with C j (withMask (j .c) (withExponent (j .setting .format) (j .c .mask) n)) v (record { mask = asking-formed (j .setting .format) (j .c .mask) n (v .c .mask) wn })
 
-finite : (j : Job) (n : Mask) (k : ℕ) → ClassAsked j k n → FinitePair (asking j n) (aField (j .setting .format .f) k) (bField (j .setting .format .f) k)
-finite j n k A = record {
-  valid = asking-valid j n k A;
-  a-finite = omega (arith, a-small (j .setting .format .f) k (A .class-lt), A .wide);
-  b-finite = omega (arith, b-small (j .setting .format .f) k (A .class-lt), A .wide);
+finite : (F : Format) (k : ℕ) → ClassIn F k → FinitePair F (fieldIs (aField (F .f) k)) (fieldIs (bField (F .f) k))
+finite F k A = record {
+  supported = A .supported;
+  a-finite = omega (arith, a-small (F .f) k (A .class-lt), A .wide);
+  b-finite = omega (arith, b-small (F .f) k (A .class-lt), A .wide);
 }
 
-asked-requires : tie.Need-asked-requires
-asked-requires c κs = search needs
+-- what the answer about the fields and the job that the code forms tells
+told : (j t : Job) (n : Mask) (k a b : ℕ) (r : Bool) → t ≡ asking j n → a ≡ aField (j .setting .format .f) k → b ≡ bField (j .setting .format .f) k
+    → (Valid t → FinitePair (t .setting .format) (fieldIs a) (fieldIs b) → (r ≡ true) ↔ SomeSigns t (fieldIs a) (fieldIs b))
+    → Valid j → WellFormed (j .setting .format .w) n → ClassIn (j .setting .format) k → (r ≡ true) ↔ ClassAdmits j k n
+told j t n k a b r et ea eb h v wn A =
+    subst₂ (λ (x y : ℕ). Valid (asking j n) → FinitePair (j .setting .format) (fieldIs x) (fieldIs y) → (r ≡ true) ↔ SomeSigns (asking j n) (fieldIs x) (fieldIs y)) ea eb
+    (subst (λ (i : Job). Valid i → FinitePair (i .setting .format) (fieldIs a) (fieldIs b) → (r ≡ true) ↔ SomeSigns i (fieldIs a) (fieldIs b)) et h)
+    (asking-valid j n v wn) (finite (j .setting .format) k A)
+
+class-in-requires : tie.Need-class-in-requires
+class-in-requires c κs = search needs
 
 returns : tie.Need-returns
-returns c =
-    let no = not-true (c .before .asked .result) (c .if1 .taken) in
-    λ A. absurd (false≢true (sym no ∙ c .before .asked .ensures .1 A))
+returns c = (
+  (λ e. absurd (false≢true e)),
+  λ v wn A. absurd (false≢true (sym (not-true (c .before .class-in .result) (c .if1 .taken)) ∙ c .before .class-in .ensures .1 A)),
+)
+
+-- the class is one of the format
+in-class : (c : tie.Else1) → ClassIn (c .before .before .args .job .setting .format) (c .before .before .args .k)
+in-class c = c .before .class-in .ensures .0 (not-false (c .before .class-in .result) (c .if1 .left))
 
 asking-requires : tie.Need-asking-requires
-asking-requires c κs =
-    let A = c .before .asked .ensures .0 (not-false (c .before .asked .result) (c .if1 .left)) in
-    (A .valid .setting .format, A .valid .c .mask, A .formed)
+asking-requires c κs = search needs
 
 a-field-requires : tie.Need-a-field-requires
-a-field-requires c κs =
-    let A = c .before .before .asked .ensures .0 (not-false (c .before .before .asked .result) (c .before .if1 .left)) in
-    A .valid .setting .format .f-most
+a-field-requires c κs = let A = in-class (c .before) in omega (arith, significand-room (c .before .before .before .args .job .setting .format) (A .supported))
 
 b-field-requires : tie.Need-b-field-requires
-b-field-requires c κs =
-    let A = c .before .before .before .asked .ensures .0 (not-false (c .before .before .before .asked .result) (c .before .before .if1 .left)) in
-    A .valid .setting .format .f-most
+b-field-requires c κs = let A = in-class (c .before .before) in omega (arith, significand-room (c .before .before .before .before .args .job .setting .format) (A .supported))
 
-some-signs-requires : tie.Need-some-signs-requires
-some-signs-requires c κs =
-    let j = c .before .before in
-    let i = j .before in
-    let a = i .before .before .args in
-    let A = i .before .asked .ensures .0 (not-false (i .before .asked .result) (i .if1 .left)) in
-    rw (j .asking .ensures, c .before .a-field .ensures, c .b-field .ensures) (finite (a .job) (a .n) (a .k) A)
+finite-admits-requires : tie.Need-finite-admits-requires
+finite-admits-requires c κs = search needs
 
 returns-2 : tie.Need-returns-2
 returns-2 c =
-    let j = c .before .before .before in
-    λ A. rw (j .asking .ensures, c .before .before .a-field .ensures, c .before .b-field .ensures) at (c .some-signs .ensures)
+    let a = c .before .before .before .before .before .before .args in
+    let t = c .before .before .before .asking in (
+      (λ e. in-class (c .before .before .before .before)),
+      λ v wn A. told (a .job) (t .result) (a .n) (a .k) (c .before .before .a-field .result) (c .before .b-field .result) (c .finite-admits .result)
+          (t .ensures (A .supported) (v .c .mask) wn) (c .before .before .a-field .ensures) (c .before .b-field .ensures) (c .finite-admits .ensures .1) v wn A,
+    )
 
 pub class-admits-spec : {M : Type 1} → statement M
 class-admits-spec =
     tie.close
     (tie.spec
-    asked-requires
+    class-in-requires
     returns
     asking-requires
     a-field-requires
     b-field-requires
-    some-signs-requires
+    finite-admits-requires
     returns-2)

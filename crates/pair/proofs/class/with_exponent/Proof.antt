@@ -20,39 +20,26 @@ fraction-mask-requires : tie.Need-fraction-mask-requires
 fraction-mask-requires c κs = search needs
 
 word-of-requires : tie.Need-word-of-requires
-word-of-requires c κs =
-    let s = c .before .before in
-    let F = s .args .format in
-    let m = s .args .c in (
-      s .pre .0,
-      rw (c .before .sign-mask .ensures) (mod-lt (mask.high (F .w + F .f) m .care) (omega arith)),
-      s .pre .2 .below,
-      rw (c .fraction-mask .ensures) (mod-lt (m .care) (pow-pos (F .f))),
-    )
+word-of-requires c κs = search needs
 
 word-of-requires-2 : tie.Need-word-of-requires-2
-word-of-requires-2 c κs =
-    let s = c .before .before .before in
-    let F = s .args .format in
-    let m = s .args .c in (
-      s .pre .0,
-      rw (c .before .before .sign-mask .ensures) (mod-lt (mask.high (F .w + F .f) m .value) (omega arith)),
-      value-below (F .w) (s .args .n) (s .pre .2),
-      rw (c .before .fraction-mask .ensures) (mod-lt (m .value) (pow-pos (F .f))),
-    )
+word-of-requires-2 c κs = search needs
 
 returns : tie.Need-returns
 unfolding withExponent
-returns c =
+returns c ok wc wn =
     let one = c .before in
     let t = one .before .fraction-mask in
     let g = one .before .before .sign-mask in
     let s = one .before .before .before in
     let F = s .args .format in
     let n = s .args .n in
+    let m = s .args .c in
     ap₂ (λ (x y : ℕ). record { care = x; value = y })
-    (one .word-of .ensures ∙ ap₂ (λ (x y : Mask). wordOf F (x .care) (n .care) (y .care)) (g .ensures) (t .ensures))
-    (c .word-of2 .ensures ∙ ap₂ (λ (x y : Mask). wordOf F (x .value) (n .value) (y .value)) (g .ensures) (t .ensures))
+    (one .word-of .ensures .0 (record { supported = ok; sign-lt = rw (g .ensures) (mod-lt (mask.high (F .w + F .f) m .care) (omega arith)); exponent-lt = wn .below; fraction-lt = rw (t .ensures) (mod-lt (m .care) (pow-pos (F .f))) })
+    ∙ ap₂ (λ (x y : Mask). wordOf F (x .care) (n .care) (y .care)) (g .ensures) (t .ensures))
+    (c .word-of2 .ensures .0 (record { supported = ok; sign-lt = rw (g .ensures) (mod-lt (mask.high (F .w + F .f) m .value) (omega arith)); exponent-lt = value-below (F .w) n wn; fraction-lt = rw (t .ensures) (mod-lt (m .value) (pow-pos (F .f))) })
+    ∙ ap₂ (λ (x y : Mask). wordOf F (x .value) (n .value) (y .value)) (g .ensures) (t .ensures))
 
 pub with-exponent-spec : {M : Type 1} → statement M
 with-exponent-spec =

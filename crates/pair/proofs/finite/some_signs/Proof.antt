@@ -31,37 +31,37 @@ signs-admit-requires : tie.Need-signs-admit-requires
 signs-admit-requires c κs = search needs
 
 returns : tie.Need-returns
-returns c =
-    (λ e. record { sa = 0; sb = 0; sa-lt = lit< tt; sb-lt = lit< tt; posed = c .before .signs-admit .ensures .0 (c .if1 .taken) }, λ P. refl)
+returns c valid =
+    ((λ e. record { sa = 0; sb = 0; sa-lt = lit< tt; sb-lt = lit< tt; posed = c .before .signs-admit .ensures valid .0 (c .if1 .taken) }), λ P. refl)
 
 signs-admit-requires-2 : tie.Need-signs-admit-requires-2
 signs-admit-requires-2 c κs = search needs
 
 returns-2 : tie.Need-returns-2
-returns-2 c =
-    (λ e. record { sa = 0; sb = 1; sa-lt = lit< tt; sb-lt = lit< tt; posed = c .before .signs-admit2 .ensures .0 (c .if2 .taken) }, λ P. refl)
+returns-2 c valid =
+    ((λ e. record { sa = 0; sb = 1; sa-lt = lit< tt; sb-lt = lit< tt; posed = c .before .signs-admit2 .ensures valid .0 (c .if2 .taken) }), λ P. refl)
 
 signs-admit-requires-3 : tie.Need-signs-admit-requires-3
 signs-admit-requires-3 c κs = search needs
 
 returns-3 : tie.Need-returns-3
-returns-3 c =
-    (λ e. record { sa = 1; sb = 0; sa-lt = lit< tt; sb-lt = lit< tt; posed = c .before .signs-admit3 .ensures .0 (c .if3 .taken) }, λ P. refl)
+returns-3 c valid =
+    ((λ e. record { sa = 1; sb = 0; sa-lt = lit< tt; sb-lt = lit< tt; posed = c .before .signs-admit3 .ensures valid .0 (c .if3 .taken) }), λ P. refl)
 
 signs-admit-requires-4 : tie.Need-signs-admit-requires-4
 signs-admit-requires-4 c κs = search needs
 
 returns-4 : tie.Need-returns-4
-returns-4 c =
+returns-4 c valid =
     let s = c .before .before .before .before .before .before .before in
-    let j = s .args .job in (
-      λ e. record { sa = 1; sb = 1; sa-lt = lit< tt; sb-lt = lit< tt; posed = c .signs-admit4 .ensures .0 e },
+    let a = s .args in (
+      (λ e. record { sa = 1; sb = 1; sa-lt = lit< tt; sb-lt = lit< tt; posed = c .signs-admit4 .ensures valid .0 e }),
       λ P.
-          c .signs-admit4 .ensures .1
-          (last (Posed j (s .args .ea) (s .args .eb)) (P .sa) (P .sb) (P .sa-lt) (P .sb-lt) (P .posed)
-          (λ q. false≢true (sym (c .before .before .before .before .before .if1 .left) ∙ c .before .before .before .before .before .before .signs-admit .ensures .1 q))
-          (λ q. false≢true (sym (c .before .before .before .if2 .left) ∙ c .before .before .before .before .signs-admit2 .ensures .1 q))
-          (λ q. false≢true (sym (c .before .if3 .left) ∙ c .before .before .signs-admit3 .ensures .1 q))),
+          c .signs-admit4 .ensures valid .1
+          (last (Posed (a .job) (a .ea) (a .eb)) (P .sa) (P .sb) (P .sa-lt) (P .sb-lt) (P .posed)
+          (λ q. false≢true (sym (c .before .before .before .before .before .if1 .left) ∙ c .before .before .before .before .before .before .signs-admit .ensures valid .1 q))
+          (λ q. false≢true (sym (c .before .before .before .if2 .left) ∙ c .before .before .before .before .signs-admit2 .ensures valid .1 q))
+          (λ q. false≢true (sym (c .before .if3 .left) ∙ c .before .before .signs-admit3 .ensures valid .1 q))),
     )
 
 pub some-signs-spec : {M : Type 1} → statement M

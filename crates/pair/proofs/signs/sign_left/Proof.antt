@@ -1,7 +1,8 @@
 -- `pair::signs::sign_left` meets its contract. Assumes nothing.
-use mathlib.Core.Path.{ap, _∙_}
-use mathlib.Core.Bool.{Bool, not, _&&_, _||_}
-use Prim.Native.Nat.{ℕ}
+use mathlib.Core.Path.{_≡_, ap, _∙_}
+use mathlib.Core.Bool.{not, _&&_, _||_}
+use Prim.Native.Nat.{ℕ, _+_, _%_}
+use native.Mathlib.Omega.{arith}
 use lib.Dec.{eqb}
 use Rattle.mask.specs.declared.Mask.{Mask}
 use Rattle.mask.specs.Mask.{meets}
@@ -39,11 +40,11 @@ returns c =
     let v = w .before .before in
     let s = v .before .before .before in
     let a = s .args in
-    let like : Bool = eqb (a .sa) (turned (a .job .setting .operation) (a .sb)) in
+    let turn : (a .sb + a .job .setting .operation % 2) % 2 ≡ turned (a .job .setting .operation) (a .sb) = omega arith in
     let one = v .meets .ensures ∙ ap (meets (a .sa)) (v .before .sign-mask .ensures) in
     let two = w .meets2 .ensures ∙ ap (meets (a .sb)) (w .before .sign-mask2 .ensures) in
     let three = c .meets3 .ensures ∙ ap (meets (a .sa)) (c .before .sign-mask3 .ensures) in
-    (λ i. one i && two i && (not like || three i))
+    (λ i. one i && two i && (not (eqb (a .sa) (turn i)) || three i))
 
 pub sign-left-spec : {M : Type 1} → statement M
 sign-left-spec =

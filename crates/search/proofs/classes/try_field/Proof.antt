@@ -7,13 +7,15 @@ use lib.Pow.{pow-pos}
 use borrow.Author.Tests.{not-true}
 use Rattle.bits.proofs.Laws.{power-exact, one-shl}
 use Rattle.mask.specs.declared.Mask.{Mask}
-use Rattle.mask.specs.Mask.{meets}
+use Rattle.mask.specs.Mask.{WellFormed, meets}
 use Rattle.mask.proofs.Checks.{meets-true}
 use Rattle.outcome.specs.Class.{fieldAt}
 use Rattle.word.specs.Masks.{exponentMask}
-use Rattle.pair.specs.Class.{ClassAsked, ClassAdmits}
+use Rattle.job.specs.Job.{Valid}
+use Rattle.pair.specs.Class.{ClassIn, ClassAdmits}
+use Rattle.pair.proofs.Classes.{only-formed}
 use Rattle.search.specs.Classes.{Never}
-use Rattle.search.proofs.Keeping.{refuse-more, only-asked, only-is}
+use Rattle.search.proofs.Keeping.{refuse-more, class-in, only-is}
 use borrow.Author.Needs.{needs}
 use Rattle.search.proofs.classes.try_field.Statement.{statement}
 use Rattle.search.proofs.classes.try_field.Tie as tie
@@ -69,8 +71,8 @@ returns-4 c =
     let st = p .before .before .before .before .before .before .before in
     let a = st .args in
     let class = st .pre .0 in
-    let asks = subst (λ (n : Mask). ClassAsked (a .job) (a .k) n → (ca .class-admits .result ≡ true) ↔ ClassAdmits (a .job) (a .k) n) (only-is (a .job) (p .power .result) (a .i) (class .valid) (p .power .ensures)) (ca .class-admits .ensures) in
-    let never : Never (a .job) (a .k) (a .i) = λ l A. false≢true (sym (c .if3 .left) ∙ asks (only-asked (a .job) (a .k) (a .u) class (a .i) l) .1 A) in
+    let asks = subst (λ (n : Mask). Valid (a .job) → WellFormed (a .job .setting .format .w) n → ClassIn (a .job .setting .format) (a .k) → (ca .class-admits .result ≡ true) ↔ ClassAdmits (a .job) (a .k) n) (only-is (a .job) (p .power .result) (a .i) (class .valid) (p .power .ensures)) (ca .class-admits .ensures .1) in
+    let never : Never (a .job) (a .k) (a .i) = λ l A. false≢true (sym (c .if3 .left) ∙ asks (class .valid) (only-formed (a .job .setting .format) (a .i) (omega (arith, l, class .wide))) (class-in (a .job) (a .k) (a .u) class) .1 A) in
     let short = class .valid .setting .format .f-most in (
       rw (one-shl (a .i) (omega (arith, st .pre .2))) (refuse-more (a .job) (a .k) (a .refused) (a .i) (omega (arith, st .pre .2)) (st .pre .1) never),
       λ e met. never,

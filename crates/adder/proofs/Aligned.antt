@@ -1,0 +1,183 @@
+-- What the adder publishes beside its contracts: c and the carry row of two finite words, from their fields and from their aligned
+-- significands. Of operands x and y, y's unit not above x's, H is 8 times x's significand and T is y's with guard, round and sticky bit.
+-- Where the signs are unlike y is not the larger. The search cites this law and no other of the adder. Assumes nothing.
+use mathlib.Core.Path.{_≡_, refl, sym, ap, ap₂, _∙_, subst}
+use mathlib.Core.Bool.{Bool, true, false, not, cond}
+use mathlib.Core.Logic.{_⊎_, inl, inr, _↔_}
+use Prim.Native.Nat.{ℕ, zero, suc, _+_, _-_, _*_, _/_, _%_, _^_, _≤_, _<_}
+use native.Mathlib.Nat.{add-comm, mul-assoc, div-add-mod', mod-lt, lt-of-mul-lt-mul-right, le-of-lt, not-le-of-lt}
+use native.Mathlib.Decide.{decLt, ℕ-discrete}
+use native.Mathlib.Omega.{arith}
+use borrow.Author.Tests.{lt-ltb, le-ltb, eq-eqb, ne-eqb, ltb-true}
+use lib.Dec.{ltb, leb, eqb}
+use lib.Pow.{pow-pos, pow-add}
+use Rattle.bits.specs.Bit.{bit}
+use Rattle.format.specs.declared.Format.{Format}
+use Rattle.format.specs.Format.{Supported, precision}
+use Rattle.word.specs.declared.Finite as record-of
+use Rattle.word.specs.Word.{fraction, biased, sign, unitOf, effective, allOnes, significand}
+use Rattle.word.specs.Operand.{finiteOf, operandOf, magnitude, Canonical}
+use Rattle.rounding.specs.Sticky.{sticky, withSticky}
+use Rattle.adder.specs.declared.Row.the-variants.{Carries}
+use Rattle.adder.specs.Row.{carryIn, carryAt, finiteRow, kindRow, rowOf}
+use Rattle.adder.specs.Result.{finiteSum, kindSum, result}
+use Rattle.rounding.proofs.Sticky.{above-sticky}
+use Rattle.rounding.proofs.Outcome.{outcome-held}
+use Rattle.rounding.proofs.Align as align
+use Rattle.word.proofs.Canonical.{unit-le, operand-finite}
+use Rattle.word.proofs.Fields.{effective-sign, effective-biased, effective-fraction}
+use Rattle.adder.proofs.FiniteSum.{sum-like, sum-unlike, sum-cancelled, finite-sum-comm}
+use Rattle.adder.proofs.RowBit.{row-bit}
+use Rattle.adder.proofs.RowLaws.{gather-bit, finite-row-lt, finite-row-comm}
+use Rattle.columns.specs.Carry.{combined, carryOf}
+use Rattle.rounding.specs.Outcome.{outcome}
+use Rattle.adder.proofs.AlignedTail.{tail-whole, tail-sticky}
+use Rattle.adder.proofs.AlignedColumns.{flag, column-carry}
+
+-- ---- c and the row of two finite words, from their fields
+
+-- an operand with the sign that subtracting turns it to
+abbrev pub turnedOf : Format → ℕ → ℕ → record-of.Finite
+turnedOf F operation b = record { sign = (sign F b + operation) % 2; exponent = biased F b; significand = finiteOf F b .significand }
+
+module _ (F : Format) (operation mode a b : ℕ) (na : biased F a .0 ≡ allOnes F → ⊥) (nb : biased F b .0 ≡ allOnes F → ⊥) where
+  ne : biased F (effective F operation b) .0 ≡ allOnes F → ⊥
+  ne q = nb (sym (effective-biased F operation b) ∙ q)
+
+  effective-finite : finiteOf F (effective F operation b) ≡ turnedOf F operation b
+  effective-finite =
+      ap₂ (λ (s e : ℕ). record { sign = s; exponent = record { 0 = e }; significand = significand (F .f) e (fraction F (effective F operation b)) }) (effective-sign F operation b) (effective-biased F operation b)
+      ∙ ap (λ (t : ℕ). record { sign = (sign F b + operation) % 2; exponent = biased F b; significand = significand (F .f) (biased F b .0) t }) (effective-fraction F operation b)
+
+  pub result-finite : result F operation mode a b ≡ finiteSum F mode (finiteOf F a) (turnedOf F operation b)
+  unfolding result kindSum
+  result-finite =
+      ap₂ (kindSum F mode) (operand-finite F a na) (operand-finite F (effective F operation b) ne) ∙ ap (finiteSum F mode (finiteOf F a)) effective-finite
+
+  pub row-finite : rowOf F operation a b ≡ Carries (finiteRow F (finiteOf F a) (turnedOf F operation b))
+  unfolding rowOf kindRow
+  row-finite =
+      ap₂ (kindRow F) (operand-finite F a na) (operand-finite F (effective F operation b) ne)
+      ∙ ap (λ (y : record-of.Finite). Carries (finiteRow F (finiteOf F a) y)) effective-finite
+
+-- which of them comes first does not matter, and the row has p bits
+pub sum-exchanged : (F : Format) (mode : ℕ) (x y : record-of.Finite) → finiteSum F mode x y ≡ finiteSum F mode y x
+sum-exchanged F mode x y = finite-sum-comm F mode x y
+
+pub row-exchanged : (F : Format) (x y : record-of.Finite) → Canonical F x → Canonical F y → finiteRow F x y ≡ finiteRow F y x
+row-exchanged F x y cx cy = finite-row-comm F x y cx cy
+
+pub row-lt : (F : Format) (x y : record-of.Finite) → finiteRow F x y < 2 ^ precision F
+row-lt F x y = finite-row-lt F x y
+
+-- ---- from aligned significands
+
+-- above a number of units, and so with the sticky bit
+with-sticky-lt : (L Z d : ℕ) → L * 2 ^ d < Z → 2 * L < withSticky Z d
+unfolding withSticky
+with-sticky-lt L Z d h =
+    let w = div-add-mod' Z (2 ^ d) in
+    let t = sym (above-sticky L (Z / 2 ^ d) (Z % 2 ^ d) (2 ^ d) (mod-lt Z (pow-pos d))) ∙ lt-ltb (L * 2 ^ d) (Z / 2 ^ d * 2 ^ d + Z % 2 ^ d) (omega arith) in
+    omega (arith, ltb-true (2 * L) (2 * (Z / 2 ^ d) + sticky (Z % 2 ^ d)) t)
+
+module _ (F : Format) (ok : Supported F) (x y : record-of.Finite) (cx : Canonical F x) (cy : Canonical F y)
+    (units : unitOf (y .exponent) .0 ≤ unitOf (x .exponent) .0) where
+  u : ℕ
+  u = unitOf (x .exponent) .0
+
+  v : ℕ
+  v = unitOf (y .exponent) .0
+
+  d : ℕ
+  d = unitOf (x .exponent) .0 - unitOf (y .exponent) .0
+
+  -- the aligned significand of y
+  abbrev pub tailOf : ℕ
+  tailOf = withSticky (4 * y .significand) (unitOf (x .exponent) .0 - unitOf (y .exponent) .0)
+
+  gap : d + v ≡ u
+  unfolding u v d
+  gap = omega arith
+
+  normal : 0 < u → 2 ^ F .f ≤ x .significand
+  unfolding u
+  normal h = cx .normal (omega arith)
+
+  -- the difference is ordered as the magnitudes are
+  pub tail-ordered : tailOf ≤ 8 * x .significand ↔ (magnitude y ≤ magnitude x)
+  unfolding u v d
+  tail-ordered = (
+    λ h. go h (decLt (magnitude x) (magnitude y)),
+    λ h. align.tail-le F (x .significand) (y .significand) u v d gap (cx .significand-lt) (cy .significand-lt) normal h,
+  )
+    where
+      scaled : x .significand * 2 ^ u ≡ x .significand * 2 ^ d * 2 ^ v
+      scaled = ap (λ (k : ℕ). x .significand * 2 ^ k) (sym gap) ∙ ap (λ (m : ℕ). x .significand * m) (pow-add 2 d v) ∙ sym (mul-assoc (x .significand) (2 ^ d) (2 ^ v))
+
+      go : tailOf ≤ 8 * x .significand → Dec (magnitude x < magnitude y) → magnitude y ≤ magnitude x
+      go h (yes l) =
+          let q : x .significand * 2 ^ d < y .significand = lt-of-mul-lt-mul-right (2 ^ v) (subst (λ (n : ℕ). n < magnitude y) scaled l) in
+          let t = with-sticky-lt (4 * x .significand) (4 * y .significand) d (omega (arith, mul-assoc 4 (x .significand) (2 ^ d))) in
+          absurd (omega arith)
+      go h (no l) = omega arith
+
+  pub sum-outcome : (mode : ℕ) → (eqb (x .sign) (y .sign) ≡ false → magnitude y ≤ magnitude x)
+      → finiteSum F mode x y ≡ outcome F mode (eqb (x .sign) (y .sign)) (x .sign) (unitOf (x .exponent)) (combined (not (eqb (x .sign) (y .sign))) (8 * x .significand) tailOf)
+  unfolding u v d outcome
+  sum-outcome mode le = go (ℕ-discrete (x .sign) (y .sign)) (ℕ-discrete (magnitude x) (magnitude y))
+    where
+      go : Dec (x .sign ≡ y .sign) → Dec (magnitude x ≡ magnitude y)
+          → finiteSum F mode x y ≡ outcome F mode (eqb (x .sign) (y .sign)) (x .sign) (unitOf (x .exponent)) (combined (not (eqb (x .sign) (y .sign))) (8 * x .significand) tailOf)
+      go (yes e) m =
+          rw (eq-eqb _ _ e)
+          (sum-like F mode x y e
+          ∙ outcome-held F ok mode (x .sign) (magnitude x + magnitude y) (8 * x .significand + tailOf) (unitOf (x .exponent)) true
+          (align.sum-held F (x .significand) (y .significand) u v d gap (cx .significand-lt) (cy .significand-lt) normal)
+          (align.sum-lt F (x .significand) (y .significand) u v d gap (cx .significand-lt) (cy .significand-lt) normal) (inl refl))
+      go (no e) (yes m) =
+          let t = align.equal-tail F (x .significand) (y .significand) u v d gap (cx .significand-lt) (cy .significand-lt) normal .0 m in
+          let z : 8 * x .significand - tailOf ≡ 0 = omega arith in
+          rw (ne-eqb _ _ e, z) (sum-cancelled F mode x y e m)
+      go (no e) (no m) =
+          let l = le (ne-eqb _ _ e) in
+          let lt = align.sum-lt F (x .significand) (y .significand) u v d gap (cx .significand-lt) (cy .significand-lt) normal in
+          let o = tail-ordered .1 l in
+          let ne : (8 * x .significand - tailOf ≡ 0 → ⊥) = λ z. m (align.equal-tail F (x .significand) (y .significand) u v d gap (cx .significand-lt) (cy .significand-lt) normal .1 (omega arith)) in
+          rw (ne-eqb _ _ e)
+          (sum-unlike F mode x y e (omega (arith, m))
+          ∙ outcome-held F ok mode (x .sign) (magnitude x - magnitude y) (8 * x .significand - tailOf) (unitOf (x .exponent)) false
+          (align.difference-held F (x .significand) (y .significand) u v d gap (cx .significand-lt) (cy .significand-lt) normal l)
+          (omega arith) (inr ne))
+
+  -- a test of the row, from the aligned significands
+  row-test : (i : ℕ) (t : Bool) → flag (carryAt t (magnitude x) (magnitude y) u i) ≡ carryOf (not t) (8 * x .significand) tailOf (i + 4)
+  unfolding u v d
+  row-test i t =
+      ap flag
+      (row-bit (x .significand) (y .significand) u v d i gap t
+      ∙ ap₂ (λ (q s : ℕ). carryIn t (x .significand) q s i) (sym (tail-whole (y .significand) d)) (sym (tail-sticky (y .significand) d)))
+      ∙ sym (column-carry (x .significand) tailOf i t)
+
+  pub row-columns : (eqb (x .sign) (y .sign) ≡ false → magnitude y ≤ magnitude x) → (i : ℕ) → i < precision F
+      → bit (finiteRow F x y) i ≡ carryOf (not (eqb (x .sign) (y .sign))) (8 * x .significand) tailOf (i + 4)
+  unfolding u v finiteRow
+  row-columns le i h = go (decLt (magnitude x) (magnitude y)) (ℕ-discrete (x .sign) (y .sign))
+    where
+      ordered : (l r : record-of.Finite) → ℕ
+      ordered l r = Rattle.adder.specs.Row.orderedRow F l r
+
+      go : Dec (magnitude x < magnitude y) → Dec (x .sign ≡ y .sign)
+          → bit (cond (ltb (magnitude x) (magnitude y)) (ordered y x) (ordered x y)) i ≡ carryOf (not (eqb (x .sign) (y .sign))) (8 * x .significand) tailOf (i + 4)
+      go (no l) s =
+          rw (le-ltb (magnitude x) (magnitude y) (omega arith))
+          (gather-bit (precision F) (carryAt (eqb (x .sign) (y .sign)) (magnitude x) (magnitude y) u) i h ∙ row-test i (eqb (x .sign) (y .sign)))
+      go (yes l) (no s) = absurd (not-le-of-lt l (le (ne-eqb _ _ s)))
+      go (yes l) (yes s) =
+          let same : v ≡ u = omega (arith, unit-le F y x cy cx (le-of-lt l)) in
+          let M = 2 ^ (v + suc i) in
+          rw (lt-ltb (magnitude x) (magnitude y) l, eq-eqb _ _ s)
+          (gather-bit (precision F) (carryAt (eqb (y .sign) (x .sign)) (magnitude y) (magnitude x) v) i h
+          ∙ ap (λ (t : Bool). flag (carryAt t (magnitude y) (magnitude x) v i)) (eq-eqb _ _ (sym s))
+          ∙ ap (λ (n : ℕ). flag (leb M n)) (add-comm (magnitude y % M) (magnitude x % M))
+          ∙ ap (λ (n : ℕ). flag (carryAt true (magnitude x) (magnitude y) n i)) same
+          ∙ row-test i true)

@@ -1,0 +1,183 @@
+-- Two finite numbers with the signs and the exponent fields of two sides, whose fractions meet the sides' masks, have a sum and a row that
+-- meet the job's masks exactly when aligned significands make such, with the one or the other side as the larger. Assumes nothing.
+use mathlib.Core.Path.{_≡_, refl, sym, ap, ap₂, _∙_, subst}
+use mathlib.Core.Bool.{Bool, true, false, not}
+use mathlib.Core.Logic.{_↔_, inl, inr, ⊎-elim}
+use Prim.Native.Nat.{ℕ, _+_, _-_, _*_, _^_, _≤_, _<_}
+use native.Mathlib.Nat.{le-of-lt, lt-of-lt-of-le}
+use native.Mathlib.Decide.{decLt}
+use native.Mathlib.Omega.{arith}
+use lib.Dec.{eqb}
+use lib.Pow.{pow-mono}
+use Rattle.bits.specs.Bit.{bit}
+use Rattle.format.specs.declared.Format.{Format}
+use Rattle.format.specs.Format.{Supported, precision}
+use Rattle.format.proofs.Room.{significand-room}
+use Rattle.mask.specs.declared.Mask.{Mask}
+use Rattle.mask.specs.Mask.{Meets, WellFormed}
+use Rattle.mask.proofs.ByBits.{value-below}
+use Rattle.job.specs.declared.Job.{Job}
+use Rattle.job.specs.Job.{Valid}
+use Rattle.columns.specs.Column.{allows}
+use Rattle.columns.proofs.Agree.{met-bits, met-whole}
+use Rattle.word.specs.declared.Finite as record-of
+use Rattle.word.specs.Word.{significand, unitOf}
+use Rattle.word.specs.Operand.{magnitude, Canonical}
+use Rattle.rounding.specs.Sticky.{withSticky}
+use Rattle.adder.specs.Result.{finiteSum}
+use Rattle.adder.specs.Row.{finiteRow}
+use Rattle.word.proofs.Canonical.{significand-bounds, unit-le}
+use Rattle.significand.proofs.Significand.{significand-formed, significand-meets}
+use Rattle.significand.proofs.Tail.{aligned-zero, tail-sound, tail-complete}
+use Rattle.columns.specs.Carry.{combined, carryOf}
+use Rattle.rounding.specs.Outcome.{outcome}
+use Rattle.pair.specs.declared.Side.{Side}
+use Rattle.pair.specs.Pair.{FiniteSide, significandsOf, gapOf, Larger, Sums}
+use Rattle.adder.proofs.Aligned.{sum-exchanged, row-exchanged, row-lt, tail-ordered, sum-outcome, row-columns}
+
+-- the finite number of a side and a fraction
+abbrev pub number : Format → Side → ℕ → record-of.Finite
+number F x t = record { sign = x .sign; exponent = x .exponent; significand = significand (F .f) (x .exponent .0) t }
+
+-- a number of n bits meets a mask of n bits exactly when each of its bits is allowed
+meets-allowed : (n x : ℕ) (m : Mask) → WellFormed n m → x < 2 ^ n → Meets x m ↔ ((i : ℕ) → i < n → allows (m .care) (m .value) i (bit x i) ≡ true)
+meets-allowed n x m formed below = (
+  λ h. met-bits (m .care) (m .value) x n .0 (met-whole (m .care) (m .value) x n (value-below n m formed) below .1 h),
+  λ h. met-whole (m .care) (m .value) x n (value-below n m formed) below .0 (met-bits (m .care) (m .value) x n .1 h),
+)
+
+-- fractions that meet their masks, of numbers whose sum and row meet the job's
+pub record Numbers (j : Job) (x y : Side) : Type 0 where
+  pub p : ℕ
+  pub q : ℕ
+  pub p-lt : p < 2 ^ j .setting .format .f
+  pub q-lt : q < 2 ^ j .setting .format .f
+  pub p-meets : Meets p (x .fraction)
+  pub q-meets : Meets q (y .fraction)
+  pub row-meets : Meets (finiteRow (j .setting .format) (number (j .setting .format) x p) (number (j .setting .format) y q)) (j .carries)
+  pub sum-meets : Meets (finiteSum (j .setting .format) (j .setting .mode) (number (j .setting .format) x p) (number (j .setting .format) y q)) (j .c .mask)
+
+pub number-canonical : (F : Format) (x : Side) → FiniteSide F x → (t : ℕ) → t < 2 ^ F .f → Canonical F (number F x t)
+number-canonical F x fx t ht =
+    let b = significand-bounds (F .f) (x .exponent .0) t ht in
+    record { sign-lt = fx .sign-lt; exponent-lt = fx .finite; significand-lt = b .0; subnormal = b .1; normal = b .2 }
+
+-- the sum and the row are those of the exchanged numbers
+exchange : (j : Job) (x y : Side) → FiniteSide (j .setting .format) x → FiniteSide (j .setting .format) y → Numbers j x y → Numbers j y x
+exchange j x y fx fy N =
+    let F = j .setting .format in
+    let X = number F x (N .p) in
+    let Y = number F y (N .q) in
+    record {
+      p = N .q;
+      q = N .p;
+      p-lt = N .q-lt;
+      q-lt = N .p-lt;
+      p-meets = N .q-meets;
+      q-meets = N .p-meets;
+      row-meets = subst (λ (n : ℕ). Meets n (j .carries)) (row-exchanged F X Y (number-canonical F x fx (N .p) (N .p-lt)) (number-canonical F y fy (N .q) (N .q-lt))) (N .row-meets);
+      sum-meets = subst (λ (n : ℕ). Meets n (j .c .mask)) (sum-exchanged F (j .setting .mode) X Y) (N .sum-meets);
+    }
+
+module _ (j : Job) (valid : Valid j) (x y : Side) (fx : FiniteSide (j .setting .format) x) (fy : FiniteSide (j .setting .format) y) where
+  F : Format
+  F = j .setting .format
+
+  ok : Supported (j .setting .format)
+  ok = valid .setting .format
+
+  p-most : precision (j .setting .format) ≤ 60
+  p-most = omega (arith, significand-room (j .setting .format) (valid .setting .format))
+
+  f-most : j .setting .format .f < 64
+  f-most = omega (arith, significand-room (j .setting .format) (valid .setting .format))
+
+  up : precision (j .setting .format) + 3 ≡ j .setting .format .f + 4
+  up = omega arith
+
+  gap : ℕ
+  gap = gapOf x y
+
+  -- numbers of which y's is not the larger
+  larger-of : (N : Numbers j x y) → magnitude (number (j .setting .format) y (N .q)) ≤ magnitude (number (j .setting .format) x (N .p)) → Larger j x y
+  unfolding F ok gap
+  larger-of N le =
+      let X = number F x (N .p) in
+      let Y = number F y (N .q) in
+      let cx = number-canonical F x fx (N .p) (N .p-lt) in
+      let cy = number-canonical F y fy (N .q) (N .q-lt) in
+      let units = unit-le F X Y cx cy le in
+      let hm = significand-meets (F .f) (x .fraction) f-most (fx .formed) (x .exponent) (X .significand) .1 (N .p, N .p-lt, N .p-meets, refl) in
+      let tm = significand-meets (F .f) (y .fraction) f-most (fy .formed) (y .exponent) (Y .significand) .1 (N .q, N .q-lt, N .q-meets, refl) in
+      let hs = tail-sound (precision F) (significandsOf F x) 0 p-most (significand-formed (F .f) (x .fraction) f-most (fx .formed) (x .exponent)) (X .significand) (hm .1) (hm .0) in
+      let ts = tail-sound (precision F) (significandsOf F y) gap p-most (significand-formed (F .f) (y .fraction) f-most (fy .formed) (y .exponent)) (Y .significand) (tm .1) (tm .0) in
+      let zero = aligned-zero (X .significand) in
+      let row = meets-allowed (precision F) (finiteRow F X Y) (j .carries) (valid .carries) (row-lt F X Y) .0 (N .row-meets) in (
+        units,
+        record {
+          x = combined (not (eqb (x .sign) (y .sign))) (8 * X .significand) (withSticky (4 * Y .significand) gap);
+          made = record {
+            H = 8 * X .significand;
+            T = withSticky (4 * Y .significand) gap;
+            head-lt = subst (λ (n : ℕ). 8 * X .significand < 2 ^ n) up (rw zero at (hs .1));
+            tail-lt = subst (λ (n : ℕ). withSticky (4 * Y .significand) gap < 2 ^ n) up (ts .1);
+            head-meets = rw zero at (hs .0);
+            tail-meets = ts .0;
+            ordered = λ u. tail-ordered F ok X Y cx cy units .1 le;
+            carries-allow = λ i h.
+                subst (λ (b : ℕ). allows (j .carries .care) (j .carries .value) i b ≡ true) (row-columns F ok X Y cx cy units (λ u. le) i h) (row i h);
+            makes = refl;
+          };
+          holds = subst (λ (w : ℕ). Meets w (j .c .mask)) (sum-outcome F ok X Y cx cy units (j .setting .mode) (λ u. le)) (N .sum-meets);
+        },
+      )
+
+  pub larger-numbers : Larger j x y → Numbers j x y
+  unfolding F ok gap
+  larger-numbers (units, admitted) =
+      let A = admitted .made in
+      let wide : (v : ℕ) → v < 2 ^ (F .f + 4) → v < 2 ^ 63 = λ v h. lt-of-lt-of-le h (pow-mono {i = F .f + 4} {j = 63} (omega (arith, significand-room F ok))) in
+      let hc = tail-complete (precision F) (significandsOf F x) 0 p-most (significand-formed (F .f) (x .fraction) f-most (fx .formed) (x .exponent)) (A .H) (wide (A .H) (A .head-lt)) (A .head-meets) in
+      let tc = tail-complete (precision F) (significandsOf F y) gap p-most (significand-formed (F .f) (y .fraction) f-most (fy .formed) (y .exponent)) (A .T) (wide (A .T) (A .tail-lt)) (A .tail-meets) in
+      let hm = significand-meets (F .f) (x .fraction) f-most (fx .formed) (x .exponent) (hc .0) .0 (hc .2, hc .1) in
+      let tm = significand-meets (F .f) (y .fraction) f-most (fy .formed) (y .exponent) (tc .0) .0 (tc .2, tc .1) in
+      let X = number F x (hm .0) in
+      let Y = number F y (tm .0) in
+      let cx = number-canonical F x fx (hm .0) (hm .1) in
+      let cy = number-canonical F y fy (tm .0) (tm .1) in
+      let like = eqb (x .sign) (y .sign) in
+      let H : 8 * X .significand ≡ A .H = sym (aligned-zero (X .significand)) ∙ ap (λ (r : ℕ). withSticky (4 * r) 0) (hm .3) ∙ hc .3 in
+      let T : withSticky (4 * Y .significand) gap ≡ A .T = ap (λ (r : ℕ). withSticky (4 * r) gap) (tm .3) ∙ tc .3 in
+      let ordered : (eqb (x .sign) (y .sign) ≡ false → magnitude Y ≤ magnitude X) = λ u. tail-ordered F ok X Y cx cy units .0 (rw (H, T) (A .ordered u)) in
+      record {
+        p = hm .0;
+        q = tm .0;
+        p-lt = hm .1;
+        q-lt = tm .1;
+        p-meets = hm .2;
+        q-meets = tm .2;
+        row-meets = meets-allowed (precision F) (finiteRow F X Y) (j .carries) (valid .carries) (row-lt F X Y) .1
+            (λ i h.
+            subst (λ (b : ℕ). allows (j .carries .care) (j .carries .value) i b ≡ true)
+            (sym (row-columns F ok X Y cx cy units ordered i h ∙ ap₂ (λ (a b : ℕ). carryOf (not like) a b (i + 4)) H T)) (A .carries-allow i h));
+        sum-meets = subst (λ (w : ℕ). Meets w (j .c .mask))
+            (sym
+            (sum-outcome F ok X Y cx cy units (j .setting .mode) ordered
+            ∙ ap (outcome F (j .setting .mode) like (x .sign) (unitOf (x .exponent))) (ap₂ (combined (not like)) H T ∙ A .makes)))
+            (admitted .holds);
+      }
+
+-- in either order
+pub sums-numbers : (j : Job) → Valid j → (x y : Side) → FiniteSide (j .setting .format) x → FiniteSide (j .setting .format) y → Sums j x y ↔ Numbers j x y
+unfolding exchange
+sums-numbers j valid x y fx fy = (
+  ⊎-elim (larger-numbers j valid x y fx fy) (λ l. exchange j y x fy fx (larger-numbers j valid y x fy fx l)),
+  λ N.
+      let X = number (j .setting .format) x (N .p) in
+      let Y = number (j .setting .format) y (N .q) in
+      go N (decLt (magnitude X) (magnitude Y)),
+)
+  where
+    go : (N : Numbers j x y) → Dec (magnitude (number (j .setting .format) x (N .p)) < magnitude (number (j .setting .format) y (N .q))) → Sums j x y
+    go N (yes l) = inr (larger-of j valid y x fy fx (exchange j x y fx fy N) (le-of-lt l))
+    go N (no l) = inl (larger-of j valid x y fx fy N (omega arith))
