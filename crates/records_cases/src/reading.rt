@@ -3,7 +3,7 @@ use libc::STDOUT_FILENO;
 use records::First;
 
 // The example file of document 01: the jobs of cases 1 and 4.
-pub fn file() -> [u8; 64] {
+pub(crate) fn file() -> [u8; 64] {
     *b"\x07\x03\x04\x00\xf7\x00\x00\x00\x45\x00\x00\x00\xef\x00\x00\x00\x2b\x00\x00\x00\xe6\x00\x00\x00\x44\x00\x00\x00\x0f\x03\x04\x00\xf7\x00\x00\x00\x45\x00\x00\x00\xef\x00\x00\x00\x2b\x00\x00\x00\xe6\x00\x00\x00\x44\x00\x00\x00\x02\x00\x00\x00\x02\x00\x00\x00"
 }
 
@@ -23,7 +23,7 @@ fn show_first(first: First) {
     }
 }
 
-pub fn show_same(same: bool) {
+pub(crate) fn show_same(same: bool) {
     if same {
         io::write_all(STDOUT_FILENO, b"the same");
     } else {
@@ -46,7 +46,7 @@ fn show(s: &[u8]) {
 }
 
 // Three readings, each of the rest that the one before it leaves.
-pub fn example() {
+pub(crate) fn example() {
     let bytes = file();
     show(&bytes);
     let second = records::rest(&bytes);
@@ -77,13 +77,13 @@ fn cut(s: &[u8]) {
     line(s);
 }
 
-pub fn truncations() {
+pub(crate) fn truncations() {
     let bytes = file();
     cut(&bytes);
 }
 
 // One record for each refusal, and for their order.
-pub fn refusals() {
+pub(crate) fn refusals() {
     // w above 8; f below 2; operation 2; mode 4
     show(b"\x00\x09\x04\x00");
     show(b"\x00\x03\x01\x00");
@@ -110,7 +110,7 @@ pub fn refusals() {
 }
 
 // Document 01, case 12, with the fields that a record may leave out left out.
-pub fn limits() {
+pub(crate) fn limits() {
     show(b"\x00\x01\x04\x00");
     show(b"\x00\x02\x02\x00");
     show(b"\x00\x08\x17\x01");

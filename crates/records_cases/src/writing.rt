@@ -84,7 +84,7 @@ fn back(s: &[u8]) {
     kept(&buffer, n);
 }
 
-pub fn example() {
+pub(crate) fn example() {
     let bytes = reading::file();
     back(&bytes);
     back(records::rest(&bytes));
@@ -121,7 +121,7 @@ fn free() -> Mask {
 }
 
 // The longest record, in a buffer that is long enough and in one that is a byte short; the shortest alike.
-pub fn lengths() {
+pub(crate) fn lengths() {
     let mask = fixed(0xe6, 0x44);
     let carries = fixed(0x1f, 0x15);
     show(entry(sized(3, 4), 1, 3, mask, carries, 0xff), 45);
@@ -131,7 +131,7 @@ pub fn lengths() {
 }
 
 // One entry for each refusal but the last, half of them with no room at all, since 11 comes last.
-pub fn refusals() {
+pub(crate) fn refusals() {
     show(entry(sized(1, 4), 0, 0, free(), free(), 0), 64);
     show(entry(sized(3, 24), 0, 0, free(), free(), 0), 0);
     show(entry(sized(3, 4), 2, 0, free(), free(), 0), 64);
