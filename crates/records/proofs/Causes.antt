@@ -56,6 +56,7 @@ entry-fits e v =
 
 -- in a record it has these bytes, or it is 0
 pub record-fits : (e : Entry) → recordCause e ≡ 0 → Fits (fieldSizes (entryMap e)) (entryNumbers e)
+unfolding entryMap
 record-fits e ok =
     let ns : List ℕ = entryNumbers e in
     fits-map (entryMap e) (layout wordBytes) ns (entry-fits e (request-none (e .job) (e .r1) (e .r2) .0 ok)) (map-absent (layout wordBytes) ns)

@@ -10,7 +10,7 @@ use Rattle.job.specs.Job.{settingCause, masksCause, jobCause, requestCause}
 use Rattle.records.specs.Number.{littleEndian}
 use Rattle.records.specs.Numbers.{numberBytes}
 use Rattle.records.specs.Layout.{sizes, mapOf}
-use Rattle.records.specs.Record.{layout, recordBytes}
+use Rattle.records.specs.Record.{layout, entryMap, recordBytes}
 use Rattle.records.specs.File.{fileBytes, Reads, Writable, none, more}
 use Rattle.records.specs.declared.Entry.{Entry}
 use Rattle.records.proofs.Files.{file-read}
@@ -40,7 +40,7 @@ file =
     ∷ 0x02 ∷ 0 ∷ 0 ∷ 0 ∷ 0x02 ∷ 0 ∷ 0 ∷ 0 ∷ []
 
 pub example-bytes : fileBytes jobs ≡ file
-unfolding fileBytes recordBytes layout sizes mapOf numberBytes littleEndian
+unfolding fileBytes recordBytes entryMap layout sizes mapOf numberBytes littleEndian
 example-bytes = refl
 
 writable : Writable jobs
@@ -48,5 +48,5 @@ unfolding requestCause jobCause settingCause masksCause formatCause operationCau
 writable = more refl (more refl none)
 
 pub example-read : Reads file jobs
-unfolding fileBytes recordBytes layout sizes mapOf numberBytes littleEndian
+unfolding fileBytes recordBytes entryMap layout sizes mapOf numberBytes littleEndian
 example-read = file-read writable

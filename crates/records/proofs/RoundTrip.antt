@@ -29,11 +29,11 @@ module _ (e : Entry) (t : List ℕ) (ok : recordCause e ≡ 0) where
   same-numbers = numbers-back (record-fits e ok) t
 
   same-entry : entryIn (recordBytes e ++ t) ≡ e
-  unfolding recordBytes
+  unfolding recordBytes entryIn
   same-entry = ap (entryWith (e .job .setting .format) (e .job .setting .operation)) same-numbers
 
   no-cause : readCause (recordBytes e ++ t) ≡ 0
-  unfolding recordBytes
+  unfolding recordBytes entryMap
   no-cause =
       read-none (recordBytes e ++ t) .1
       (record {
@@ -62,6 +62,7 @@ entry-numbers F operation m s = refl
 -- so the test for defaults may compare the map that was read with the entry's own
 pub entry-default : (s : List ℕ) → getD s 0 0 < 2 ^ fieldCount
     → first (recordCause (entryIn s)) (unless (eqb (entryMap (entryIn s)) (getD s 0 0)) cause.default) ≡ lateCause s
+unfolding entryIn entryMap
 entry-default s h =
     let m : ℕ = getD s 0 0 in
     let same : entryNumbers (entryIn s) ≡ numbersIn s = entry-numbers (record { w = getD s 1 0; f = getD s 2 0 }) (getD s 3 0) m (drop headerBytes s) in
@@ -72,7 +73,7 @@ entry-default s h =
 module _ (m w f o : ℕ) (t : List ℕ) (b : Bytes (m ∷ w ∷ f ∷ o ∷ t)) (r : Readable (m ∷ w ∷ f ∷ o ∷ t)) where
   -- the record of the entry that was read is what was read
   record-back : recordBytes (entryIn (m ∷ w ∷ f ∷ o ∷ t)) ≡ take (recordLength m) (m ∷ w ∷ f ∷ o ∷ t)
-  unfolding recordBytes recordLength
+  unfolding recordBytes recordLength entryIn entryMap
   record-back =
       let ns : List ℕ = numbers (fieldSizes m) t in
       let same : entryNumbers (entryIn (m ∷ w ∷ f ∷ o ∷ t)) ≡ ns = entry-numbers (record { w = w; f = f }) o m t in

@@ -88,7 +88,7 @@ recordCause e = requestCause (e .job) (e .r1) (e .r2)
 abbrev pub fieldSizes : ℕ → List ℕ
 fieldSizes m = sizes (layout wordBytes) m
 
-abbrev pub entryMap : Entry → ℕ
+unfoldable pub entryMap : Entry → ℕ
 entryMap e = mapOf (layout wordBytes) (entryNumbers e)
 
 -- "A record begins with a map byte"; "Then w, f and the operation, a byte each. Then, in bit order, only the fields whose bit stands."
@@ -107,7 +107,7 @@ recordLength m = headerBytes + total (fieldSizes m)
 abbrev pub numbersIn : List ℕ → List ℕ
 numbersIn s = numbers (fieldSizes (getD s 0 0)) (drop headerBytes s)
 
-abbrev pub entryIn : List ℕ → Entry
+unfoldable pub entryIn : List ℕ → Entry
 entryIn s = entryWith (record { w = getD s 1 0; f = getD s 2 0 }) (getD s 3 0) (numbersIn s)
 
 -- "Reading checks 9, 8, then 1 to 6, then 10"; a map with no bit above the fields' bits is below 2 to their count

@@ -10,7 +10,7 @@ ghost use mathlib.Core.Path.{_≡_};
 ghost use Prim.Native.Nat.{_*_};
 ghost use Rattle.bits.specs.Bit.{bit};
 ghost use Rattle.records.specs.Layout.{sizes, mapOf};
-ghost use Rattle.records.specs.Record.{layout, entryNumbers, entryWith, fieldSizes, wordBytes};
+ghost use Rattle.records.specs.Record.{wordBytes, layout, fieldSizes, entryNumbers, entryMap, entryWith};
 
 // How many bytes a word has.
 const WORD: usize = 4;
@@ -70,7 +70,7 @@ pub(crate) fn field_sizes(map: u64) -> [usize; NUMBERS]
 }
 
 // The map of a record with these numbers: each that is not 0 sets the bit of its field.
-pub(crate) fn map_of(numbers: [u64; NUMBERS]) -> u64
+fn map_of(numbers: [u64; NUMBERS]) -> u64
     ensures { λ r. ⌜ r ≡ mapOf (layout wordBytes) numbers ⌝ }
 {
     let slots = layout(WORD);
@@ -103,6 +103,13 @@ pub(crate) fn entry_numbers(entry: Entry) -> [u64; NUMBERS]
         entry.r1,
         entry.r2,
     ]
+}
+
+// The map of the entry's record.
+pub(crate) fn entry_map(entry: Entry) -> u64
+    ensures { λ r. ⌜ r ≡ entryMap entry ⌝ }
+{
+    map_of(entry_numbers(entry))
 }
 
 // The entry with these numbers.

@@ -10,10 +10,10 @@ use job::Job;
 use job::request_cause;
 use layout::FIELDS;
 use layout::NUMBERS;
+use layout::entry_map;
 use layout::entry_numbers;
 use layout::entry_with;
 use layout::field_sizes;
-use layout::map_of;
 use number::put_numbers;
 use number::read_numbers;
 use number::total;
@@ -96,7 +96,7 @@ fn entry_in(s: &[u8], map: u64) -> Entry
 fn read_reply(entry: Entry, map: u64, n: usize) -> First
     ensures { λ r. ⌜ r ≡ readReply (first (recordCause entry) (unless (eqb (entryMap entry) map) cause.default)) entry n ⌝ }
 {
-    let same = map_of(entry_numbers(entry)) == map;
+    let same = entry_map(entry) == map;
     let cause = first(entry_cause(entry), unless(same, cause::DEFAULT));
     if cause == 0 {
         return First::Job(entry, n);
@@ -156,7 +156,7 @@ pub fn write(entry: Entry, buffer: &mut [u8]) -> Writing
     if 0 < cause {
         return Writing::Refused(cause);
     }
-    let map = map_of(entry_numbers(entry));
+    let map = entry_map(entry);
     let n = record_length(map);
     if buffer.len() < n {
         return Writing::Refused(cause::BUFFER);

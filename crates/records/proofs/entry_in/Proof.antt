@@ -8,7 +8,7 @@ use lib.ListN.{length, take, drop, length-drop}
 use lib.Seq.{take-all}
 use denote.Ref.{now}
 use Rattle.records.specs.Numbers.{numbers}
-use Rattle.records.specs.Record.{headerBytes, fieldSizes, recordLength, entryWith}
+use Rattle.records.specs.Record.{headerBytes, fieldSizes, entryWith, recordLength, entryIn}
 use borrow.Author.Needs.{needs}
 use Rattle.records.proofs.entry_in.Statement.{statement}
 use Rattle.records.proofs.entry_in.Tie as tie
@@ -57,6 +57,7 @@ decode-requires c κs =
     omega (arith, ap length (tail-part s), length-drop headerBytes s, k .pre .1)
 
 returns : tie.Need-returns
+unfolding entryIn
 returns c =
     let k = c .before .before .before .before .before .before .before .before .before in
     let s : List ℕ = now (k .args .s) in

@@ -37,7 +37,7 @@ byte : (x : ℕ) → x < 256 → x % 256 ≡ x
 byte x h = mod-eq-of-lt h
 
 header-bytes : (e : Entry) → recordCause e ≡ 0 → numberBytes (1 ∷ 1 ∷ 1 ∷ 1 ∷ []) (header e) ≡ header e
-unfolding numberBytes littleEndian
+unfolding numberBytes littleEndian entryMap
 header-bytes e ok =
     let v = request-none (e .job) (e .r1) (e .r2) .0 ok .valid .setting in
     let m : entryMap e < 2 ^ fieldCount = map-lt fieldCount (layout wordBytes) (entryNumbers e) (layout-bits wordBytes) in

@@ -4,18 +4,14 @@ use Prim.Native.Nat.{ℕ}
 use lib.Dec.{eqb}
 use Rattle.format.specs.Cause as cause
 use Rattle.format.specs.Cause.{first, unless}
-use Rattle.records.specs.Layout.{mapOf}
-use Rattle.records.specs.Record.{wordBytes, layout, entryMap, recordCause, readReply}
+use Rattle.records.specs.Record.{entryMap, recordCause, readReply}
 use borrow.Author.Needs.{needs}
 use Rattle.records.proofs.Causes.{reply-refused}
 use Rattle.records.proofs.read_reply.Statement.{statement}
 use Rattle.records.proofs.read_reply.Tie as tie
 
-entry-numbers-requires : tie.Need-entry-numbers-requires
-entry-numbers-requires c κs = search needs
-
-map-of-requires : tie.Need-map-of-requires
-map-of-requires c κs = search needs
+entry-map-requires : tie.Need-entry-map-requires
+entry-map-requires c κs = search needs
 
 entry-cause-requires : tie.Need-entry-cause-requires
 entry-cause-requires c κs = search needs
@@ -28,21 +24,21 @@ first-requires c κs = search needs
 
 -- the cause that was computed
 found-cause : (c : tie.After-first) → c .first .result
-    ≡ first (recordCause (c .before .before .before .before .before .args .entry)) (unless (eqb (entryMap (c .before .before .before .before .before .args .entry)) (c .before .before .before .before .before .args .map)) cause.default)
+    ≡ first (recordCause (c .before .before .before .before .args .entry)) (unless (eqb (entryMap (c .before .before .before .before .args .entry)) (c .before .before .before .before .args .map)) cause.default)
 found-cause c =
-    let a = c .before .before .before .before .before .args in
+    let a = c .before .before .before .before .args in
     c .first .ensures
     ∙ ap₂ first (c .before .before .entry-cause .ensures)
-    (c .before .unless .ensures ∙ ap (λ (m : ℕ). unless (eqb m (a .map)) cause.default) (c .before .before .before .map-of .ensures ∙ ap (mapOf (layout wordBytes)) (c .before .before .before .before .entry-numbers .ensures)))
+    (c .before .unless .ensures ∙ ap (λ (m : ℕ). unless (eqb m (a .map)) cause.default) (c .before .before .before .entry-map .ensures))
 
 returns : tie.Need-returns
 returns c =
-    let a = c .before .before .before .before .before .before .args in
+    let a = c .before .before .before .before .before .args in
     ap (λ (k : ℕ). readReply k (a .entry) (a .n)) (sym (c .if1 .taken) ∙ found-cause (c .before))
 
 returns-2 : tie.Need-returns-2
 returns-2 c =
-    let a = c .before .before .before .before .before .before .args in
+    let a = c .before .before .before .before .before .args in
     reply-refused (c .before .first .result) (a .entry) (a .n) (c .if1 .left)
     ∙ ap (λ (k : ℕ). readReply k (a .entry) (a .n)) (found-cause (c .before))
 
@@ -50,8 +46,7 @@ pub read-reply-spec : {M : Type 1} → statement M
 read-reply-spec =
     tie.close
     (tie.spec
-    entry-numbers-requires
-    map-of-requires
+    entry-map-requires
     entry-cause-requires
     unless-requires
     first-requires

@@ -5,8 +5,7 @@ use native.Mathlib.Omega.{arith}
 use mathlib.Core.List.{List}
 use lib.ListN.{length}
 use denote.Ref.{now}
-use Rattle.records.specs.Layout.{mapOf}
-use Rattle.records.specs.Record.{wordBytes, layout, entryMap, recordCause, recordBytes, recordLength}
+use Rattle.records.specs.Record.{recordCause, recordBytes, recordLength}
 use Rattle.records.specs.declared.Writing.the-variants as reply
 use Rattle.records.proofs.Causes.{record-length}
 use Rattle.records.proofs.Replies.{write-refused, write-short, write-whole}
@@ -26,11 +25,8 @@ returns c =
     let both = write-refused e s (λ q. omega (arith, it, c .if1 .taken)) in
     (ap reply.Refused it ∙ both .0, both .1)
 
-entry-numbers-requires : tie.Need-entry-numbers-requires
-entry-numbers-requires c κs = search needs
-
-map-of-requires : tie.Need-map-of-requires
-map-of-requires c κs = search needs
+entry-map-requires : tie.Need-entry-map-requires
+entry-map-requires c κs = search needs
 
 record-length-requires : tie.Need-record-length-requires
 record-length-requires c κs = search needs
@@ -39,25 +35,22 @@ record-length-requires c κs = search needs
 sound : (c : tie.Else1) → recordCause (c .before .before .before .args .entry) ≡ 0
 sound c = omega (arith, c .before .entry-cause .ensures, c .if1 .left)
 
-map : (c : tie.After-map-of) → c .map-of .result ≡ entryMap (c .before .before .before .before .before .args .entry)
-map c = c .map-of .ensures ∙ ap (mapOf (layout wordBytes)) (c .before .entry-numbers .ensures)
-
-count : (c : tie.After-record-length) → c .record-length .result ≡ length (recordBytes (c .before .before .before .before .before .before .args .entry))
+count : (c : tie.After-record-length) → c .record-length .result ≡ length (recordBytes (c .before .before .before .before .before .args .entry))
 count c =
-    let e = c .before .before .before .before .before .before .args .entry in
-    c .record-length .ensures ∙ ap recordLength (map (c .before)) ∙ record-length e (sound (c .before .before .before))
+    let e = c .before .before .before .before .before .args .entry in
+    c .record-length .ensures ∙ ap recordLength (c .before .entry-map .ensures) ∙ record-length e (sound (c .before .before))
 
 returns-2 : tie.Need-returns-2
 returns-2 c =
-    let k = c .before .before .before .before .before .before .before in
+    let k = c .before .before .before .before .before .before in
     let e = k .args .entry in
     let s : List ℕ = now (k .args .buffer) in
-    write-short e s (sound (c .before .before .before .before)) (omega (arith, count (c .before), c .if2 .taken))
+    write-short e s (sound (c .before .before .before)) (omega (arith, count (c .before), c .if2 .taken))
 
 put-record-requires : tie.Need-put-record-requires
 put-record-requires c κs =
     let p = c .before .before in
-    (sound (p .before .before .before), map (p .before), omega (arith, count p, c .before .if2 .left))
+    (sound (p .before .before), p .before .entry-map .ensures, omega (arith, count p, c .before .if2 .left))
 
 same-length : tie.Need-same-length
 same-length c = search needs
@@ -66,10 +59,10 @@ returns-3 : tie.Need-returns-3
 returns-3 c =
     let t = c .before .before in
     let p = t .before .before .before in
-    let k = p .before .before .before .before .before .before in
+    let k = p .before .before .before .before .before in
     let e = k .args .entry in
     let s : List ℕ = now (k .args .buffer) in
-    let both = write-whole e s (sound (p .before .before .before)) (omega (arith, count p, t .before .before .if2 .left)) in
+    let both = write-whole e s (sound (p .before .before)) (omega (arith, count p, t .before .before .if2 .left)) in
     (ap reply.Written (count p) ∙ both .0, t .put-record .ensures ∙ both .1)
 
 pub write-spec : {M : Type 1} → statement M
@@ -78,8 +71,7 @@ write-spec =
     (tie.spec
     entry-cause-requires
     returns
-    entry-numbers-requires
-    map-of-requires
+    entry-map-requires
     record-length-requires
     returns-2
     put-record-requires
