@@ -1,13 +1,12 @@
 -- Quotients and remainders by powers of two, of scaled and shifted numbers. Assumes nothing.
-use mathlib.Core.Path.{_≡_, refl, sym, ap, ap₂, _∙_, subst}
-use mathlib.Core.Bool.{Bool, true, false, cond}
-use Prim.Native.Nat.{ℕ, zero, suc, _+_, _-_, _*_, _/_, _%_, _^_, _≤_, _<_}
-use native.Mathlib.Nat.{mod-lt, mul-comm, mul-assoc, add-mul, div-add-mod', mul-div-mul-right, mul-lt-mul-of-pos-right, lt-of-mul-lt-mul-right, le-of-mul-le-mul-right, mul-le-mul-right, eq-of-mul-eq-mul-right, mul-eq-zero, add-left-cancel, zero-mul, mul-sub}
-use native.Mathlib.Decide.{decLt, decLe, ℕ-discrete}
+use mathlib.Core.Path.{_≡_, sym, ap, ap₂, _∙_}
+use Prim.Native.Nat.{ℕ, _+_, _-_, _*_, _/_, _%_, _^_, _<_}
+use native.Mathlib.Nat.{mod-lt, mul-comm, mul-assoc, add-mul, div-add-mod', mul-div-mul-right, mul-lt-mul-of-pos-right, mul-le-mul-right, eq-of-mul-eq-mul-right, mul-sub}
+use native.Mathlib.Decide.{decLt, ℕ-discrete}
 use native.Mathlib.Omega.{arith}
-use borrow.Author.Tests.{lt-ltb, le-ltb, eq-eqb, ne-eqb, le-leb, lt-leb}
-use lib.Arith.{digits-div, digits-mod, digits-lt}
-use lib.Dec.{ltb, leb, eqb}
+use borrow.Author.Tests.{lt-ltb, le-ltb, eq-eqb, ne-eqb}
+use lib.Arith.{digits-mod}
+use lib.Dec.{ltb, eqb}
 use lib.Pow.{pow-pos, pow-add}
 
 -- scaling both by 2^i keeps the quotient and scales the remainder

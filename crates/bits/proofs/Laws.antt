@@ -1,6 +1,6 @@
 -- Laws of single bits: a number is its low part and one more bit on top of it, and numbers with the same bits are equal.
 -- Assumes nothing.
-use mathlib.Core.Path.{_≡_, refl, sym, ap, ap₂, _∙_, subst}
+use mathlib.Core.Path.{_≡_, sym, ap, ap₂, _∙_, subst}
 use Prim.Native.Nat.{ℕ, zero, suc, _+_, _-_, _*_, _/_, _%_, _^_, _≤_, _<_}
 use native.Mathlib.Nat.{mod-lt, mod-eq-of-lt, mod-one, div-eq-of-lt, div-self, pow-suc, mul-comm, mul-mod-left, le-refl, le-trans, le-suc, lt-of-lt-of-le, one-mul}
 use native.Mathlib.Decide.{decLt}

@@ -9,7 +9,7 @@ use Rattle.job.specs.declared.Role.{Role}
 use Rattle.job.specs.declared.Role.the-variants.{A, B, C}
 use Rattle.job.specs.Role.{member, wanted, withWanted}
 use Rattle.job.proofs.Roles.{with-back}
-use Rattle.fit.specs.Fit.{Allowed, Satisfies, Fits}
+use Rattle.fit.specs.Fit.{Allowed, Fits}
 
 module _ (j : Job) (a b c : ℕ) where
   pub member-lt : (role : Role) → Fits j a b c → member role a b c < 2 ^ wordBits (j .setting .format)

@@ -27,17 +27,17 @@ noCase = 7
 abbrev pub cut : ℕ
 cut = 8
 
-abbrev pub map : ℕ
-map = 9
+abbrev pub mapBits : ℕ
+mapBits = 9
 
-abbrev pub default : ℕ
-default = 10
+abbrev pub defaultField : ℕ
+defaultField = 10
 
 abbrev pub buffer : ℕ
 buffer = 11
 
-abbrev pub length : ℕ
-length = 12
+abbrev pub wholeLength : ℕ
+wholeLength = 12
 
 abbrev pub clash : ℕ
 clash = 13

@@ -17,12 +17,12 @@ pub const NO_CASE: u64 = 7;
 // record cut short
 pub const CUT: u64 = 8;
 // map bit 6 or 7 set
-pub const MAP: u64 = 9;
+pub const MAP_BITS: u64 = 9;
 // field that says its default
-pub const DEFAULT: u64 = 10;
+pub const DEFAULT_FIELD: u64 = 10;
 // buffer too short for the record
 pub const BUFFER: u64 = 11;
 // N outside 1 to 32
-pub const LENGTH: u64 = 12;
+pub const WHOLE_LENGTH: u64 = 12;
 // two masks fix one bit unlike
 pub const CLASH: u64 = 13;

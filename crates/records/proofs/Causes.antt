@@ -84,9 +84,9 @@ read-none s =
     let m : ℕ = getD s 0 0 in
     let d : Bool = saysDefault fieldCount m (layout wordBytes) (numbersIn s) in
     let n : ℕ = recordLength m in
-    let last = first-none (recordCause (entryIn s)) (unless (not d) cause.default) in
-    let cut = first-none (unless (leb n (length s)) cause.cut) (first (recordCause (entryIn s)) (unless (not d) cause.default)) in
-    let map = first-none (unless (ltb m (2 ^ fieldCount)) cause.map) (first (unless (leb n (length s)) cause.cut) (first (recordCause (entryIn s)) (unless (not d) cause.default))) in (
+    let last = first-none (recordCause (entryIn s)) (unless (not d) cause.defaultField) in
+    let cut = first-none (unless (leb n (length s)) cause.cut) (first (recordCause (entryIn s)) (unless (not d) cause.defaultField)) in
+    let map = first-none (unless (ltb m (2 ^ fieldCount)) cause.mapBits) (first (unless (leb n (length s)) cause.cut) (first (recordCause (entryIn s)) (unless (not d) cause.defaultField))) in (
       (λ z.
           let y = map .0 z in
           let x = cut .0 (y .1) in
@@ -152,14 +152,14 @@ first-assoc (suc k) m n = refl
 
 -- a map with a bit above those of the fields, or a record that is cut short; and any other
 abbrev pub earlyCause : List ℕ → ℕ
-earlyCause s = first (unless (ltb (getD s 0 0) (2 ^ fieldCount)) cause.map) (unless (leb (recordLength (getD s 0 0)) (length s)) cause.cut)
+earlyCause s = first (unless (ltb (getD s 0 0) (2 ^ fieldCount)) cause.mapBits) (unless (leb (recordLength (getD s 0 0)) (length s)) cause.cut)
 
 abbrev pub lateCause : List ℕ → ℕ
-lateCause s = first (recordCause (entryIn s)) (unless (not (saysDefault fieldCount (getD s 0 0) (layout wordBytes) (numbersIn s))) cause.default)
+lateCause s = first (recordCause (entryIn s)) (unless (not (saysDefault fieldCount (getD s 0 0) (layout wordBytes) (numbersIn s))) cause.defaultField)
 
 cause-split : (s : List ℕ) → readCause s ≡ first (earlyCause s) (lateCause s)
 unfolding readCause
-cause-split s = first-assoc (unless (ltb (getD s 0 0) (2 ^ fieldCount)) cause.map) (unless (leb (recordLength (getD s 0 0)) (length s)) cause.cut) (lateCause s)
+cause-split s = first-assoc (unless (ltb (getD s 0 0) (2 ^ fieldCount)) cause.mapBits) (unless (leb (recordLength (getD s 0 0)) (length s)) cause.cut) (lateCause s)
 
 module _ (s : List ℕ) (some : length s ≡ 0 → ⊥) where
   by-cause : (k : ℕ) → readCause s ≡ k → firstIn s ≡ readReply k (entryIn s) (recordLength (getD s 0 0))
@@ -177,5 +177,5 @@ pub early-none : (s : List ℕ) → earlyCause s ≡ 0 → (getD s 0 0 < 2 ^ fie
 early-none s e =
     let m : ℕ = getD s 0 0 in
     let n : ℕ = recordLength m in
-    let both = first-none (unless (ltb m (2 ^ fieldCount)) cause.map) (unless (leb n (length s)) cause.cut) .0 e in
+    let both = first-none (unless (ltb m (2 ^ fieldCount)) cause.mapBits) (unless (leb n (length s)) cause.cut) .0 e in
     (ltb-true m (2 ^ fieldCount) (unless-none (ltb m (2 ^ fieldCount)) 8 .0 (both .0)), leb-true n (length s) (unless-none (leb n (length s)) 7 .0 (both .1)))

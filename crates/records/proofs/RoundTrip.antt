@@ -61,12 +61,12 @@ entry-numbers F operation m s = refl
 
 -- so the test for defaults may compare the map that was read with the entry's own
 pub entry-default : (s : List ℕ) → getD s 0 0 < 2 ^ fieldCount
-    → first (recordCause (entryIn s)) (unless (eqb (entryMap (entryIn s)) (getD s 0 0)) cause.default) ≡ lateCause s
+    → first (recordCause (entryIn s)) (unless (eqb (entryMap (entryIn s)) (getD s 0 0)) cause.defaultField) ≡ lateCause s
 unfolding entryIn entryMap
 entry-default s h =
     let m : ℕ = getD s 0 0 in
     let same : entryNumbers (entryIn s) ≡ numbersIn s = entry-numbers (record { w = getD s 1 0; f = getD s 2 0 }) (getD s 3 0) m (drop headerBytes s) in
-    ap (λ (t : Bool). first (recordCause (entryIn s)) (unless t cause.default))
+    ap (λ (t : Bool). first (recordCause (entryIn s)) (unless t cause.defaultField))
     (ap (λ (ns : List ℕ). eqb (mapOf (layout wordBytes) ns) m) same
     ∙ sym (default-map fieldCount m (layout wordBytes) (numbersIn s) (layout-bits wordBytes) h (read-absent m (layout wordBytes) (drop headerBytes s))))
 

@@ -113,9 +113,9 @@ entryIn s = entryWith (record { w = getD s 1 0; f = getD s 2 0 }) (getD s 3 0) (
 -- "Reading checks 9, 8, then 1 to 6, then 10"; a map with no bit above the fields' bits is below 2 to their count
 unfoldable pub readCause : List ℕ → ℕ
 readCause s =
-    first (unless (ltb (getD s 0 0) (2 ^ fieldCount)) cause.map)
+    first (unless (ltb (getD s 0 0) (2 ^ fieldCount)) cause.mapBits)
     (first (unless (leb (recordLength (getD s 0 0)) (length s)) cause.cut)
-    (first (recordCause (entryIn s)) (unless (not (saysDefault fieldCount (getD s 0 0) (layout wordBytes) (numbersIn s))) cause.default)))
+    (first (recordCause (entryIn s)) (unless (not (saysDefault fieldCount (getD s 0 0) (layout wordBytes) (numbersIn s))) cause.defaultField)))
 
 -- a job where no cause stands, else the cause's number
 abbrev pub readReply : ℕ → Entry → ℕ → First

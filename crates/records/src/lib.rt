@@ -94,10 +94,10 @@ fn entry_in(s: &[u8], map: u64) -> Entry
 // The reply to an entry whose record has this map and this length. A field that says its default would not be written, so the maps differ
 // exactly where there is one.
 fn read_reply(entry: Entry, map: u64, n: usize) -> First
-    ensures { λ r. ⌜ r ≡ readReply (first (recordCause entry) (unless (eqb (entryMap entry) map) cause.default)) entry n ⌝ }
+    ensures { λ r. ⌜ r ≡ readReply (first (recordCause entry) (unless (eqb (entryMap entry) map) cause.defaultField)) entry n ⌝ }
 {
     let same = entry_map(entry) == map;
-    let cause = first(entry_cause(entry), unless(same, cause::DEFAULT));
+    let cause = first(entry_cause(entry), unless(same, cause::DEFAULT_FIELD));
     if cause == 0 {
         return First::Job(entry, n);
     }
@@ -113,7 +113,7 @@ pub fn read(s: &[u8]) -> First
     }
     let map = wide(s[0]);
     let n = record_length(map);
-    let bits = unless(map < MAPS, cause::MAP);
+    let bits = unless(map < MAPS, cause::MAP_BITS);
     let cut = unless(n <= s.len(), cause::CUT);
     let early = first(bits, cut);
     if 0 < early {

@@ -1,7 +1,7 @@
 -- A magnitude X that is held as x, in eighths of its unit with a sticky bit: x tells how many digits X has, and x shifted so that three
 -- bits stand below the last kept one (four after a carry) rounds as X does. Assumes nothing.
 use mathlib.Core.Path.{_≡_, refl, sym, ap, ap₂, _∙_, subst}
-use mathlib.Core.Logic.{_⊎_, ⊎-elim}
+use mathlib.Core.Logic.{⊎-elim}
 use Prim.Native.Nat.{ℕ, zero, suc, _+_, _-_, _*_, _/_, _%_, _^_, _≤_, _<_}
 use native.Mathlib.Nat.{mod-lt, mul-assoc, mul-comm, div-add-mod', mul-le-mul-right, suc-mul, pow-suc, not-le-of-lt}
 use native.Mathlib.Decide.{decLt, ℕ-discrete}

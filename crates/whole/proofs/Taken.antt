@@ -64,7 +64,7 @@ unfolding jobCause
 job-none J =
     let n = J .length in
     let inside = unless-none (within leastLength mostLength n) 11 in
-    let all = first-none (unless (within leastLength mostLength n) cause.length) (first (masksCause n (J .masks)) (wordsCause n (J .words))) in
+    let all = first-none (unless (within leastLength mostLength n) cause.wholeLength) (first (masksCause n (J .masks)) (wordsCause n (J .words))) in
     let both = first-none (masksCause n (J .masks)) (wordsCause n (J .words)) in
     let limits = within-holds leastLength mostLength n in (
       λ e.

@@ -28,5 +28,5 @@ wordsCause n w = first (wordCause n (w .x)) (first (wordCause n (w .y)) (wordCau
 -- 12 for a length outside 1 to 32, then 5, then 6; 0 where nothing is refused
 unfoldable pub jobCause : Job → ℕ
 jobCause J =
-    first (unless (within leastLength mostLength (J .length)) cause.length)
+    first (unless (within leastLength mostLength (J .length)) cause.wholeLength)
     (first (masksCause (J .length) (J .masks)) (wordsCause (J .length) (J .words)))

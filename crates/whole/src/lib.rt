@@ -85,7 +85,7 @@ pub fn job_cause(job: Job) -> u64
 {
     let length = job.length;
     if !within(limits::LEAST_LENGTH, limits::MOST_LENGTH, length) {
-        return cause::LENGTH;
+        return cause::WHOLE_LENGTH;
     }
     first(
         masks_cause(length, job.masks),

@@ -1,6 +1,6 @@
 -- `bits::low` meets its contract: a word of 64 bits is its own remainder from position 64 on. Assumes nothing.
 use mathlib.Core.Path.{sym, ap}
-use Prim.Native.Nat.{ℕ, _%_, _^_, _<_}
+use Prim.Native.Nat.{ℕ, _%_}
 use native.Mathlib.Nat.{mod-eq-of-lt}
 use lib.Pow.{pow-pos}
 use Rattle.bits.proofs.Laws.{word-lt, one-shl}

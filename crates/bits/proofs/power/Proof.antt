@@ -1,6 +1,6 @@
 -- `bits::power` meets its contract. Assumes nothing.
 use mathlib.Core.Path.{sym, ap, _∙_}
-use Prim.Native.Nat.{ℕ, _-_, _*_, _%_, _^_}
+use Prim.Native.Nat.{ℕ, _-_, _%_, _^_}
 use native.Mathlib.Nat.{mul-mod-left, one-mul, sub-add-cancel}
 use lib.Pow.{pow-add}
 use borrow.Author.Needs.{needs}

@@ -1,9 +1,9 @@
 -- `fit::carries_meet` meets its contract: a valid job has a row or none. Assumes nothing.
-use mathlib.Core.Path.{_≡_, refl, sym, ap, ap₂, _∙_, subst}
-use Prim.Native.Nat.{ℕ, zero, suc, _+_, _-_, _*_, _/_, _%_, _^_, _≤_, _<_}
+use mathlib.Core.Path.{_≡_, sym, ap, _∙_}
+use Prim.Native.Nat.{ℕ}
 use native.Mathlib.Omega.{arith}
 use Rattle.adder.specs.declared.Row as row
-use Rattle.adder.specs.declared.RowReply.the-variants.{Row, Refused}
+use Rattle.adder.specs.declared.RowReply.the-variants.{Row}
 use Rattle.adder.specs.Row.{rowOf}
 use Rattle.adder.proofs.Causes.{row-row}
 use Rattle.fit.specs.Fit.{rowMeets}

@@ -1,9 +1,9 @@
 -- `fit::confirm` meets its contract. Assumes nothing.
-use mathlib.Core.Path.{_≡_, refl, sym, ap, ap₂, _∙_, subst}
-use Prim.Native.Nat.{ℕ, zero, suc, _+_, _-_, _*_, _/_, _%_, _^_, _≤_, _<_}
+use mathlib.Core.Path.{_≡_, refl, sym, ap, _∙_}
+use Prim.Native.Nat.{ℕ, zero, suc}
 use mathlib.Core.Bool.{Bool}
-use Rattle.fit.specs.declared.Confirmed.the-variants.{Yes, No, Refused}
-use Rattle.fit.specs.Fit.{fits, caseCause, answer, answerFor}
+use Rattle.fit.specs.declared.Confirmed.the-variants.{Refused}
+use Rattle.fit.specs.Fit.{fits, answer, answerFor}
 use Rattle.fit.proofs.Laws.{case-none}
 use borrow.Author.Needs.{needs}
 use Rattle.fit.proofs.confirm.Statement.{statement}

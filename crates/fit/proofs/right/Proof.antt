@@ -1,10 +1,8 @@
 -- `fit::right` meets its contract: the result of a valid job is a word. Assumes nothing.
-use mathlib.Core.Path.{_≡_, refl, sym, ap, ap₂, _∙_, subst}
-use Prim.Native.Nat.{ℕ, zero, suc, _+_, _-_, _*_, _/_, _%_, _^_, _≤_, _<_}
+use mathlib.Core.Path.{_≡_, sym, ap, _∙_}
+use Prim.Native.Nat.{ℕ}
 use native.Mathlib.Omega.{arith}
-use mathlib.Core.Bool.{Bool, _&&_}
 use lib.Dec.{eqb}
-use Rattle.adder.specs.declared.Reply.the-variants.{Word, Refused}
 use Rattle.adder.specs.Result.{result}
 use Rattle.adder.proofs.Causes.{result-word}
 use Rattle.fit.proofs.Laws.{words-fit}

@@ -1,5 +1,4 @@
 -- `fit::row_meets` meets its contract. Assumes nothing.
-use mathlib.Core.Path.{_≡_, refl, sym, ap, ap₂, _∙_, subst}
 use borrow.Author.Needs.{needs}
 use Rattle.fit.proofs.row_meets.Statement.{statement}
 use Rattle.fit.proofs.row_meets.Tie as tie

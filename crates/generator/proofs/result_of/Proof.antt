@@ -2,7 +2,6 @@
 use mathlib.Core.Path.{_≡_, sym, _∙_}
 use Prim.Native.Nat.{ℕ}
 use native.Mathlib.Omega.{arith}
-use Rattle.adder.specs.declared.Reply.the-variants.{Word, Refused}
 use Rattle.adder.specs.Result.{result}
 use Rattle.adder.proofs.Causes.{result-word}
 use Rattle.generator.proofs.Taken.{request-fit}

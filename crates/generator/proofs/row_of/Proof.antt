@@ -2,7 +2,6 @@
 use mathlib.Core.Path.{_≡_, sym, _∙_}
 use Prim.Native.Nat.{ℕ}
 use native.Mathlib.Omega.{arith}
-use Rattle.adder.specs.declared.RowReply.the-variants.{Row, Refused}
 use Rattle.adder.specs.Row.{rowOf}
 use Rattle.adder.proofs.Causes.{row-row}
 use Rattle.generator.proofs.Taken.{request-fit}

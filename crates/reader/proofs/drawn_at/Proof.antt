@@ -1,7 +1,7 @@
 -- `reader::drawn_at` meets its contract: the part from the offset on is what is left of the file there, and a record that stands first in
 -- it lies in it. Assumes nothing.
 use mathlib.Core.Path.{_≡_, refl, sym, ap, _∙_}
-use Prim.Native.Nat.{ℕ, _+_, _-_, _≤_}
+use Prim.Native.Nat.{ℕ, _+_, _-_}
 use native.Mathlib.Nat.{le-of-eq}
 use native.Mathlib.Omega.{arith}
 use mathlib.Core.List.{List}
@@ -13,7 +13,6 @@ use Rattle.records.specs.declared.First.{First}
 use Rattle.records.specs.declared.First.the-variants as found
 use Rattle.records.proofs.Causes.{first-job, first-none-left}
 use Rattle.reader.specs.Drawn.{taken, drawnAt}
-use Rattle.reader.specs.declared.Drawn.{Drawn}
 use borrow.Author.Needs.{needs}
 use Rattle.reader.proofs.drawn_at.Statement.{statement}
 use Rattle.reader.proofs.drawn_at.Tie as tie

@@ -48,7 +48,7 @@ early c =
     let s : List ℕ = now (p .before .before .before .before .before .args .s) in
     c .first .ensures
     ∙ ap₂ first
-    (c .before .before .unless .ensures ∙ ap (λ (m : ℕ). unless (ltb m (2 ^ fieldCount)) cause.map) (p .before .wide .ensures))
+    (c .before .before .unless .ensures ∙ ap (λ (m : ℕ). unless (ltb m (2 ^ fieldCount)) cause.mapBits) (p .before .wide .ensures))
     (c .before .unless2 .ensures ∙ ap (λ (n : ℕ). unless (leb n (length s)) cause.cut) (count p))
 
 -- no early cause
@@ -79,7 +79,7 @@ returns-3 c =
     let w = p .before in
     let s : List ℕ = now (w .before .before .before .before .args .s) in
     c .read-reply .ensures
-    ∙ (λ i. let e = c .before .entry-in .ensures i in readReply (first (recordCause e) (unless (eqb (entryMap e) (w .wide .ensures i)) cause.default)) e (count p i))
+    ∙ (λ i. let e = c .before .entry-in .ensures i in readReply (first (recordCause e) (unless (eqb (entryMap e) (w .wide .ensures i)) cause.defaultField)) e (count p i))
     ∙ ap (λ (k : ℕ). readReply k (entryIn s) (recordLength (getD s 0 0))) (entry-default s (early-none s (late l) .0))
     ∙ sym (first-late s (w .before .before .if1 .left) (late l))
 

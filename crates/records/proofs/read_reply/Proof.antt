@@ -24,12 +24,12 @@ first-requires c κs = search needs
 
 -- the cause that was computed
 found-cause : (c : tie.After-first) → c .first .result
-    ≡ first (recordCause (c .before .before .before .before .args .entry)) (unless (eqb (entryMap (c .before .before .before .before .args .entry)) (c .before .before .before .before .args .map)) cause.default)
+    ≡ first (recordCause (c .before .before .before .before .args .entry)) (unless (eqb (entryMap (c .before .before .before .before .args .entry)) (c .before .before .before .before .args .map)) cause.defaultField)
 found-cause c =
     let a = c .before .before .before .before .args in
     c .first .ensures
     ∙ ap₂ first (c .before .before .entry-cause .ensures)
-    (c .before .unless .ensures ∙ ap (λ (m : ℕ). unless (eqb m (a .map)) cause.default) (c .before .before .before .entry-map .ensures))
+    (c .before .unless .ensures ∙ ap (λ (m : ℕ). unless (eqb m (a .map)) cause.defaultField) (c .before .before .before .entry-map .ensures))
 
 returns : tie.Need-returns
 returns c =

@@ -1,6 +1,6 @@
 -- `adder::carry_row::carry_row` meets its contract. Assumes nothing.
 use mathlib.Core.Path.{_≡_, refl, sym, ap, ap₂, _∙_}
-use Prim.Native.Nat.{ℕ, zero, suc, _-_}
+use Prim.Native.Nat.{ℕ, zero, suc}
 use Rattle.adder.specs.declared.Row as row
 use Rattle.adder.specs.declared.RowReply.the-variants.{Row, Refused}
 use Rattle.word.specs.Word.{effective}

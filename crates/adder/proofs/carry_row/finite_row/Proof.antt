@@ -1,6 +1,5 @@
 -- `adder::carry_row::finite_row` meets its contract. Assumes nothing.
 use mathlib.Core.Path.{sym, _∙_}
-use Prim.Native.Nat.{_-_}
 use native.Mathlib.Nat.{le-of-lt}
 use borrow.Author.Tests.{ltb-true, ltb-false}
 use Rattle.word.specs.Operand.{magnitude}

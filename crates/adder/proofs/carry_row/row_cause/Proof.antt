@@ -1,6 +1,6 @@
 -- `adder::carry_row::row_cause` meets its contract. Assumes nothing.
 use mathlib.Core.Path.{sym, ap, ap₂, _∙_}
-use Prim.Native.Nat.{ℕ, _-_}
+use Prim.Native.Nat.{ℕ}
 use Rattle.format.specs.Cause.{first}
 use Rattle.format.specs.Format.{wordBits, wordCause}
 use Rattle.format.proofs.Laws.{first-none, format-none}

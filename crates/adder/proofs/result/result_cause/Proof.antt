@@ -1,5 +1,5 @@
 -- `adder::result::result_cause` meets its contract. Assumes nothing.
-use mathlib.Core.Path.{_≡_, sym, ap, _∙_}
+use mathlib.Core.Path.{sym, ap, _∙_}
 use Prim.Native.Nat.{ℕ}
 use Rattle.format.specs.Cause.{first}
 use Rattle.format.specs.Format.{wordBits, formatCause, operationCause, modeCause, wordCause}

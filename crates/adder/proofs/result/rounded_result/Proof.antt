@@ -1,6 +1,6 @@
 -- `adder::result::rounded_result` meets its contract. Assumes nothing.
 use mathlib.Core.Path.{_≡_, refl, sym, ap, ap₂, _∙_}
-use Prim.Native.Nat.{ℕ, zero, suc, _-_}
+use Prim.Native.Nat.{ℕ, zero, suc}
 use Rattle.adder.specs.declared.Reply.the-variants.{Word, Refused}
 use Rattle.word.specs.Word.{effective}
 use Rattle.adder.specs.Result.{kindSum, result, replyFor}

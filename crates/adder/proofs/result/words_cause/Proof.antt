@@ -1,6 +1,5 @@
 -- `adder::result::words_cause` meets its contract. Assumes nothing.
 use mathlib.Core.Path.{sym, ap₂, _∙_}
-use Prim.Native.Nat.{_-_}
 use native.Mathlib.Omega.{arith}
 use Rattle.format.specs.Cause.{first}
 use Rattle.format.specs.Format.{wordBits, wordCause}

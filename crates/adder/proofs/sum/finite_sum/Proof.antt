@@ -1,6 +1,5 @@
 -- `adder::sum::finite_sum` meets its contract: the sum does not depend on the order. Assumes nothing.
 use mathlib.Core.Path.{sym, _∙_}
-use Prim.Native.Nat.{_-_}
 use native.Mathlib.Nat.{le-of-lt}
 use borrow.Author.Tests.{ltb-true, ltb-false}
 use Rattle.word.specs.Operand.{magnitude}

@@ -1,5 +1,4 @@
 -- `rounding::round::dropped` meets its contract. Assumes nothing.
-use Prim.Native.Nat.{_-_}
 use native.Mathlib.Omega.{arith}
 use lib.Ieee.{size}
 use lib.Ieee.Digits.{size-le}
