@@ -12,7 +12,7 @@ use borrow.Author.Tests.{le-leb, lt-leb}
 use lib.Dec.{leb}
 use mathlib.Core.Bool.{true, false}
 use Rattle.format.specs.Cause as cause
-use Rattle.vindacsor.specs.Answer.{Answer, numbers, refusal, bytesOf, Handed}
+use Rattle.vindacsor.specs.Answer.{Content, numbers, refusal, bytesOf, Delivered}
 
 pub bytes-append : (ns ms : List ℕ) → bytesOf (ns ++ ms) ≡ bytesOf ns ++ bytesOf ms
 unfolding bytesOf
@@ -56,22 +56,22 @@ module _ (ns : List ℕ) (i : ℕ) where
 pub put-front : (s bs : List ℕ) → put s 0 bs ≡ bs ++ drop (length bs) s
 put-front s bs = ap (λ (n : ℕ). bs ++ drop n s) (zero-add (length bs))
 
--- numbers that find no room are not handed over, and others are
+-- numbers that find no room are not delivered, and others are
 module _ (ns s : List ℕ) where
-  pub hand-none : length s < length (bytesOf ns) → Handed (numbers ns) s s cause.buffer
-  hand-none h =
+  pub delivered-none : length s < length (bytesOf ns) → Delivered (numbers ns) s s cause.buffer
+  delivered-none h =
       let test : leb (length (bytesOf ns)) (length s) ≡ false = lt-leb (length (bytesOf ns)) (length s) h in
       record { number = rw test; buffer = rw test }
 
-  pub hand-all : length (bytesOf ns) ≤ length s → Handed (numbers ns) s (put s 0 (bytesOf ns)) 0
-  hand-all h =
+  pub delivered-all : length (bytesOf ns) ≤ length s → Delivered (numbers ns) s (put s 0 (bytesOf ns)) 0
+  delivered-all h =
       let test : leb (length (bytesOf ns)) (length s) ≡ true = le-leb (length (bytesOf ns)) (length s) h in
       record { number = rw test; buffer = rw test (put-front s (bytesOf ns)) }
 
 -- a refusal leaves the buffer as it was
-pub refused : {k : ℕ} {s : List ℕ} → Handed (refusal k) s s k
+pub refused : {k : ℕ} {s : List ℕ} → Delivered (refusal k) s s k
 refused = record { number = refl; buffer = refl }
 
--- what is handed over as one answer is handed over as an equal one
-pub handed-as : {x y : Answer} {s t : List ℕ} {n : ℕ} → x ≡ y → Handed x s t n → Handed y s t n
-handed-as {x} {y} {s} {t} {n} e h = subst (λ (z : Answer). Handed z s t n) e h
+-- what is delivered as one content is delivered as an equal one
+pub delivered-as : {x y : Content} {s t : List ℕ} {n : ℕ} → x ≡ y → Delivered x s t n → Delivered y s t n
+delivered-as {x} {y} {s} {t} {n} e h = subst (λ (z : Content). Delivered z s t n) e h

@@ -1,4 +1,4 @@
--- What the contracts amount to: what a function returns and what it leaves are one alone, and no refusal's number is 0, so 0 is told
+-- What the contracts amount to: what a function returns and what it leaves are one alone, and no refusal's number is 0, so 0 comes
 -- with an readReply only. Assumes nothing.
 use mathlib.Core.Path.{_≡_, sym, ap, _∙_}
 use mathlib.Core.Logic.{inl, inr}
@@ -31,26 +31,28 @@ use Rattle.whole.specs.declared.Job as whole-job
 use Rattle.whole.specs.declared.Reply.the-variants as whole-is
 use Rattle.whole.specs.Reply as whole
 use Rattle.whole.proofs.Replies as whole-law
-use Rattle.vindacsor.specs.Answer.{Answer, Handed}
-use Rattle.vindacsor.specs.Replies.{ofCase, ofWhole, EntryGenerated, Generated, WholeGenerated}
-use Rattle.vindacsor.proofs.Bytes.{handed-as}
+use Rattle.vindacsor.specs.Answer.{Content, Delivered}
+use Rattle.vindacsor.specs.Replies.{ofCase, ofWhole, OfRecord, Generated, WholeGenerated}
+use Rattle.vindacsor.proofs.Bytes.{delivered-as}
 
--- ---- one reply, one buffer
+-- ---- one content, one buffer
 module _ {s t u : List ℕ} {m n : ℕ} where
-  pub handed-unique : {x : Answer} → Handed x s t m → Handed x s u n → (m ≡ n) × (t ≡ u)
-  handed-unique p q = (p .number ∙ sym (q .number), p .buffer ∙ sym (q .buffer))
-
-  pub entry-unique : (e : Entry) → EntryGenerated e s t m → EntryGenerated e s u n → (m ≡ n) × (t ≡ u)
-  entry-unique e p q =
-      handed-unique (handed-as (ap ofCase (generator-law.reply-unique (e .job) (e .r1) (e .r2) (p .reply) (q .reply) (p .replied) (q .replied))) (p .handed)) (q .handed)
+  pub delivered-unique : {x : Content} → Delivered x s t m → Delivered x s u n → (m ≡ n) × (t ≡ u)
+  delivered-unique p q = (p .number ∙ sym (q .number), p .buffer ∙ sym (q .buffer))
 
   pub whole-unique : (j : whole-job.Job) → WholeGenerated j s t m → WholeGenerated j s u n → (m ≡ n) × (t ≡ u)
-  whole-unique j p q = handed-unique (handed-as (ap ofWhole (whole-law.reply-unique j (p .reply) (q .reply) (p .replied) (q .replied))) (p .handed)) (q .handed)
+  whole-unique j p q =
+      delivered-unique (delivered-as (ap ofWhole (whole-law.reply-unique j (p .reply) (q .reply) (p .replied) (q .replied))) (p .delivered)) (q .delivered)
 
-pub generated-unique : (x : First) (s t u : List ℕ) (m n : ℕ) → Generated x s t m → Generated x s u n → (m ≡ n) × (t ≡ u)
-generated-unique first-is.End s t u m n p q = handed-unique p q
-generated-unique (first-is.Job e k) s t u m n p q = entry-unique e p q
-generated-unique (first-is.Refused k) s t u m n p q = handed-unique p q
+pub content-unique : (r : First) (x y : Content) → OfRecord r x → OfRecord r y → x ≡ y
+content-unique first-is.End x y p q = p ∙ sym q
+content-unique (first-is.Job e n) x y p q =
+    p .is ∙ ap ofCase (generator-law.reply-unique (e .job) (e .r1) (e .r2) (p .reply) (q .reply) (p .replied) (q .replied)) ∙ sym (q .is)
+content-unique (first-is.Refused k) x y p q = p ∙ sym q
+
+pub generated-unique : (r : First) (s t u : List ℕ) (m n : ℕ) → Generated r s t m → Generated r s u n → (m ≡ n) × (t ≡ u)
+generated-unique r s t u m n p q =
+    delivered-unique (delivered-as (content-unique r (p .content) (q .content) (p .is) (q .is)) (p .delivered)) (q .delivered)
 
 -- ---- no refusal is 0
 result-number : (k n c : ℕ) → sum.replyFor k c ≡ result-is.Refused n → 0 < n

@@ -10,11 +10,21 @@ use Rattle.format.specs.Cause as cause
 use Rattle.format.specs.Cause.{unless}
 use Rattle.records.specs.Number.{littleEndian}
 use Rattle.records.specs.Record.{bufferAfter}
+use Rattle.vindacsor.specs.declared.answer.Answer.{Answer}
+use Rattle.vindacsor.specs.declared.answer.Answer.the-variants.{One, Two, Four, Five, Refused}
 
--- an answer in numbers, or the number of a refusal
-pub data Answer : Type 0 where
-  numbers : List ℕ → Answer
-  refusal : ℕ → Answer
+-- what an answer holds: numbers, or the number of a refusal
+pub data Content : Type 0 where
+  numbers : List ℕ → Content
+  refusal : ℕ → Content
+
+-- the content of an answer by value
+abbrev pub contentOf : Answer → Content
+contentOf (One a) = numbers (a ∷ [])
+contentOf (Two a b) = numbers (a ∷ b ∷ [])
+contentOf (Four a b c d) = numbers (a ∷ b ∷ c ∷ d ∷ [])
+contentOf (Five a b c d e) = numbers (a ∷ b ∷ c ∷ d ∷ e ∷ [])
+contentOf (Refused k) = refusal k
 
 -- numbers one after the other, eight bytes each
 unfoldable pub bytesOf : List ℕ → List ℕ
@@ -26,16 +36,16 @@ abbrev pub roomCause : List ℕ → ℕ → ℕ
 roomCause bs n = unless (leb (length bs) n) cause.buffer
 
 -- the number that is returned
-abbrev pub told : Answer → List ℕ → ℕ
-told (numbers ns) s = roomCause (bytesOf ns) (length s)
-told (refusal k) s = k
+abbrev pub status : Content → List ℕ → ℕ
+status (numbers ns) s = roomCause (bytesOf ns) (length s)
+status (refusal k) s = k
 
 -- the buffer afterwards: the answer's bytes and then what stood there before; on a refusal as it was
-abbrev pub left : Answer → List ℕ → List ℕ
+abbrev pub left : Content → List ℕ → List ℕ
 left (numbers ns) s = bufferAfter (roomCause (bytesOf ns) (length s)) (bytesOf ns) s
 left (refusal k) s = s
 
--- the answer is handed over: n is returned, and the buffer is `after`
-pub record Handed (x : Answer) (before after : List ℕ) (n : ℕ) : Type 0 where
-  pub number : n ≡ told x before
+-- the content is delivered: n is returned, and the buffer is `after`
+pub record Delivered (x : Content) (before after : List ℕ) (n : ℕ) : Type 0 where
+  pub number : n ≡ status x before
   pub buffer : after ≡ left x before

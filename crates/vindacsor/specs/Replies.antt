@@ -1,5 +1,6 @@
--- The answer of each exported function, from the reply of the function that it exports (document 01, "Causes and replies"). Where a job
+-- The content of each exported function's answer, from the reply of the function that it exports (document 01, "Causes and replies"). Where a job
 -- is wanted it is given as a job record; bytes after the record play no part, and no bytes at all are a record cut short. Assumes nothing.
+use mathlib.Core.Path.{_≡_}
 use Prim.Native.Nat.{ℕ}
 use mathlib.Core.List.{List, [], _∷_}
 use Rattle.format.specs.Cause as cause
@@ -28,7 +29,7 @@ use Rattle.whole.specs.declared.Job as whole-job
 use Rattle.whole.specs.declared.Reply as whole
 use Rattle.whole.specs.declared.Reply.the-variants as whole-is
 use Rattle.whole.specs.Reply as whole-generator
-use Rattle.vindacsor.specs.Answer.{Answer, numbers, refusal, Handed}
+use Rattle.vindacsor.specs.Answer.{Content, numbers, refusal, Delivered}
 
 -- the format and the mask of two numbers each
 abbrev pub formatOf : ℕ → ℕ → Format
@@ -48,7 +49,7 @@ abbrev pub wholeJob : ℕ → Masks → Words → whole-job.Job
 wholeJob length masks words = record { length = length; masks = masks; words = words }
 
 -- the rounded result: c
-abbrev pub ofResult : result.Reply → Answer
+abbrev pub ofResult : result.Reply → Content
 ofResult (result-is.Word c) = numbers (c ∷ [])
 ofResult (result-is.Refused k) = refusal k
 
@@ -58,52 +59,58 @@ rowNumbers (row-is.Carries r) = 1 ∷ r ∷ []
 rowNumbers row-is.NoRow = 0 ∷ 0 ∷ []
 
 -- the carry row
-abbrev pub ofRow : row-reply.RowReply → Answer
+abbrev pub ofRow : row-reply.RowReply → Content
 ofRow (row-reply-is.Row r) = numbers (rowNumbers r)
 ofRow (row-reply-is.Refused k) = refusal k
 
 -- joining: care, then value
-abbrev pub ofJoined : joined.Joined → Answer
+abbrev pub ofJoined : joined.Joined → Content
 ofJoined (joined-is.Mask m) = numbers (m .care ∷ m .value ∷ [])
 ofJoined (joined-is.Refused k) = refusal k
 
 -- reading: the length of the record that stands first, 0 where no byte is left
-abbrev pub ofFirst : first.First → Answer
+abbrev pub ofFirst : first.First → Content
 ofFirst first-is.End = numbers (0 ∷ [])
 ofFirst (first-is.Job e n) = numbers (n ∷ [])
 ofFirst (first-is.Refused k) = refusal k
 
 -- confirmation: 1 for yes, 0 for no
-abbrev pub ofConfirmed : confirmed.Confirmed → Answer
+abbrev pub ofConfirmed : confirmed.Confirmed → Content
 ofConfirmed confirmed-is.Yes = numbers (1 ∷ [])
 ofConfirmed confirmed-is.No = numbers (0 ∷ [])
 ofConfirmed (confirmed-is.Refused k) = refusal k
 
 -- confirmation of a case for the job of a record
-abbrev pub confirmation : first.First → ℕ → ℕ → ℕ → Answer
+abbrev pub confirmation : first.First → ℕ → ℕ → ℕ → Content
 confirmation first-is.End a b c = refusal cause.cut
 confirmation (first-is.Job e n) a b c = ofConfirmed (confirmedReply (e .job) a b c)
 confirmation (first-is.Refused k) a b c = refusal k
 
 -- a case: a, b, c, whether there is a row, and the row
-abbrev pub ofCase : case.Reply → Answer
+abbrev pub ofCase : case.Reply → Content
 ofCase (case-is.Found x) = numbers (x .a ∷ x .b ∷ x .c ∷ rowNumbers (x .row))
 ofCase (case-is.Refused k) = refusal k
 
--- the generator's function on a job and its random words: the reply is one that the promise allows, which is one alone
-pub record EntryGenerated (e : Entry) (before after : List ℕ) (n : ℕ) : Type 0 where
+-- the generator's answer to a job and its random words: that of a reply that the promise allows, which is one alone
+pub record OfEntry (e : Entry) (x : Content) : Type 0 where
   pub reply : case.Reply
   pub replied : generator.Replied (e .job) (e .r1) (e .r2) reply
-  pub handed : Handed (ofCase reply) before after n
+  pub is : x ≡ ofCase reply
 
--- the same on a record
-abbrev pub Generated : first.First → List ℕ → List ℕ → ℕ → Type 0
-Generated first-is.End = Handed (refusal cause.cut)
-Generated (first-is.Job e n) = EntryGenerated e
-Generated (first-is.Refused k) = Handed (refusal k)
+-- the same to a record
+abbrev pub OfRecord : first.First → Content → Type 0
+OfRecord first-is.End x = x ≡ refusal cause.cut
+OfRecord (first-is.Job e n) x = OfEntry e x
+OfRecord (first-is.Refused k) x = x ≡ refusal k
+
+-- the generator's function on a record
+pub record Generated (r : first.First) (before after : List ℕ) (n : ℕ) : Type 0 where
+  pub content : Content
+  pub is : OfRecord r content
+  pub delivered : Delivered content before after n
 
 -- a whole-number case: x, y, z, carries
-abbrev pub ofWhole : whole.Reply → Answer
+abbrev pub ofWhole : whole.Reply → Content
 ofWhole (whole-is.Found c) = numbers (c .x ∷ c .y ∷ c .z ∷ c .carries ∷ [])
 ofWhole (whole-is.Refused k) = refusal k
 
@@ -111,4 +118,4 @@ ofWhole (whole-is.Refused k) = refusal k
 pub record WholeGenerated (j : whole-job.Job) (before after : List ℕ) (n : ℕ) : Type 0 where
   pub reply : whole.Reply
   pub replied : whole-generator.Replied j reply
-  pub handed : Handed (ofWhole reply) before after n
+  pub delivered : Delivered (ofWhole reply) before after n

@@ -1,7 +1,7 @@
--- `vindacsor::vindacsor_join` meets its contract: each arm hands over what the reply says. Assumes nothing.
-use mathlib.Core.Path.{sym, ap, _∙_}
+-- `vindacsor::vindacsor_join` meets its contract: the reply's answer is delivered. Assumes nothing.
+use mathlib.Core.Path.{ap, _∙_}
 use Rattle.vindacsor.specs.Replies.{ofJoined}
-use Rattle.vindacsor.proofs.Bytes.{refused, handed-as}
+use Rattle.vindacsor.proofs.Bytes.{delivered-as}
 use borrow.Author.Needs.{needs}
 use Rattle.vindacsor.proofs.vindacsor_join.Statement.{statement}
 use Rattle.vindacsor.proofs.vindacsor_join.Tie as tie
@@ -9,37 +9,20 @@ use Rattle.vindacsor.proofs.vindacsor_join.Tie as tie
 join-requires : tie.Need-join-requires
 join-requires c κs = search needs
 
-enum-known-m : tie.Need-enum-known-m
-enum-known-m c = search needs
+of-joined-requires : tie.Need-of-joined-requires
+of-joined-requires c κs = search needs
 
-hand-requires : tie.Need-hand-requires
-hand-requires c κs = search needs
-
-enum-known-number : tie.Need-enum-known-number
-enum-known-number c = search needs
+deliver-requires : tie.Need-deliver-requires
+deliver-requires c κs = search needs
 
 same-length : tie.Need-same-length
 same-length c = search needs
 
 returns : tie.Need-returns
 returns c =
-    let h = c .before .before in
-    let p = h .before .before .before in
-    handed-as (ap ofJoined (sym (p .m .given .1) ∙ p .before .before .join .ensures)) (h .hand .ensures)
-
-returns-2 : tie.Need-returns-2
-returns-2 c =
-    let p = c .before in
-    handed-as (ap ofJoined (sym (p .number .given .1) ∙ p .before .before .join .ensures)) refused
+    let d = c .before .before in
+    delivered-as (d .before .of-joined .ensures ∙ ap ofJoined (d .before .before .join .ensures)) (d .deliver .ensures)
 
 pub vindacsor-join-spec : {M : Type 1} → statement M
 vindacsor-join-spec =
-    tie.close
-    (tie.spec
-    join-requires
-    enum-known-m
-    hand-requires
-    enum-known-number
-    same-length
-    returns
-    returns-2)
+    tie.close (tie.spec join-requires of-joined-requires deliver-requires same-length returns)

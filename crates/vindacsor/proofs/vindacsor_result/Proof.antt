@@ -1,7 +1,7 @@
--- `vindacsor::vindacsor_result` meets its contract: each arm hands over what the reply says. Assumes nothing.
-use mathlib.Core.Path.{sym, ap, _∙_}
+-- `vindacsor::vindacsor_result` meets its contract: the reply's answer is delivered. Assumes nothing.
+use mathlib.Core.Path.{ap, _∙_}
 use Rattle.vindacsor.specs.Replies.{ofResult}
-use Rattle.vindacsor.proofs.Bytes.{refused, handed-as}
+use Rattle.vindacsor.proofs.Bytes.{delivered-as}
 use borrow.Author.Needs.{needs}
 use Rattle.vindacsor.proofs.vindacsor_result.Statement.{statement}
 use Rattle.vindacsor.proofs.vindacsor_result.Tie as tie
@@ -9,37 +9,20 @@ use Rattle.vindacsor.proofs.vindacsor_result.Tie as tie
 rounded-result-requires : tie.Need-rounded-result-requires
 rounded-result-requires c κs = search needs
 
-enum-known-c : tie.Need-enum-known-c
-enum-known-c c = search needs
+of-result-requires : tie.Need-of-result-requires
+of-result-requires c κs = search needs
 
-hand-requires : tie.Need-hand-requires
-hand-requires c κs = search needs
-
-enum-known-number : tie.Need-enum-known-number
-enum-known-number c = search needs
+deliver-requires : tie.Need-deliver-requires
+deliver-requires c κs = search needs
 
 same-length : tie.Need-same-length
 same-length c = search needs
 
 returns : tie.Need-returns
 returns c =
-    let h = c .before .before in
-    let p = h .before .before .before in
-    handed-as (ap ofResult (sym (p .c .given .1) ∙ p .before .before .rounded-result .ensures)) (h .hand .ensures)
-
-returns-2 : tie.Need-returns-2
-returns-2 c =
-    let p = c .before in
-    handed-as (ap ofResult (sym (p .number .given .1) ∙ p .before .before .rounded-result .ensures)) refused
+    let d = c .before .before in
+    delivered-as (d .before .of-result .ensures ∙ ap ofResult (d .before .before .rounded-result .ensures)) (d .deliver .ensures)
 
 pub vindacsor-result-spec : {M : Type 1} → statement M
 vindacsor-result-spec =
-    tie.close
-    (tie.spec
-    rounded-result-requires
-    enum-known-c
-    hand-requires
-    enum-known-number
-    same-length
-    returns
-    returns-2)
+    tie.close (tie.spec rounded-result-requires of-result-requires deliver-requires same-length returns)
