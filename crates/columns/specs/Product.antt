@@ -1,6 +1,7 @@
 -- Two machines side by side on the same two numbers, as one machine. The first has S states and the second T; the pair (s, t) is the
 -- number s + S * t, and a pair with a dead state in it is dead. So a test of the bits of a column (a comparison, a count) runs beside
 -- the machine that reads them. Assumes nothing.
+-- Internal: no public contract cites this.
 use mathlib.Core.Path.{_≡_}
 use mathlib.Core.Bool.{Bool, true, cond, _&&_}
 use Prim.Native.Nat.{ℕ, _+_, _*_, _/_, _%_, _^_, _<_}

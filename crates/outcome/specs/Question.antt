@@ -1,5 +1,6 @@
 -- The parts that the question of `Admits` (`Outcome`) is taken apart into: the masks that fix the number of digits and the kept part, and
 -- the word c by its exponent field and its fraction. Contracts inside this crate speak of them. Assumes nothing.
+-- Internal: no public contract cites this.
 use mathlib.Core.Path.{_≡_}
 use mathlib.Core.Bool.{true, cond}
 use mathlib.Core.Logic.{_↔_}

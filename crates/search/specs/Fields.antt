@@ -1,4 +1,5 @@
 -- Pairs of exponent fields as the loops of the search count them. Nothing here is needed to read the choice. Assumes nothing.
+-- Internal: no public contract cites this.
 use Prim.Native.Nat.{ℕ, _^_, _<_}
 use Rattle.mask.specs.Mask.{Meets}
 use Rattle.job.specs.declared.Job.{Job}
