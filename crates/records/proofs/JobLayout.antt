@@ -2,13 +2,13 @@
 -- numbers. Assumes nothing.
 use mathlib.Core.Path.{_≡_, refl}
 use mathlib.Core.Bool.{true}
-use Prim.Native.Nat.{ℕ, _+_, _≤_, _<_}
+use Prim.Native.Nat.{ℕ, _≤_, _<_}
 use native.Mathlib.Omega.{arith}
 use lib.ListN.{length, getD}
 use Rattle.records.specs.Numbers.{total}
 use Rattle.records.specs.Layout.{sizes}
 use Rattle.records.specs.Record.{wordBytes, fieldCount, numberCount, layout, fieldSizes, recordLength}
-use Rattle.records.proofs.ByMap.{counts, mapBits, allBelow, sizes-below, sizes-most}
+use Rattle.records.proofs.ByMap.{mapBits, allBelow, sizes-below, sizes-most}
 
 pub layout-length : (word : ℕ) → length (layout word) ≡ numberCount
 unfolding layout

@@ -1,12 +1,12 @@
 -- `records::decode` meets its contract. Assumes nothing.
-use mathlib.Core.Path.{_≡_, sym, ap, _∙_}
-use Prim.Native.Nat.{ℕ, _≤_}
+use mathlib.Core.Path.{sym, ap, _∙_}
+use Prim.Native.Nat.{ℕ}
 use native.Mathlib.Omega.{arith}
 use mathlib.Core.List.{List}
 use lib.ListN.{length, getD}
 use denote.Ref.{now}
 use Rattle.records.specs.Numbers.{total, numbers}
-use Rattle.records.specs.Record.{fieldSizes, entryWith}
+use Rattle.records.specs.Record.{entryWith}
 use Rattle.records.proofs.JobLayout.{sizes-count, size-most}
 use borrow.Author.Needs.{needs}
 use Rattle.records.proofs.decode.Statement.{statement}

@@ -2,9 +2,8 @@
 use mathlib.Core.Path.{_≡_, ap, _∙_}
 use Prim.Native.Nat.{ℕ, _+_}
 use native.Mathlib.Omega.{arith}
-use mathlib.Core.List.{List}
 use Rattle.records.specs.Numbers.{total}
-use Rattle.records.specs.Record.{headerBytes, fieldSizes, recordLength}
+use Rattle.records.specs.Record.{headerBytes, recordLength}
 use Rattle.records.proofs.JobLayout.{length-most}
 use borrow.Author.Needs.{needs}
 use Rattle.records.proofs.record_length.Statement.{statement}

@@ -1,10 +1,10 @@
 -- `records::layout::field_sizes` meets its contract. After i turns the first i byte counts are in place. Assumes nothing.
 use mathlib.Core.Path.{_≡_, refl, sym, ap, _∙_}
-use Prim.Native.Nat.{ℕ, _+_, _*_, _-_, _≤_}
+use Prim.Native.Nat.{ℕ, _+_, _-_, _≤_}
 use native.Mathlib.Omega.{arith}
 use borrow.Author.Needs.{needs}
-use mathlib.Core.List.{List, _++_, append-nil}
-use lib.ListN.{length, getD, take, drop, set, length-set}
+use mathlib.Core.List.{List, _++_}
+use lib.ListN.{length, take, drop, set, length-set}
 use Rattle.bits.specs.Bit.{bit}
 use Rattle.records.specs.Layout.{sizes}
 use Rattle.records.specs.Record.{wordBytes, numberCount}

@@ -4,9 +4,9 @@ use mathlib.Core.Path.{_≡_, refl, sym, ap, ap₂, _∙_}
 use Prim.Native.Nat.{ℕ, _+_, _-_, _≤_}
 use native.Mathlib.Omega.{arith}
 use mathlib.Core.List.{List}
-use lib.ListN.{length, getD, drop}
+use lib.ListN.{length, drop}
 use denote.Ref.{now}
-use Rattle.records.specs.Number.{put, littleEndian}
+use Rattle.records.specs.Number.{put}
 use Rattle.records.specs.Numbers.{total, numberBytes}
 use Rattle.records.proofs.Numbers.{put-none}
 use Rattle.records.proofs.BySizes.{drop-all, total-turn, put-turn}
