@@ -12,7 +12,7 @@ use borrow.Author.Tests.{le-leb, lt-leb}
 use lib.Dec.{leb}
 use mathlib.Core.Bool.{true, false}
 use Rattle.format.specs.Cause as cause
-use Rattle.vindacsor.specs.Answer.{Content, numbers, refusal, bytesOf, Delivered}
+use Rattle.vindacsor.specs.Answer.{Content, numbers, bytesOf, Delivered}
 
 pub bytes-append : (ns ms : List ℕ) → bytesOf (ns ++ ms) ≡ bytesOf ns ++ bytesOf ms
 unfolding bytesOf
@@ -67,10 +67,6 @@ module _ (ns s : List ℕ) where
   delivered-all h =
       let test : leb (length (bytesOf ns)) (length s) ≡ true = le-leb (length (bytesOf ns)) (length s) h in
       record { number = rw test; buffer = rw test (put-front s (bytesOf ns)) }
-
--- a refusal leaves the buffer as it was
-pub refused : {k : ℕ} {s : List ℕ} → Delivered (refusal k) s s k
-refused = record { number = refl; buffer = refl }
 
 -- what is delivered as one content is delivered as an equal one
 pub delivered-as : {x y : Content} {s t : List ℕ} {n : ℕ} → x ≡ y → Delivered x s t n → Delivered y s t n
