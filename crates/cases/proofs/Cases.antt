@@ -16,7 +16,7 @@ use Rattle.mask.specs.Mask.{maskCause}
 use Rattle.choice.specs.Choice.{Farther}
 use Rattle.columns.proofs.Some.{or-cases}
 use Rattle.job.specs.declared.Job.{Job}
-use Rattle.job.specs.Job.{masksCause, jobCause}
+use Rattle.job.specs.Job.{settingCause, masksCause, jobCause}
 use Rattle.job.proofs.Laws.{job-none}
 use Rattle.adder.specs.declared.Reply as reply
 use Rattle.adder.specs.declared.Reply.the-variants as answer
@@ -28,7 +28,7 @@ use Rattle.word.specs.Operand.{operandOf}
 use Rattle.rounding.specs.Rounding.{direction, increment, roundOff, magnitudeWord, overflowWord, boundedWord, cancelledSign}
 use Rattle.adder.specs.Result.{finiteSum, infiniteSum, kindSum, result, resultCause, resultReply}
 use Rattle.adder.specs.Row.{gather, finiteRow, kindRow, rowOf, rowCause, rowReply}
-use Rattle.fit.specs.Fit.{Fits, fits, caseCause}
+use Rattle.fit.specs.Fit.{Fits, satisfies, fits, caseCause}
 use Rattle.fit.proofs.Laws.{case-none}
 use Rattle.whole.specs.declared.Reply.the-variants.{Found}
 use Rattle.whole.specs.Sum.{addends}
@@ -190,5 +190,5 @@ every-holds (y ∷ ys) t x m =
 -- ---- the table
 
 pub cases-hold : (x : Case) → List·Memᴰ x cases → Holds x
-unfolding every passes isWord isCarried allFit listed notCloser isWhole isCase everyCase everyWord fits caseCause jobCause masksCause maskCause formatCause operationCause modeCause wordCause resultCause rowCause size significand operandOf direction increment roundOff magnitudeWord overflowWord boundedWord cancelledSign finiteSum infiniteSum kindSum result gather finiteRow kindRow rowOf
+unfolding every passes isWord isCarried allFit listed notCloser isWhole isCase everyCase everyWord fits satisfies caseCause jobCause settingCause masksCause maskCause formatCause operationCause modeCause wordCause resultCause rowCause size significand operandOf direction increment roundOff magnitudeWord overflowWord boundedWord cancelledSign finiteSum infiniteSum kindSum result gather finiteRow kindRow rowOf
 cases-hold = every-holds cases refl

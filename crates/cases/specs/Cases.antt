@@ -10,6 +10,7 @@ use Rattle.mask.specs.declared.Mask.{Mask}
 use Rattle.choice.specs.Choice.{ClosestPair}
 use Rattle.job.specs.declared.Job.{Job}
 use Rattle.job.specs.Job.{jobCause}
+use Rattle.job.specs.Role.{maskedJob}
 use Rattle.adder.specs.declared.Reply.the-variants.{Word}
 use Rattle.adder.specs.declared.Row.the-variants.{Carries, NoRow}
 use Rattle.adder.specs.declared.RowReply.{RowReply}
@@ -67,13 +68,9 @@ everyMode at = at 0 ∷ at 1 ∷ at 2 ∷ at 3 ∷ []
 
 -- "Masks there: a 0100x101, b 001x1011, c 010xx10x (x free)": the job that adds in a mode, with a carry mask
 abbrev pub masked : ℕ → Mask → Job
-masked mode carries = record {
-  setting = record { format = eight; operation = 0; mode = mode };
-  a = record { mask = record { care = 0xF7; value = 0x45 } };
-  b = record { mask = record { care = 0xEF; value = 0x2B } };
-  c = record { mask = record { care = 0xE6; value = 0x44 } };
-  carries = carries;
-}
+masked mode carries =
+    maskedJob (record { format = eight; operation = 0; mode = mode }) (record { care = 0xF7; value = 0x45 }) (record { care = 0xEF; value = 0x2B })
+    (record { care = 0xE6; value = 0x44 }) carries
 
 abbrev pub nothingFixed : Mask
 nothingFixed = record { care = 0; value = 0 }

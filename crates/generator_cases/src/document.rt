@@ -8,6 +8,8 @@ use format::cause;
 use generator::Case;
 use generator::Reply;
 use job::Job;
+use job::Setting;
+use job::words::masked_job;
 use mask::Mask;
 use tally::Count;
 use tally::judge;
@@ -39,17 +41,25 @@ fn found(a: u64, b: u64, c: u64, carries: u64) -> Reply {
     })
 }
 
-// The masks of the eight-bit format: a 0100x101, b 001x1011, c 010xx10x.
-fn eight(mode: u64, carries: Mask) -> Job {
-    Job {
-        format: Format { w: 3, f: 4 },
+// Addition in a mode.
+fn adding(w: u64, f: u64, mode: u64) -> Setting {
+    Setting {
+        format: Format { w, f },
         operation: ADD,
         mode,
-        a: mask(0xF7, 0x45),
-        b: mask(0xEF, 0x2B),
-        c: mask(0xE6, 0x44),
-        carries,
     }
+}
+
+// The masks of the eight-bit format: a 0100x101, b 001x1011, c 010xx10x.
+fn eight(mode: u64, carries: Mask) -> Job {
+    let setting = adding(3, 4, mode);
+    masked_job(
+        setting,
+        mask(0xF7, 0x45),
+        mask(0xEF, 0x2B),
+        mask(0xE6, 0x44),
+        carries,
+    )
 }
 
 // Words 0, 0 and words 4D, 0.
@@ -70,15 +80,7 @@ pub fn masked_cases(count: Count) -> Count {
 
 // Nothing fixed.
 fn open(w: u64, f: u64) -> Job {
-    Job {
-        format: Format { w, f },
-        operation: ADD,
-        mode: 0,
-        a: free(),
-        b: free(),
-        c: free(),
-        carries: free(),
-    }
+    masked_job(adding(w, f, 0), free(), free(), free(), free())
 }
 
 fn accepted(count: Count, w: u64, f: u64) -> Count {
@@ -109,15 +111,9 @@ pub fn limits(count: Count) -> Count {
 
 // Two positive operands and a negative sum.
 fn signs(count: Count, mode: u64) -> Count {
-    let job = Job {
-        format: Format { w: 8, f: 23 },
-        operation: ADD,
-        mode,
-        a: mask(0x80000000, 0),
-        b: mask(0x80000000, 0),
-        c: mask(0x80000000, 0x80000000),
-        carries: free(),
-    };
+    let plus = mask(0x80000000, 0);
+    let minus = mask(0x80000000, 0x80000000);
+    let job = masked_job(adding(8, 23, mode), plus, plus, minus, free());
     asked(count, job, 0, 0, Reply::Refused(cause::NO_CASE))
 }
 
@@ -128,15 +124,12 @@ pub fn impossible_signs(count: Count) -> Count {
 
 // A job of the eight-bit widths but for what is given.
 fn bad(format: Format, operation: u64, mode: u64, a: Mask, carries: Mask) -> Job {
-    Job {
+    let setting = Setting {
         format,
         operation,
         mode,
-        a,
-        b: free(),
-        c: free(),
-        carries,
-    }
+    };
+    masked_job(setting, a, free(), free(), carries)
 }
 
 // Of the causes 1 to 6 each line has one fewer: the first is named.

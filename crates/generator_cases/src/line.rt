@@ -24,20 +24,20 @@ fn put_mask(name: &[u8], m: Mask) {
 
 fn put_numbers(job: Job) {
     io::write_all(STDOUT_FILENO, b"w ");
-    io::print_decimal(STDOUT_FILENO, job.format.w);
+    io::print_decimal(STDOUT_FILENO, job.setting.format.w);
     io::write_all(STDOUT_FILENO, b" f ");
-    io::print_decimal(STDOUT_FILENO, job.format.f);
+    io::print_decimal(STDOUT_FILENO, job.setting.format.f);
     io::write_all(STDOUT_FILENO, b" operation ");
-    io::print_decimal(STDOUT_FILENO, job.operation);
+    io::print_decimal(STDOUT_FILENO, job.setting.operation);
     io::write_all(STDOUT_FILENO, b" mode ");
-    io::print_decimal(STDOUT_FILENO, job.mode);
+    io::print_decimal(STDOUT_FILENO, job.setting.mode);
 }
 
 pub fn ask(job: Job, r1: u64, r2: u64) {
     put_numbers(job);
-    put_mask(b" a", job.a);
-    put_mask(b" b", job.b);
-    put_mask(b" c", job.c);
+    put_mask(b" a", job.a.mask);
+    put_mask(b" b", job.b.mask);
+    put_mask(b" c", job.c.mask);
     put_mask(b" carries", job.carries);
     io::write_all(STDOUT_FILENO, b" words");
     put_word(r1);

@@ -1,6 +1,7 @@
 -- The words of a case by their role, one definition for each use of "a, b, c" (document 01, "Masks and choice"). Assumes nothing.
 use Prim.Native.Nat.{ℕ}
 use Rattle.mask.specs.declared.Mask.{Mask}
+use Rattle.job.specs.declared.Setting.{Setting}
 use Rattle.job.specs.declared.Wanted.{Wanted}
 use Rattle.job.specs.declared.Job.{Job}
 use Rattle.job.specs.declared.Role.{Role}
@@ -27,3 +28,11 @@ withWanted C j w = record { setting = j .setting; a = j .a; b = j .b; c = w; car
 -- the same conditions with another mask
 abbrev pub withMask : Wanted → Mask → Wanted
 withMask w m = record { mask = m }
+
+-- a word agrees with a mask, and nothing else is wanted of it
+abbrev pub onlyMask : Mask → Wanted
+onlyMask m = record { mask = m }
+
+-- the job that states four masks and nothing else
+abbrev pub maskedJob : Setting → Mask → Mask → Mask → Mask → Job
+maskedJob S a b c carries = record { setting = S; a = onlyMask a; b = onlyMask b; c = onlyMask c; carries = carries }

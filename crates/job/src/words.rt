@@ -1,12 +1,13 @@
 // What a job wants of one word of a case, by the role of the word.
 use crate::Job;
 use crate::Role;
+use crate::Setting;
 use crate::Wanted;
 use mask::Mask;
 use mask::fix;
 ghost use mathlib.Core.Path.{_≡_};
 ghost use Rattle.mask.specs.Mask.{fix};
-ghost use Rattle.job.specs.Role.{wanted, withWanted, withMask};
+ghost use Rattle.job.specs.Role.{wanted, withWanted, withMask, maskedJob};
 
 // What is wanted of the word of a role.
 pub fn wanted(job: Job, role: Role) -> Wanted
@@ -47,4 +48,17 @@ pub fn fix_bit(job: Job, role: Role, i: u64, v: u64) -> Job
 {
     let w = wanted(job, role);
     with_wanted(job, role, with_mask(w, fix(w.mask, i, v)))
+}
+
+// The job that states four masks and nothing else.
+pub fn masked_job(setting: Setting, a: Mask, b: Mask, c: Mask, carries: Mask) -> Job
+    ensures { λ r. ⌜ r ≡ maskedJob setting a b c carries ⌝ }
+{
+    Job {
+        setting,
+        a: Wanted { mask: a },
+        b: Wanted { mask: b },
+        c: Wanted { mask: c },
+        carries,
+    }
 }

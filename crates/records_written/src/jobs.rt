@@ -1,6 +1,8 @@
 // Pseudo-random jobs by a congruential generator. Every state gives an entry and a room; no state's numbers are told by those of another.
 use format::Format;
 use job::Job;
+use job::Setting;
+use job::words::masked_job;
 use mask::Mask;
 use records::Entry;
 
@@ -51,15 +53,12 @@ fn random(width: u64, state: u64) -> u64 {
 }
 
 fn job(format: Format, operation: u64, mode: u64, a: Mask, b: Mask, c: Mask, carries: Mask) -> Job {
-    Job {
+    let setting = Setting {
         format,
         operation,
         mode,
-        a,
-        b,
-        c,
-        carries,
-    }
+    };
+    masked_job(setting, a, b, c, carries)
 }
 
 // The entry of a state: its numbers are those of the state, its fields those of the states after it.
