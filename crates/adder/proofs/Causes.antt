@@ -1,7 +1,7 @@
 -- What it means that no cause stands against a result or a row, and what the replies are then. Assumes nothing.
-use mathlib.Core.Path.{_≡_, refl, ap}
+use mathlib.Core.Path.{_≡_, ap}
 use mathlib.Core.Logic.{_↔_}
-use Prim.Native.Nat.{ℕ, zero, suc, _^_, _≤_, _<_}
+use Prim.Native.Nat.{ℕ, _^_, _≤_, _<_}
 use Rattle.format.specs.declared.Format.{Format}
 use Rattle.format.specs.Cause.{first}
 use Rattle.format.specs.Limits.{mostOperation, mostMode}

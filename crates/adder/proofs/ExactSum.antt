@@ -10,7 +10,7 @@ use Rattle.format.specs.Format.{Supported}
 use Rattle.word.specs.declared.Finite as record-of
 use Rattle.word.specs.declared.Operand.the-variants.{Finite}
 use Rattle.word.specs.Word.{biased, allOnes, effective}
-use Rattle.word.specs.Operand.{finiteOf, operandOf, magnitude}
+use Rattle.word.specs.Operand.{finiteOf, magnitude}
 use Rattle.rounding.specs.Rounding.{rounded, cancelledSign}
 use Rattle.adder.specs.Result.{finiteSum, kindSum, result}
 use Rattle.adder.specs.Exact.{exactMagnitude, exactSign}

@@ -16,7 +16,6 @@ ghost use lib.Dec.{ltb};
 ghost use Rattle.format.specs.Format.{Supported};
 ghost use Rattle.word.specs.Operand.{magnitude, Canonical, Sound};
 ghost use Rattle.adder.specs.Result.{nan, infinity, finiteSum, infiniteSum, kindSum};
-ghost use Rattle.rounding.specs.Rounding.{cancelledSign};
 
 // Whether x has the smaller magnitude: by the exponents, and where these are equal by the significands.
 pub(crate) fn smaller(x: Finite, y: Finite, format: Format) -> bool
@@ -39,7 +38,7 @@ fn ordered_sum(format: Format, mode: u64, l: Finite, r: Finite) -> u64
 {
     let u = unit_of(l.exponent);
     let v = unit_of(r.exponent);
-    let head = 8 * l.significand;
+    let head = aligned(l.significand, 0);
     let tail = aligned(r.significand, u.0 - v.0);
     if l.sign == r.sign {
         rounded(format, mode, l.sign, head + tail, u)

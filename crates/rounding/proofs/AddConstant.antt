@@ -1,9 +1,11 @@
--- Rounding off k bits is adding a constant and dropping k bits: nothing toward zero, 2^k - 1 away from zero, and in nearest mode one less
--- than half a unit and then the last kept bit, which sends a tie to the even neighbour. Assumes nothing.
+-- Rounding off k bits is adding a constant and a carry and dropping k bits, whatever the direction: `round-off-adds`. Nothing is added toward
+-- zero, 2^k - 1 away from zero, and in nearest mode one less than half a unit and then the last kept bit, which sends a tie to the even
+-- neighbour. A caller that knows the last kept bit names it; one whose carry is the same for both need not (`round-off-adds-fixed`).
+-- Assumes nothing.
 use mathlib.Core.Path.{_≡_, sym, ap, _∙_}
 use mathlib.Core.Bool.{cond}
 use Prim.Native.Nat.{ℕ, zero, suc, _+_, _-_, _*_, _/_, _%_, _^_, _<_}
-use native.Mathlib.Nat.{mod-lt, add-zero, div-add-mod', pow-suc, suc-mul}
+use native.Mathlib.Nat.{mod-lt, add-zero, div-one, div-add-mod', pow-suc, suc-mul}
 use native.Mathlib.Decide.{decLt, ℕ-discrete}
 use native.Mathlib.Omega.{arith}
 use borrow.Author.Tests.{lt-ltb, le-ltb, eq-eqb, ne-eqb}
@@ -11,8 +13,11 @@ use lib.Arith.{digits-div}
 use lib.Dec.{ltb, eqb}
 use lib.Pow.{pow-pos}
 use Rattle.bits.specs.Bit.{bit}
+use Rattle.bits.proofs.Laws.{bit-lt}
+use Rattle.rounding.specs.declared.Direction.{Direction}
 use Rattle.rounding.specs.declared.Direction.the-variants.{Nearest, TowardZero, Away}
-use Rattle.rounding.specs.Rounding.{increment, roundOff}
+use Rattle.rounding.specs.Rounding.{increment, roundOff, roundingConstant, roundingCarry}
+use Rattle.rounding.proofs.RoundOff.{round-off-none}
 
 pub round-toward-zero : (X k : ℕ) → roundOff TowardZero X k ≡ X / 2 ^ k
 unfolding roundOff increment
@@ -65,3 +70,38 @@ pub round-nearest : (X j : ℕ) → roundOff Nearest X (suc j) ≡ (X + (2 ^ j -
 unfolding roundOff
 round-nearest X j =
     nearest-by X (X / 2 ^ suc j) (X % 2 ^ suc j) (2 ^ j) (2 ^ suc j) (pow-suc 2 j) (pow-pos j) (mod-lt X (pow-pos (suc j))) (div-add-mod' X (2 ^ suc j))
+
+-- ---- one law over the direction
+
+-- for the last kept bit
+pub round-off-adds : (d : Direction) (X k last : ℕ) → bit X k ≡ last → roundOff d X k ≡ (X + roundingConstant d k + roundingCarry d k last) / 2 ^ k
+unfolding roundingConstant roundingCarry
+round-off-adds d X zero last e = round-off-none d X ∙ omega (arith, div-one (X + 0 + 0))
+round-off-adds Nearest X (suc j) last e = round-nearest X j ∙ ap (λ (b : ℕ). (X + (2 ^ j - 1) + b) / 2 ^ suc j) e
+round-off-adds TowardZero X (suc j) last e = round-toward-zero X (suc j) ∙ ap (λ (n : ℕ). n / 2 ^ suc j) (omega arith)
+round-off-adds Away X (suc j) last e = round-away X (suc j) ∙ ap (λ (n : ℕ). n / 2 ^ suc j) (omega arith)
+
+-- where the carry does not depend on it
+pub round-off-adds-fixed : (d : Direction) (k carry : ℕ) → roundingCarry d k 0 ≡ carry → roundingCarry d k 1 ≡ carry
+    → (X : ℕ) → roundOff d X k ≡ (X + roundingConstant d k + carry) / 2 ^ k
+round-off-adds-fixed d k carry zeroth first X = go (bit X k) (bit-lt X k) mathlib.Core.Path.refl
+  where
+    go : (b : ℕ) → b < 2 → bit X k ≡ b → roundOff d X k ≡ (X + roundingConstant d k + carry) / 2 ^ k
+    go zero h e = round-off-adds d X k 0 e ∙ ap (λ (c : ℕ). (X + roundingConstant d k + c) / 2 ^ k) zeroth
+    go (suc zero) h e = round-off-adds d X k 1 e ∙ ap (λ (c : ℕ). (X + roundingConstant d k + c) / 2 ^ k) first
+    go (suc (suc b)) h e = absurd (omega arith)
+
+-- the constant is less than a unit, and the carry is a bit
+pub rounding-constant-lt : (d : Direction) (k : ℕ) → roundingConstant d k < 2 ^ k
+unfolding roundingConstant
+rounding-constant-lt d zero = omega arith
+rounding-constant-lt Nearest (suc j) = omega (arith, pow-suc 2 j, pow-pos j)
+rounding-constant-lt TowardZero (suc j) = pow-pos (suc j)
+rounding-constant-lt Away (suc j) = omega (arith, pow-pos (suc j))
+
+pub rounding-carry-lt : (d : Direction) (k last : ℕ) → last < 2 → roundingCarry d k last < 2
+unfolding roundingCarry
+rounding-carry-lt d zero last h = omega arith
+rounding-carry-lt Nearest (suc j) last h = h
+rounding-carry-lt TowardZero (suc j) last h = omega arith
+rounding-carry-lt Away (suc j) last h = omega arith

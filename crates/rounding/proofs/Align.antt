@@ -3,11 +3,11 @@
 use mathlib.Core.Path.{_≡_, refl, sym, ap, ap₂, _∙_, subst}
 use mathlib.Core.Logic.{_⊎_, inl, inr, _↔_}
 use Prim.Native.Nat.{ℕ, zero, suc, _+_, _-_, _*_, _/_, _%_, _^_, _≤_, _<_}
-use native.Mathlib.Nat.{mod-lt, mod-one, mul-assoc, mul-comm, add-mul, mul-le-mul-left, mul-le-mul-right, le-of-mul-le-mul-right, mul-mod-left, div-add-mod', div-lt-iff-lt-mul, eq-of-mul-eq-mul-right}
+use native.Mathlib.Nat.{mod-lt, mod-one, mul-assoc, mul-comm, add-mul, mul-le-mul-left, le-of-mul-le-mul-right, mul-mod-left, div-add-mod', div-lt-iff-lt-mul, eq-of-mul-eq-mul-right}
 use native.Mathlib.Decide.{decLt}
 use native.Mathlib.Omega.{arith}
 use borrow.Author.Tests.{ltb-false, le-ltb, eqb-true, eq-eqb}
-use lib.Dec.{ltb, eqb}
+use lib.Dec.{eqb}
 use lib.Pow.{pow-pos, pow-mono, pow-add, shr-le}
 use Rattle.format.specs.declared.Format.{Format}
 use Rattle.format.specs.Format.{precision}

@@ -1,17 +1,17 @@
 -- A magnitude X that is held as x, in eighths of its unit with a sticky bit: x tells how many digits X has, and x shifted so that three
 -- bits stand below the last kept one (four after a carry) rounds as X does. Assumes nothing.
 use mathlib.Core.Path.{_≡_, refl, sym, ap, ap₂, _∙_, subst}
-use mathlib.Core.Logic.{_⊎_, inl, inr, ⊎-elim}
+use mathlib.Core.Logic.{_⊎_, ⊎-elim}
 use Prim.Native.Nat.{ℕ, zero, suc, _+_, _-_, _*_, _/_, _%_, _^_, _≤_, _<_}
-use native.Mathlib.Nat.{mod-lt, mul-assoc, mul-comm, div-add-mod', mul-le-mul-right, suc-mul, pow-suc, le-trans, lt-of-lt-of-le, not-le-of-lt}
+use native.Mathlib.Nat.{mod-lt, mul-assoc, mul-comm, div-add-mod', mul-le-mul-right, suc-mul, pow-suc, not-le-of-lt}
 use native.Mathlib.Decide.{decLt, ℕ-discrete}
 use native.Mathlib.Omega.{arith}
 use mathlib.Core.Bool.{cond}
 use borrow.Author.Tests.{lt-ltb, le-ltb}
 use lib.Dec.{ltb}
 use lib.Ieee.{size}
-use lib.Ieee.Digits.{size-lt, size-le, size-reaches}
-use lib.Pow.{pow-pos, pow-mono, pow-add}
+use lib.Ieee.Digits.{size-le}
+use lib.Pow.{pow-pos, pow-add}
 use Rattle.format.specs.declared.Format.{Format}
 use Rattle.rounding.specs.declared.Direction.{Direction}
 use Rattle.rounding.specs.Rounding.{roundOff, dropped}

@@ -1,7 +1,7 @@
 -- The number of binary digits, by the powers of two that a number lies between. Assumes nothing.
 use mathlib.Core.Path.{_≡_, sym, ap, _∙_, subst}
 use Prim.Native.Nat.{ℕ, zero, suc, _+_, _-_, _*_, _^_, _≤_, _<_}
-use native.Mathlib.Nat.{le-trans, lt-of-lt-of-le, le-antisymm, not-le-of-lt, mul-lt-mul-of-pos-right, mul-le-mul-right, suc-mul}
+use native.Mathlib.Nat.{lt-of-lt-of-le, le-antisymm, not-le-of-lt, mul-lt-mul-of-pos-right, mul-le-mul-right}
 use native.Mathlib.Decide.{decLt}
 use native.Mathlib.Omega.{arith}
 use lib.Ieee.{size}

@@ -1,15 +1,15 @@
 -- Laws of the sticky bit: it tells zero from nonzero, so a comparison with a multiple of the unit, and a sum or difference with one, are
 -- the same with it as with all that was dropped. Assumes nothing.
-use mathlib.Core.Path.{_≡_, refl, sym, ap, ap₂, _∙_, subst}
-use mathlib.Core.Bool.{Bool, true, false, cond}
-use Prim.Native.Nat.{ℕ, zero, suc, _+_, _-_, _*_, _/_, _%_, _^_, _≤_, _<_}
-use native.Mathlib.Nat.{mod-lt, mul-le-mul-right, mul-lt-mul-of-pos-right, suc-mul, add-mul, zero-mul, add-zero, mul-add-div-right, mul-add-mod-self-right, div-add-mod', eq-zero-or-pos, mul-right-comm}
-use native.Mathlib.Decide.{decLt, decLe, ℕ-discrete}
+use mathlib.Core.Path.{_≡_, sym, ap, ap₂, _∙_}
+use mathlib.Core.Bool.{Bool, cond}
+use Prim.Native.Nat.{ℕ, suc, _+_, _-_, _*_, _/_, _%_, _^_, _≤_, _<_}
+use native.Mathlib.Nat.{mod-lt, mod-one, div-one, mul-le-mul-right, suc-mul, add-mul, zero-mul, mul-add-div-right, mul-add-mod-self-right, div-add-mod', mul-right-comm}
+use native.Mathlib.Decide.{decLt, ℕ-discrete}
 use native.Mathlib.Omega.{arith}
 use borrow.Author.Tests.{lt-ltb, le-ltb, eq-eqb, ne-eqb}
 use lib.Arith.{digits-div, digits-mod}
-use lib.Dec.{ltb, leb, eqb}
-use lib.Pow.{pow-pos, pow-add}
+use lib.Dec.{ltb, eqb}
+use lib.Pow.{pow-pos}
 use Rattle.rounding.specs.Sticky.{sticky, withSticky}
 use Rattle.bits.proofs.Division.{div-scale, mod-scale, eqb-scale, mul-sub-right}
 
@@ -126,6 +126,11 @@ with-sticky-sub L Z d h =
     let whole = div-add-mod' Z (2 ^ d) in
     ap (λ (n : ℕ). (L * 2 ^ d - n) / 2 ^ d * 2 + sticky ((L * 2 ^ d - n) % 2 ^ d)) (sym whole)
     ∙ sub-sticky L (Z / 2 ^ d) (Z % 2 ^ d) (2 ^ d) (mod-lt Z (pow-pos d)) (omega arith)
+
+-- no bit is dropped
+pub with-sticky-none : (Z : ℕ) → withSticky Z 0 ≡ 2 * Z
+unfolding withSticky
+with-sticky-none Z = ap₂ (λ (q s : ℕ). q * 2 + sticky s) (div-one Z) (mod-one Z) ∙ omega arith
 
 -- where nothing was dropped
 pub with-sticky-exact : (Z u : ℕ) → Z % 2 ^ u ≡ 0 → withSticky Z u * 2 ^ u ≡ 2 * Z

@@ -2,7 +2,7 @@
 -- A mode and a sign give a direction; the direction alone decides which neighbour is taken, and what an overflow gives.
 -- `magnitudeWord` is the word of the rounded magnitude, as if exponents went on upward. Assumes nothing.
 use mathlib.Core.Bool.{cond}
-use Prim.Native.Nat.{ℕ, _+_, _-_, _*_, _/_, _%_, _^_}
+use Prim.Native.Nat.{ℕ, zero, suc, _+_, _-_, _*_, _/_, _%_, _^_}
 use lib.Dec.{eqb, ltb}
 use lib.Ieee.{size}
 use Rattle.format.specs.declared.Format.{Format}
@@ -29,6 +29,20 @@ increment Away q ρ M = cond (eqb ρ 0) 0 1
 -- X with its low k bits rounded off
 unfoldable pub roundOff : way.Direction → ℕ → ℕ → ℕ
 roundOff d X k = X / 2 ^ k + increment d (X / 2 ^ k) (X % 2 ^ k) (2 ^ k)
+
+-- What rounding off adds before it drops the bits, a row for each direction: a constant, and a carry by the last kept bit (proofs/AddConstant:
+-- `round-off-adds`). Where no bit is dropped nothing is added.
+unfoldable pub roundingConstant : way.Direction → ℕ → ℕ
+roundingConstant d zero = 0
+roundingConstant Nearest (suc j) = 2 ^ j - 1
+roundingConstant TowardZero (suc j) = 0
+roundingConstant Away (suc j) = 2 ^ suc j - 1
+
+unfoldable pub roundingCarry : way.Direction → ℕ → ℕ → ℕ
+roundingCarry d zero last = 0
+roundingCarry Nearest (suc j) last = last
+roundingCarry TowardZero (suc j) last = 0
+roundingCarry Away (suc j) last = 0
 
 -- how many low bits of X are dropped to keep p significant ones, never finer than one step
 abbrev pub dropped : Format → ℕ → ℕ

@@ -1,9 +1,13 @@
 // A significand aligned to a larger operand's unit, with its sticky bit.
+use crate::width::GUARD_BITS;
 use bits::high;
 use bits::low;
 ghost use mathlib.Core.Path.{_≡_};
 ghost use Prim.Native.Nat.{_*_, _^_, _≤_, _<_};
-ghost use Rattle.rounding.specs.Sticky.{sticky, withSticky};
+ghost use Rattle.rounding.specs.Sticky.{sticky, withSticky, guarded};
+
+// The guard and the round bit are bits of the significand; the sticky bit stands for the rest.
+const GUARDED: u64 = 1 << (GUARD_BITS - 1);
 
 // A significand of more than 60 bits has no room for what is added below it.
 const LIMIT: u64 = 1 << 60;
@@ -15,14 +19,14 @@ pub fn sticky(rest: u64) -> u64
     if rest == 0 { 0 } else { 1 }
 }
 
-// A significand with two more bits, the guard and the round bit, moved down by `gap` places, and then the sticky bit; 0 for one of more
-// than 60 bits.
+// A significand with the guard and the round bit below it, moved down by `gap` places, and then the sticky bit; 0 for one of more than 60
+// bits.
 pub fn aligned(significand: u64, gap: u64) -> u64
-    ensures { λ r. ⌜ (significand < 2 ^ 60 → r ≡ withSticky (4 * significand) gap) × (2 ^ 60 ≤ significand → r ≡ 0) ⌝ }
+    ensures { λ r. ⌜ (significand < 2 ^ 60 → r ≡ withSticky (guarded significand) gap) × (2 ^ 60 ≤ significand → r ≡ 0) ⌝ }
 {
     if LIMIT <= significand {
         return 0;
     }
-    let guarded = 4 * significand;
+    let guarded = GUARDED * significand;
     high(guarded, gap) * 2 + sticky(low(guarded, gap))
 }

@@ -1,8 +1,14 @@
 // Rounding a magnitude to a format.
 use crate::Direction;
+use crate::addend::carry;
+use crate::addend::constant;
 use crate::mode::direction;
+use crate::width::ALIGNED;
+use crate::width::GUARD_BITS;
+use crate::width::MOST_ROUNDED;
+use crate::width::SUM;
+use bits::bit_at;
 use bits::high;
-use bits::low;
 use bits::power;
 use format::Format;
 use format::format_cause;
@@ -15,36 +21,17 @@ ghost use mathlib.Core.Path.{_≡_};
 ghost use Prim.Native.Nat.{ℕ, _+_, _-_, _*_, _^_, _≤_, _<_};
 ghost use lib.Ieee.{size};
 ghost use Rattle.format.specs.Format.{Supported};
-ghost use Rattle.rounding.specs.Rounding.{increment, roundOff, magnitudeWord, overflowWord, rounded};
+ghost use Rattle.rounding.specs.Rounding.{roundOff, magnitudeWord, overflowWord, rounded};
+ghost use Rattle.rounding.specs.Width.{alignedBits, sumBits};
 ghost use Rattle.rounding.specs.Sticky.{Held, Roundable, keptPart};
-
-// 1 where the kept part goes to the next number up, else 0.
-fn increment(direction: Direction, kept: u64, rest: u64, unit: u64) -> u64
-    requires { ⌜ rest < 2 ^ 63 ⌝ }
-    ensures { λ r. ⌜ r ≡ increment direction kept rest unit ⌝ }
-{
-    match direction {
-        Direction::Nearest => {
-            if unit < 2 * rest {
-                1
-            } else if 2 * rest == unit {
-                kept % 2
-            } else {
-                0
-            }
-        }
-        Direction::TowardZero => 0,
-        Direction::Away => { if rest == 0 { 0 } else { 1 } }
-    }
-}
 
 // x with its low k bits rounded off.
 fn round_off(direction: Direction, x: u64, k: u64) -> u64
-    requires { ⌜ (x < 2 ^ 63) × (k < 64) ⌝ }
+    requires { ⌜ (x < 2 ^ 62) × (k < 62) ⌝ }
     ensures { λ r. ⌜ r ≡ roundOff direction x k ⌝ }
 {
-    let kept = high(x, k);
-    kept + increment(direction, kept, low(x, k), power(k))
+    let last = bit_at(x, k);
+    high(x + constant(direction, k) + carry(direction, k, last), k)
 }
 
 // The number of binary digits of x.
@@ -54,32 +41,32 @@ fn size(x: u64) -> u64
     (64 - u64::leading_zeros(x)) as u64
 }
 
-// How many bits of the magnitude that x stands for are dropped: x counts eighths of 2^u steps.
+// How many bits of the magnitude that x stands for are dropped: x has the guard bits below the unit of 2^u steps.
 fn dropped(format: Format, x: u64, u: Unit) -> u64
     requires { ⌜ Supported format × (u .0 < 2 ^ format .w) ⌝ }
-    ensures { λ r. ⌜ r ≡ size x + u .0 - (format .f + 4) ⌝ }
+    ensures { λ r. ⌜ r ≡ size x + u .0 - alignedBits (format .f) ⌝ }
 {
     let reach = size(x) + u.0;
-    let kept = format.f + 4;
+    let kept = format.f + ALIGNED;
     if kept < reach { reach - kept } else { 0 }
 }
 
-// x shifted to have three extra bits, or four after a carry, below the last kept one, and rounded.
+// x shifted to have the guard bits, or one more after a carry, below the last kept one, and rounded.
 fn kept_part(direction: Direction, x: u64, u: Unit, k: u64) -> u64
     requires { ⌜ (x < 2 ^ 61) × (u .0 - k < 61) × (x * 2 ^ (u .0 - k) < 2 ^ 61) ⌝ }
     ensures { λ r. ⌜ (r ≡ keptPart direction x (u .0) k) × (r ≤ 2 ^ 61) ⌝ }
 {
     let unit = u.0;
     if unit < k {
-        round_off(direction, x, 4)
+        round_off(direction, x, MOST_ROUNDED)
     } else {
-        round_off(direction, x << (unit - k), 3)
+        round_off(direction, x << (unit - k), GUARD_BITS)
     }
 }
 
 // The word of the rounded magnitude that x stands for.
 fn magnitude_word(format: Format, direction: Direction, x: u64, u: Unit) -> u64
-    requires { ⌜ Supported format × (u .0 < 2 ^ format .w) × (x < 2 ^ (format .f + 5)) ⌝ }
+    requires { ⌜ Supported format × (u .0 < 2 ^ format .w) × (x < 2 ^ sumBits (format .f)) ⌝ }
     ensures { λ r. ⌜ ((X : ℕ) → 0 < X → Held format X x (u .0) → r ≡ magnitudeWord format direction X) ⌝ }
 {
     let k = dropped(format, x, u);
@@ -101,14 +88,14 @@ pub fn overflow_word(format: Format, direction: Direction) -> u64
     }
 }
 
-// Whether a number x, counted in eighths of the unit u, and a sign are such as operands of the format give.
+// Whether a sign, a number x with guard bits and its unit u are such as operands of the format give.
 fn roundable(format: Format, sign: u64, x: u64, u: Unit) -> bool
     ensures { λ r. ⌜ r ≡ true ↔ Roundable format sign x (u .0) ⌝ }
 {
     if format_cause(format) != 0 {
         return false;
     }
-    (sign < 2) & (u.0 < power(format.w)) & (x < power(format.f + 5))
+    (sign < 2) & (u.0 < power(format.w)) & (x < power(format.f + SUM))
 }
 
 // The word of a sign and the rounded magnitude that x stands for; 0 where x is not such as operands of the format give.

@@ -1,6 +1,6 @@
 -- Bounds that hold in every supported format. Assumes nothing.
 use mathlib.Core.Path.{_≡_, sym, _∙_, subst}
-use Prim.Native.Nat.{ℕ, _+_, _-_, _*_, _%_, _^_, _≤_, _<_}
+use Prim.Native.Nat.{ℕ, _+_, _-_, _%_, _^_, _≤_, _<_}
 use native.Mathlib.Nat.{lt-of-lt-of-le, mul-pos, mul-lt-mul-of-pos-right}
 use native.Mathlib.Omega.{arith}
 use lib.Pow.{pow-pos, pow-mono, pow-add}
@@ -8,7 +8,7 @@ use Rattle.bits.proofs.Laws.{power-exact}
 use Rattle.format.specs.declared.Format.{Format}
 use Rattle.format.specs.Format.{Supported, wordBits}
 use Rattle.format.proofs.Room.{word-room}
-use Rattle.word.specs.Word.{allOnes, infinityWord}
+use Rattle.word.specs.Word.{infinityWord}
 
 module _ (F : Format) (ok : Supported F) where
   -- the places of the fields lie in a 64-bit word

@@ -1,19 +1,18 @@
 -- Operands of a format are canonical, and canonical magnitudes are ordered as their exponents and then their significands are.
 -- Assumes nothing.
-use mathlib.Core.Path.{_≡_, refl, sym, ap, ap₂, _∙_, subst}
-use mathlib.Core.Bool.{Bool, true, false, cond}
-use Prim.Native.Nat.{ℕ, zero, suc, _+_, _-_, _*_, _/_, _%_, _^_, _≤_, _<_}
-use native.Mathlib.Nat.{mod-lt, lt-of-lt-of-le, lt-of-le-of-lt, le-trans, mul-le-mul-right, mul-lt-mul-of-pos-right, mul-one, pow-suc}
+use mathlib.Core.Path.{_≡_, refl, sym, ap, _∙_, subst}
+use mathlib.Core.Bool.{cond}
+use Prim.Native.Nat.{ℕ, zero, suc, _+_, _-_, _*_, _/_, _^_, _≤_, _<_}
+use native.Mathlib.Nat.{mod-lt, lt-of-lt-of-le, mul-le-mul-right}
 use native.Mathlib.Decide.{decLt, ℕ-discrete}
 use native.Mathlib.Omega.{arith}
-use borrow.Author.Tests.{lt-ltb, le-ltb, eq-eqb, ne-eqb}
+use borrow.Author.Tests.{eq-eqb, ne-eqb}
 use lib.Dec.{ltb, eqb}
 use lib.Pow.{pow-pos, pow-mono, pow-add, shl-lt}
 use Rattle.format.specs.declared.Format.{Format}
 use Rattle.format.specs.Format.{precision}
 use Rattle.word.specs.declared.Finite as record-of
 use Rattle.word.specs.declared.Unit as exponent
-use Rattle.word.specs.declared.Operand.{Operand}
 use Rattle.word.specs.declared.Operand.the-variants.{Finite, Infinite, Nan}
 use Rattle.word.specs.Word.{fraction, biased, sign, unitOf, significand, allOnes}
 use Rattle.word.specs.Operand.{finiteOf, operandOf, magnitude, Canonical, Sound}

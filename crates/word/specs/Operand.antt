@@ -1,6 +1,6 @@
 -- The kind of an operand (document 01, "Numbers of a format" and "The rounded result", last paragraph): finite, with its sign, exponent
 -- and significand, infinite with its sign, or a NaN. Assumes nothing.
-use mathlib.Core.Bool.{Bool, true, false, cond}
+use mathlib.Core.Bool.{cond}
 use mathlib.Core.Path.{_≡_}
 use Prim.Native.Nat.{ℕ, _*_, _^_, _≤_, _<_}
 use lib.Dec.{eqb}

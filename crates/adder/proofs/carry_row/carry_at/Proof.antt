@@ -1,12 +1,11 @@
 -- `adder::carry_row::carry_at` meets its contract. Assumes nothing.
-use mathlib.Core.Path.{_≡_, refl, sym, ap, ap₂, _∙_, subst}
-use Prim.Native.Nat.{ℕ, zero, suc, _+_, _-_, _*_, _/_, _%_, _^_, _≤_, _<_}
+use mathlib.Core.Path.{ap, ap₂, _∙_}
+use Prim.Native.Nat.{ℕ, _+_, _-_, _%_, _^_}
 use native.Mathlib.Nat.{mod-le}
 use native.Mathlib.Numerals.{add-one}
 use native.Mathlib.Omega.{arith}
 use lib.Dec.{leb, ltb}
 use Rattle.bits.proofs.Laws.{power-exact}
-use Rattle.adder.specs.Row.{carryIn}
 use borrow.Author.Needs.{needs}
 use Rattle.adder.proofs.carry_row.carry_at.Statement.{statement}
 use Rattle.adder.proofs.carry_row.carry_at.Tie as tie

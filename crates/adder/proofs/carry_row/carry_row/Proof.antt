@@ -1,9 +1,8 @@
 -- `adder::carry_row::carry_row` meets its contract. Assumes nothing.
-use mathlib.Core.Path.{_≡_, refl, sym, ap, ap₂, _∙_, subst}
-use Prim.Native.Nat.{ℕ, zero, suc, _+_, _-_, _*_, _/_, _%_, _^_, _≤_, _<_}
+use mathlib.Core.Path.{_≡_, refl, sym, ap, ap₂, _∙_}
+use Prim.Native.Nat.{ℕ, zero, suc, _-_}
 use Rattle.adder.specs.declared.Row as row
 use Rattle.adder.specs.declared.RowReply.the-variants.{Row, Refused}
-use Rattle.word.specs.Operand.{operandOf, Sound}
 use Rattle.word.specs.Word.{effective}
 use Rattle.adder.specs.Row.{kindRow, rowOf, replyFor}
 use Rattle.word.proofs.Canonical.{operand-sound}

@@ -1,6 +1,6 @@
 -- `adder::carry_row::finite_row` meets its contract. Assumes nothing.
-use mathlib.Core.Path.{_≡_, refl, sym, ap, ap₂, _∙_, subst}
-use Prim.Native.Nat.{ℕ, zero, suc, _+_, _-_, _*_, _/_, _%_, _^_, _≤_, _<_}
+use mathlib.Core.Path.{sym, _∙_}
+use Prim.Native.Nat.{_-_}
 use native.Mathlib.Nat.{le-of-lt}
 use borrow.Author.Tests.{ltb-true, ltb-false}
 use Rattle.word.specs.Operand.{magnitude}

@@ -1,7 +1,6 @@
 -- `adder::carry_row::kind_row` meets its contract. Assumes nothing.
-use mathlib.Core.Path.{_≡_, refl, sym, ap, ap₂, _∙_, subst}
+use mathlib.Core.Path.{ap}
 use Rattle.adder.specs.declared.Row.the-variants.{Carries}
-use Rattle.word.specs.Operand.{Sound}
 use Rattle.adder.specs.Row.{kindRow}
 use borrow.Author.Needs.{needs}
 use Rattle.adder.proofs.carry_row.kind_row.Statement.{statement}

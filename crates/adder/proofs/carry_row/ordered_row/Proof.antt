@@ -1,16 +1,15 @@
 -- `adder::carry_row::ordered_row` meets its contract: each position of the aligned significands is one of the row (proofs/RowBit). Assumes nothing.
-use mathlib.Core.Path.{_≡_, refl, sym, ap, ap₂, _∙_, subst, fun-ext}
-use Prim.Native.Nat.{ℕ, zero, suc, _+_, _-_, _*_, _/_, _%_, _^_, _≤_, _<_}
-use mathlib.Core.Bool.{Bool}
+use mathlib.Core.Path.{_≡_, sym, ap, ap₂, _∙_, fun-ext}
+use Prim.Native.Nat.{ℕ, _+_, _-_}
 use native.Mathlib.Nat.{lt-of-lt-of-le, lt-of-le-of-lt}
 use native.Mathlib.Omega.{arith}
 use lib.Dec.{eqb}
 use lib.Pow.{pow-mono, shr-le}
 use Rattle.format.specs.Format.{precision}
+use Rattle.format.proofs.Room.{significand-room}
 use Rattle.word.specs.declared.Unit as exponent
 use Rattle.word.specs.Word.{unitOf}
-use Rattle.word.specs.Operand.{magnitude}
-use Rattle.adder.specs.Row.{carryAt, gather, carryIn}
+use Rattle.adder.specs.Row.{gather, carryIn}
 use Rattle.rounding.specs.Sticky.{sticky}
 use Rattle.word.proofs.Canonical.{gap-le, unit-le}
 use Rattle.rounding.proofs.Sticky.{sticky-lt}
@@ -45,8 +44,9 @@ add-gathered c = search needs
 gathered-requires : tie.Need-gathered-requires
 gathered-requires c κs =
     let s = c .before .before .before .before .before .before .before .before .before .before in
-    let b = pow-mono {i = precision (s .args .format)} {j = 62} (omega (arith, s .pre .0 .f-most)) in
-    (omega (arith, s .pre .0 .f-most), lt-of-lt-of-le (s .pre .1 .significand-lt) b, rw (c .before .before .before .before .before .high .ensures) (lt-of-le-of-lt (shr-le (s .args .r .significand) (c .before .before .before .before .before .before .before .before .before .unit-of .result .0 - c .before .before .before .before .before .before .before .before .unit-of2 .result .0)) (lt-of-lt-of-le (s .pre .2 .significand-lt) b)), rw (c .before .before .before .sticky .ensures) (sticky-lt (c .before .before .before .before .low .result)))
+    let room = significand-room (s .args .format) (s .pre .0) in
+    let b = pow-mono {i = precision (s .args .format)} {j = 62} (omega arith) in
+    (omega arith, lt-of-lt-of-le (s .pre .1 .significand-lt) b, rw (c .before .before .before .before .before .high .ensures) (lt-of-le-of-lt (shr-le (s .args .r .significand) (c .before .before .before .before .before .before .before .before .before .unit-of .result .0 - c .before .before .before .before .before .before .before .before .unit-of2 .result .0)) (lt-of-lt-of-le (s .pre .2 .significand-lt) b)), rw (c .before .before .before .sticky .ensures) (sticky-lt (c .before .before .before .before .low .result)))
 
 returns : tie.Need-returns
 returns c =

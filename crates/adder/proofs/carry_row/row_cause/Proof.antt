@@ -1,8 +1,8 @@
 -- `adder::carry_row::row_cause` meets its contract. Assumes nothing.
-use mathlib.Core.Path.{_≡_, refl, sym, ap, ap₂, _∙_, subst}
-use Prim.Native.Nat.{ℕ, zero, suc, _+_, _-_, _*_, _/_, _%_, _^_, _≤_, _<_}
+use mathlib.Core.Path.{sym, ap, ap₂, _∙_}
+use Prim.Native.Nat.{ℕ, _-_}
 use Rattle.format.specs.Cause.{first}
-use Rattle.format.specs.Format.{Supported, wordBits, formatCause, operationCause, modeCause, wordCause}
+use Rattle.format.specs.Format.{wordBits, wordCause}
 use Rattle.format.proofs.Laws.{first-none, format-none}
 use Rattle.adder.specs.Row.{rowCause}
 use borrow.Author.Needs.{needs}

@@ -1,12 +1,9 @@
 -- `adder::result::rounded_result` meets its contract. Assumes nothing.
-use mathlib.Core.Path.{_≡_, refl, sym, ap, ap₂, _∙_, subst}
-use Prim.Native.Nat.{ℕ, zero, suc, _+_, _-_, _*_, _/_, _%_, _^_, _≤_, _<_}
-use Rattle.adder.specs.declared.Reply.{Reply}
+use mathlib.Core.Path.{_≡_, refl, sym, ap, ap₂, _∙_}
+use Prim.Native.Nat.{ℕ, zero, suc, _-_}
 use Rattle.adder.specs.declared.Reply.the-variants.{Word, Refused}
-use Rattle.word.specs.declared.Operand.{Operand}
-use Rattle.word.specs.Operand.{operandOf, Sound}
 use Rattle.word.specs.Word.{effective}
-use Rattle.adder.specs.Result.{kindSum, result, resultCause, replyFor}
+use Rattle.adder.specs.Result.{kindSum, result, replyFor}
 use Rattle.word.proofs.Canonical.{operand-sound}
 use Rattle.adder.proofs.Causes.{result-none}
 use borrow.Author.Needs.{needs}

@@ -1,10 +1,11 @@
 -- `adder::result::words_cause` meets its contract. Assumes nothing.
-use mathlib.Core.Path.{_≡_, refl, sym, ap, ap₂, _∙_, subst}
-use Prim.Native.Nat.{ℕ, zero, suc, _+_, _-_, _*_, _/_, _%_, _^_, _≤_, _<_}
+use mathlib.Core.Path.{sym, ap₂, _∙_}
+use Prim.Native.Nat.{_-_}
 use native.Mathlib.Omega.{arith}
 use Rattle.format.specs.Cause.{first}
-use Rattle.format.specs.Format.{Supported, wordBits, formatCause, operationCause, modeCause, wordCause}
+use Rattle.format.specs.Format.{wordBits, wordCause}
 use Rattle.format.proofs.Laws.{first-some}
+use Rattle.format.proofs.Room.{word-room}
 use borrow.Author.Needs.{needs}
 use Rattle.adder.proofs.result.words_cause.Statement.{statement}
 use Rattle.adder.proofs.result.words_cause.Tie as tie
@@ -13,10 +14,10 @@ returns : tie.Need-returns
 returns c = sym (first-some (c .before .args .before) (first (wordCause (wordBits (c .before .args .format)) (c .before .args .a)) (wordCause (wordBits (c .before .args .format)) (c .before .args .b))) (c .if1 .taken))
 
 add-width : tie.Need-add-width
-add-width c = let ok = c .before .before .pre (c .before .if1 .left) in omega (arith, ok .w-most, ok .f-most)
+add-width c = omega (arith, word-room (c .before .before .args .format) (c .before .before .pre (c .before .if1 .left)))
 
 add-width-2 : tie.Need-add-width-2
-add-width-2 c = let ok = c .before .before .pre (c .before .if1 .left) in omega (arith, ok .w-most, ok .f-most)
+add-width-2 c = omega (arith, word-room (c .before .before .args .format) (c .before .before .pre (c .before .if1 .left)))
 
 word-cause-requires : tie.Need-word-cause-requires
 word-cause-requires c κs = search needs

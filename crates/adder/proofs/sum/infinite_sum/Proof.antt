@@ -1,6 +1,5 @@
 -- `adder::sum::infinite_sum` meets its contract. Assumes nothing.
-use mathlib.Core.Path.{_≡_, refl, sym, ap, ap₂, _∙_, subst}
-use borrow.Author.Tests.{lt-ltb, le-ltb, eq-eqb, ne-eqb}
+use borrow.Author.Tests.{eq-eqb, ne-eqb}
 use Rattle.adder.specs.Result.{infiniteSum}
 use borrow.Author.Needs.{needs}
 use Rattle.adder.proofs.sum.infinite_sum.Statement.{statement}

@@ -1,7 +1,4 @@
 -- `adder::sum::kind_sum` meets its contract. Assumes nothing.
-use mathlib.Core.Path.{_≡_, refl, sym, ap, ap₂, _∙_, subst}
-use Rattle.word.specs.declared.Operand.{Operand}
-use Rattle.word.specs.Operand.{Sound}
 use Rattle.adder.specs.Result.{kindSum}
 use borrow.Author.Needs.{needs}
 use Rattle.adder.proofs.sum.kind_sum.Statement.{statement}

@@ -1,6 +1,6 @@
 -- `adder::sum::nan` meets its contract. Assumes nothing.
 use mathlib.Core.Path.{_≡_, ap₂, _∙_}
-use Prim.Native.Nat.{ℕ, _+_, _-_, _%_, _^_}
+use Prim.Native.Nat.{ℕ, _+_, _-_, _%_, _^_, _≤_}
 use native.Mathlib.Omega.{arith}
 use lib.Pow.{pow-mono}
 use Rattle.bits.proofs.Laws.{power-exact}
@@ -14,6 +14,9 @@ use Rattle.adder.proofs.sum.nan.Tie as tie
 -- the top bit of the fraction
 top : (F : Format) → Supported F → {p : ℕ} → p ≡ 2 ^ (F .f - 1) % 2 ^ 64 → p ≡ 2 ^ (F .f - 1)
 top F ok e = e ∙ power-exact (F .f - 1) (omega (arith, place-bits F ok))
+
+power-short : {k p : ℕ} → p ≡ 2 ^ k % 2 ^ 64 → k ≤ 62 → p ≤ 2 ^ 62
+power-short {k} e h = rw (e ∙ power-exact k (omega arith)) (pow-mono {i = k} {j = 62} h)
 
 infinity-word-requires : tie.Need-infinity-word-requires
 infinity-word-requires c κs = search needs
@@ -29,7 +32,8 @@ add-result c =
     let s = c .before .before .before in
     let F = s .args .format in
     let e = c .before .before .infinity-word .ensures .0 (s .pre) in
-    omega (arith, infinity-lt F (s .pre), place-power F (s .pre), top F (s .pre) (c .power .ensures), pow-mono {i = F .f - 1} {j = 62} (omega (arith, place-bits F (s .pre))))
+    let bits = place-bits F (s .pre) in
+    omega (arith, infinity-lt F (s .pre), place-power F (s .pre), power-short (c .power .ensures) (omega arith))
 
 returns : tie.Need-returns
 returns c =

@@ -1,9 +1,10 @@
--- `adder::sum::ordered_sum` meets its contract: the aligned significands hold the exact sum and difference (proofs/Align), which are then rounded. Assumes nothing.
-use mathlib.Core.Path.{_≡_, refl, sym, ap, ap₂, _∙_, subst}
-use Prim.Native.Nat.{ℕ, zero, suc, _+_, _-_, _*_, _/_, _%_, _^_, _≤_, _<_}
-use native.Mathlib.Omega.{arith}
-use native.Mathlib.Nat.{lt-of-lt-of-le}
+-- `adder::sum::ordered_sum` meets its contract: the aligned significands hold the exact sum and difference (rounding's proofs/Align), which
+-- are then rounded. Assumes nothing.
+use mathlib.Core.Path.{_≡_, sym, ap, _∙_}
 use mathlib.Core.Logic.{_↔_}
+use Prim.Native.Nat.{ℕ, _+_, _-_, _*_, _^_, _≤_, _<_}
+use native.Mathlib.Nat.{lt-of-lt-of-le}
+use native.Mathlib.Omega.{arith}
 use lib.Pow.{pow-pos, pow-mono}
 use Rattle.format.specs.declared.Format.{Format}
 use Rattle.format.specs.Format.{Supported, precision}
@@ -11,72 +12,77 @@ use Rattle.word.specs.declared.Finite as record-of
 use Rattle.word.specs.declared.Unit as exponent
 use Rattle.word.specs.Word.{unitOf, signed}
 use Rattle.word.specs.Operand.{magnitude, Canonical}
-use Rattle.rounding.specs.Sticky.{withSticky, Held}
-use Rattle.rounding.specs.Rounding.{cancelledSign}
+use Rattle.rounding.specs.Sticky.{withSticky, guarded, Held, Roundable}
+use Rattle.rounding.specs.Width.{sumBits}
 use Rattle.format.proofs.Room.{significand-room}
-use Rattle.rounding.proofs.Rounded.{cancelled-lt}
 use Rattle.word.proofs.Canonical.{gap-le}
+use Rattle.rounding.proofs.Sticky.{with-sticky-none}
 use Rattle.rounding.proofs.Align as align
+use Rattle.rounding.proofs.Rounded.{cancelled-lt}
 use Rattle.adder.proofs.FiniteSum.{sum-like, sum-unlike, sum-cancelled}
 use borrow.Author.Needs.{needs}
 use Rattle.adder.proofs.sum.ordered_sum.Statement.{statement}
 use Rattle.adder.proofs.sum.ordered_sum.Tie as tie
 
--- a significand has 60 bits at most
-sixty : (F : Format) (r : record-of.Finite) → Supported F → Canonical F r → r .significand < 2 ^ 60
-sixty F r ok c = lt-of-lt-of-le (c .significand-lt) (pow-mono {i = precision F} {j = 60} (omega (arith, significand-room F ok)))
+-- what the code knows of l's unit u and of the aligned significands h and t
+record Aligned (F : Format) (l r : record-of.Finite) (u : exponent.Unit) (h t : ℕ) : Type 0 where
+  unit-lt : u .0 < 2 ^ F .w
+  sum-lt : h + t < 2 ^ sumBits (F .f)
+  sum-fits : h + t < 2 ^ 64
+  sum-held : Held F (magnitude l + magnitude r) (h + t) (u .0)
+  tail-le : t ≤ h
+  difference-held : Held F (magnitude l - magnitude r) (h - t) (u .0)
+  equal : magnitude l ≡ magnitude r ↔ (h ≡ t)
 
--- what the code holds: the units p and q, and the aligned significand t
 module _ (F : Format) (l r : record-of.Finite) (ok : Supported F) (cl : Canonical F l) (cr : Canonical F r) (le : magnitude r ≤ magnitude l)
-    (p q : exponent.Unit) (ep : p ≡ unitOf (l .exponent)) (eq : q ≡ unitOf (r .exponent)) where
-  up : p .0 ≡ l .exponent .0 - 1
-  up = ap (λ (n : exponent.Unit). n .0) ep
+    (u v : exponent.Unit) (eu : u ≡ unitOf (l .exponent)) (ev : v ≡ unitOf (r .exponent)) where
+  short : (x : record-of.Finite) → Canonical F x → x .significand < 2 ^ 60
+  short x c = lt-of-lt-of-le (c .significand-lt) (pow-mono {i = precision F} {j = 60} (omega (arith, significand-room F ok)))
 
-  vq : q .0 ≡ r .exponent .0 - 1
-  vq = ap (λ (n : exponent.Unit). n .0) eq
+  gap : v .0 ≤ u .0
+  gap = gap-le F l r cl cr le u v eu ev
 
-  unit-lt : p .0 < 2 ^ F .w
-  unit-lt = omega (arith, up, cl .exponent-lt)
+  module _ (h t : ℕ) (eh : l .significand < 2 ^ 60 → h ≡ withSticky (guarded (l .significand)) 0)
+      (et : r .significand < 2 ^ 60 → t ≡ withSticky (guarded (r .significand)) (u .0 - v .0)) where
+    up : u .0 ≡ l .exponent .0 - 1
+    up = ap (λ (n : exponent.Unit). n .0) eu
 
-  units : (p .0 - q .0) + q .0 ≡ p .0
-  units = omega (arith, gap-le F l r cl cr le p q ep eq)
+    units : (u .0 - v .0) + v .0 ≡ u .0
+    units = omega (arith, gap)
 
-  normal : 0 < p .0 → 2 ^ F .f ≤ l .significand
-  normal h = cl .normal (omega (arith, up))
+    normal : 0 < u .0 → 2 ^ F .f ≤ l .significand
+    normal p = cl .normal (omega (arith, up))
 
-  exact-l : l .significand * 2 ^ p .0 ≡ magnitude l
-  exact-l = ap (λ (n : ℕ). l .significand * 2 ^ n) up
+    head : h ≡ 8 * l .significand
+    head = eh (short l cl) ∙ with-sticky-none (guarded (l .significand)) ∙ omega arith
 
-  exact-r : r .significand * 2 ^ q .0 ≡ magnitude r
-  exact-r = ap (λ (n : ℕ). r .significand * 2 ^ n) vq
+    tail : t ≡ withSticky (guarded (r .significand)) (u .0 - v .0)
+    tail = et (short r cr)
 
-  not-above : r .significand * 2 ^ q .0 ≤ l .significand * 2 ^ p .0
-  not-above = rw (exact-l, exact-r) le
+    exact-l : l .significand * 2 ^ u .0 ≡ magnitude l
+    exact-l = ap (λ (n : exponent.Unit). l .significand * 2 ^ n .0) eu
 
-  module _ (t : ℕ) (et : t ≡ withSticky (4 * r .significand) (p .0 - q .0)) where
-    sum-lt : 8 * l .significand + t < 2 ^ (F .f + 5)
-    sum-lt = rw et (align.sum-lt F (l .significand) (r .significand) (p .0) (q .0) (p .0 - q .0) units (cl .significand-lt) (cr .significand-lt) normal)
+    exact-r : r .significand * 2 ^ v .0 ≡ magnitude r
+    exact-r = ap (λ (n : exponent.Unit). r .significand * 2 ^ n .0) ev
 
-    sum-held : Held F (magnitude l + magnitude r) (8 * l .significand + t) (p .0)
-    sum-held =
-        rw (et, ← exact-l, ← exact-r)
-        (align.sum-held F (l .significand) (r .significand) (p .0) (q .0) (p .0 - q .0) units (cl .significand-lt) (cr .significand-lt) normal)
+    not-above : r .significand * 2 ^ v .0 ≤ l .significand * 2 ^ u .0
+    not-above = rw (exact-l, exact-r) le
 
-    tail-le : t ≤ 8 * l .significand
-    tail-le = rw et (align.tail-le F (l .significand) (r .significand) (p .0) (q .0) (p .0 - q .0) units (cl .significand-lt) (cr .significand-lt) normal not-above)
-
-    difference-held : Held F (magnitude l - magnitude r) (8 * l .significand - t) (p .0)
-    difference-held =
-        rw (et, ← exact-l, ← exact-r)
-        (align.difference-held F (l .significand) (r .significand) (p .0) (q .0) (p .0 - q .0) units (cl .significand-lt) (cr .significand-lt) normal not-above)
-
-    difference-lt : 8 * l .significand - t < 2 ^ (F .f + 5)
-    difference-lt = omega (arith, sum-lt)
-
-    equal : magnitude l ≡ magnitude r ↔ (8 * l .significand ≡ t)
-    equal =
-        rw (et, ← exact-l, ← exact-r)
-        (align.equal-tail F (l .significand) (r .significand) (p .0) (q .0) (p .0 - q .0) units (cl .significand-lt) (cr .significand-lt) normal)
+    aligned-sum : Aligned F l r u h t
+    aligned-sum =
+        let L = l .significand in
+        let R = r .significand in
+        let below = rw (← head, ← tail) at (align.sum-lt F L R (u .0) (v .0) (u .0 - v .0) units (cl .significand-lt) (cr .significand-lt) normal) in
+        record {
+          unit-lt = omega (arith, up, cl .exponent-lt);
+          sum-lt = below;
+          sum-fits = lt-of-lt-of-le below (pow-mono {i = sumBits (F .f)} {j = 64} (omega (arith, significand-room F ok)));
+          sum-held = rw (head, tail, ← exact-l, ← exact-r) (align.sum-held F L R (u .0) (v .0) (u .0 - v .0) units (cl .significand-lt) (cr .significand-lt) normal);
+          tail-le = rw (head, tail) (align.tail-le F L R (u .0) (v .0) (u .0 - v .0) units (cl .significand-lt) (cr .significand-lt) normal not-above);
+          difference-held = rw (head, tail, ← exact-l, ← exact-r)
+              (align.difference-held F L R (u .0) (v .0) (u .0 - v .0) units (cl .significand-lt) (cr .significand-lt) normal not-above);
+          equal = rw (head, tail, ← exact-l, ← exact-r) (align.equal-tail F L R (u .0) (v .0) (u .0 - v .0) units (cl .significand-lt) (cr .significand-lt) normal);
+        }
 
 unit-of-requires : tie.Need-unit-of-requires
 unit-of-requires c κs = search needs
@@ -84,34 +90,31 @@ unit-of-requires c κs = search needs
 unit-of-requires-2 : tie.Need-unit-of-requires-2
 unit-of-requires-2 c κs = search needs
 
-mul-head : tie.Need-mul-head
-mul-head c =
-    let s = c .before .before .before in
-    omega (arith, sixty (s .args .format) (s .args .l) (s .pre .0) (s .pre .1))
-
-sub-aligned : tie.Need-sub-aligned
-sub-aligned c =
-    let s = c .before .before .before .before .before in
-    let F = s .args .format in
-    let l = s .args .l in
-    let r = s .args .r in
-    let p = c .before .before .before .before .unit-of in
-    let q = c .before .before .before .unit-of2 in
-    gap-le F l r (s .pre .1) (s .pre .2) (s .pre .3) (p .result) (q .result) (p .ensures) (q .ensures)
-
 aligned-requires : tie.Need-aligned-requires
 aligned-requires c κs = search needs
 
+sub-aligned : tie.Need-sub-aligned
+sub-aligned c =
+    let q = c .before .before .before in
+    let p = q .before in
+    let s = p .before in
+    gap (s .args .format) (s .args .l) (s .args .r) (s .pre .0) (s .pre .1) (s .pre .2) (s .pre .3) (p .unit-of .result) (q .unit-of2 .result) (p .unit-of .ensures) (q .unit-of2 .ensures)
+
+aligned-requires-2 : tie.Need-aligned-requires-2
+aligned-requires-2 c κs = search needs
+
 add-rounded : tie.Need-add-rounded
 add-rounded c =
-    let s = c .before .before .before .before .before .before .before .before .before in
+    let t = c .before .before .before in
+    let h = t .before .before .before in
+    let q = h .before in
+    let p = q .before in
+    let s = p .before in
     let F = s .args .format in
     let l = s .args .l in
     let r = s .args .r in
-    let p = c .before .before .before .before .before .before .before .before .unit-of in
-    let q = c .before .before .before .before .before .before .before .unit-of2 in
-    let t = c .before .before .before .aligned in
-    omega (arith, sum-lt F l r (s .pre .0) (s .pre .1) (s .pre .2) (s .pre .3) (p .result) (q .result) (p .ensures) (q .ensures) (t .result) (t .ensures .0 (sixty F r (s .pre .0) (s .pre .2))), pow-mono {i = F .f + 5} {j = 62} (omega (arith, significand-room F (s .pre .0))))
+    let A = aligned-sum F l r (s .pre .0) (s .pre .1) (s .pre .2) (s .pre .3) (p .unit-of .result) (q .unit-of2 .result) (p .unit-of .ensures) (q .unit-of2 .ensures) (h .aligned .result) (t .aligned2 .result) (h .aligned .ensures .0) (t .aligned2 .ensures .0) in
+    record { fits = A .sum-fits }
 
 rounded-requires : tie.Need-rounded-requires
 rounded-requires c κs = search needs
@@ -124,51 +127,65 @@ signed-requires c κs = search needs
 
 sub-rounded : tie.Need-sub-rounded
 sub-rounded c =
-    let s = c .before .before .before .before .before .before .before .before .before .before in
+    let t = c .before .before .before .before in
+    let h = t .before .before .before in
+    let q = h .before in
+    let p = q .before in
+    let s = p .before in
     let F = s .args .format in
     let l = s .args .l in
     let r = s .args .r in
-    let p = c .before .before .before .before .before .before .before .before .before .unit-of in
-    let q = c .before .before .before .before .before .before .before .before .unit-of2 in
-    let t = c .before .before .before .before .aligned in
-    tail-le F l r (s .pre .0) (s .pre .1) (s .pre .2) (s .pre .3) (p .result) (q .result) (p .ensures) (q .ensures) (t .result) (t .ensures .0 (sixty F r (s .pre .0) (s .pre .2)))
+    let A = aligned-sum F l r (s .pre .0) (s .pre .1) (s .pre .2) (s .pre .3) (p .unit-of .result) (q .unit-of2 .result) (p .unit-of .ensures) (q .unit-of2 .ensures) (h .aligned .result) (t .aligned2 .result) (h .aligned .ensures .0) (t .aligned2 .ensures .0) in
+    A .tail-le
 
 rounded-requires-2 : tie.Need-rounded-requires-2
 rounded-requires-2 c κs = search needs
 
 returns : tie.Need-returns
 returns c =
-    let s = c .before .before .before .before .before .before .before .before .before .before in
+    let t = c .before .before .before .before in
+    let h = t .before .before .before in
+    let q = h .before in
+    let p = q .before in
+    let s = p .before in
     let F = s .args .format in
     let l = s .args .l in
     let r = s .args .r in
-    let p = c .before .before .before .before .before .before .before .before .before .unit-of in
-    let q = c .before .before .before .before .before .before .before .before .unit-of2 in
-    let t = c .before .before .before .before .aligned in
-    c .rounded .ensures .0 (record { supported = s .pre .0; sign-lt = s .pre .1 .sign-lt; unit-lt = unit-lt F l r (s .pre .0) (s .pre .1) (s .pre .2) (s .pre .3) (p .result) (q .result) (p .ensures) (q .ensures); held-lt = sum-lt F l r (s .pre .0) (s .pre .1) (s .pre .2) (s .pre .3) (p .result) (q .result) (p .ensures) (q .ensures) (t .result) (t .ensures .0 (sixty F r (s .pre .0) (s .pre .2))) }) (magnitude l + magnitude r) (sum-held F l r (s .pre .0) (s .pre .1) (s .pre .2) (s .pre .3) (p .result) (q .result) (p .ensures) (q .ensures) (t .result) (t .ensures .0 (sixty F r (s .pre .0) (s .pre .2)))) ∙ sym (sum-like F (s .args .mode) l r (c .before .if1 .taken))
+    let A = aligned-sum F l r (s .pre .0) (s .pre .1) (s .pre .2) (s .pre .3) (p .unit-of .result) (q .unit-of2 .result) (p .unit-of .ensures) (q .unit-of2 .ensures) (h .aligned .result) (t .aligned2 .result) (h .aligned .ensures .0) (t .aligned2 .ensures .0) in
+    let R : Roundable F (l .sign) (h .aligned .result + t .aligned2 .result) (p .unit-of .result .0) = record { supported = s .pre .0; sign-lt = s .pre .1 .sign-lt; unit-lt = A .unit-lt; held-lt = A .sum-lt } in
+    c .rounded .ensures .0 R (magnitude l + magnitude r) (A .sum-held) ∙ sym (sum-like F (s .args .mode) l r (c .before .if1 .taken))
 
 returns-2 : tie.Need-returns-2
 returns-2 c =
-    let s = c .before .before .before .before .before .before .before .before .before .before .before .before in
+    let t = c .before .before .before .before .before .before in
+    let h = t .before .before .before in
+    let q = h .before in
+    let p = q .before in
+    let s = p .before in
     let F = s .args .format in
     let l = s .args .l in
     let r = s .args .r in
-    let p = c .before .before .before .before .before .before .before .before .before .before .before .unit-of in
-    let q = c .before .before .before .before .before .before .before .before .before .before .unit-of2 in
-    let t = c .before .before .before .before .before .before .aligned in
-    c .signed .ensures .0 (record { supported = s .pre .0; sign-lt = rw (c .before .cancelled-sign .ensures) (cancelled-lt (s .args .mode)); magnitude-lt = pow-pos (F .w + F .f) }) ∙ ap (λ (n : ℕ). signed F n 0) (c .before .cancelled-sign .ensures) ∙ sym (sum-cancelled F (s .args .mode) l r (c .before .before .before .if1 .left) (equal F l r (s .pre .0) (s .pre .1) (s .pre .2) (s .pre .3) (p .result) (q .result) (p .ensures) (q .ensures) (t .result) (t .ensures .0 (sixty F r (s .pre .0) (s .pre .2))) .1 (c .before .before .if2 .taken)))
+    let A = aligned-sum F l r (s .pre .0) (s .pre .1) (s .pre .2) (s .pre .3) (p .unit-of .result) (q .unit-of2 .result) (p .unit-of .ensures) (q .unit-of2 .ensures) (h .aligned .result) (t .aligned2 .result) (h .aligned .ensures .0) (t .aligned2 .ensures .0) in
+    let zero = c .before .cancelled-sign in
+    c .signed .ensures .0 (record { supported = s .pre .0; sign-lt = rw (zero .ensures) (cancelled-lt (s .args .mode)); magnitude-lt = pow-pos (F .w + F .f) })
+    ∙ ap (λ (n : ℕ). signed F n 0) (zero .ensures)
+    ∙ sym (sum-cancelled F (s .args .mode) l r (c .before .before .before .if1 .left) (A .equal .1 (c .before .before .if2 .taken)))
 
 returns-3 : tie.Need-returns-3
 returns-3 c =
-    let s = c .before .before .before .before .before .before .before .before .before .before .before in
+    let t = c .before .before .before .before .before in
+    let h = t .before .before .before in
+    let q = h .before in
+    let p = q .before in
+    let s = p .before in
     let F = s .args .format in
     let l = s .args .l in
     let r = s .args .r in
-    let p = c .before .before .before .before .before .before .before .before .before .before .unit-of in
-    let q = c .before .before .before .before .before .before .before .before .before .unit-of2 in
-    let t = c .before .before .before .before .before .aligned in
-    let ne : magnitude l ≡ magnitude r → ⊥ = λ e. c .before .if2 .left (equal F l r (s .pre .0) (s .pre .1) (s .pre .2) (s .pre .3) (p .result) (q .result) (p .ensures) (q .ensures) (t .result) (t .ensures .0 (sixty F r (s .pre .0) (s .pre .2))) .0 e) in
-    c .rounded2 .ensures .0 (record { supported = s .pre .0; sign-lt = s .pre .1 .sign-lt; unit-lt = unit-lt F l r (s .pre .0) (s .pre .1) (s .pre .2) (s .pre .3) (p .result) (q .result) (p .ensures) (q .ensures); held-lt = difference-lt F l r (s .pre .0) (s .pre .1) (s .pre .2) (s .pre .3) (p .result) (q .result) (p .ensures) (q .ensures) (t .result) (t .ensures .0 (sixty F r (s .pre .0) (s .pre .2))) }) (magnitude l - magnitude r) (difference-held F l r (s .pre .0) (s .pre .1) (s .pre .2) (s .pre .3) (p .result) (q .result) (p .ensures) (q .ensures) (t .result) (t .ensures .0 (sixty F r (s .pre .0) (s .pre .2)))) ∙ sym (sum-unlike F (s .args .mode) l r (c .before .before .if1 .left) (omega (arith, s .pre .3, ne)))
+    let A = aligned-sum F l r (s .pre .0) (s .pre .1) (s .pre .2) (s .pre .3) (p .unit-of .result) (q .unit-of2 .result) (p .unit-of .ensures) (q .unit-of2 .ensures) (h .aligned .result) (t .aligned2 .result) (h .aligned .ensures .0) (t .aligned2 .ensures .0) in
+    let ne : magnitude l ≡ magnitude r → ⊥ = λ e. c .before .if2 .left (A .equal .0 e) in
+    let R : Roundable F (l .sign) (h .aligned .result - t .aligned2 .result) (p .unit-of .result .0) = record { supported = s .pre .0; sign-lt = s .pre .1 .sign-lt; unit-lt = A .unit-lt; held-lt = omega (arith, A .sum-lt) } in
+    c .rounded2 .ensures .0 R (magnitude l - magnitude r) (A .difference-held)
+    ∙ sym (sum-unlike F (s .args .mode) l r (c .before .before .if1 .left) (omega (arith, s .pre .3, ne)))
 
 pub ordered-sum-spec : {M : Type 1} → statement M
 ordered-sum-spec =
@@ -176,9 +193,9 @@ ordered-sum-spec =
     (tie.spec
     unit-of-requires
     unit-of-requires-2
-    mul-head
-    sub-aligned
     aligned-requires
+    sub-aligned
+    aligned-requires-2
     add-rounded
     rounded-requires
     cancelled-sign-requires

@@ -1,5 +1,5 @@
 -- `rounding::alignment::sticky` meets its contract. Assumes nothing.
-use borrow.Author.Tests.{lt-ltb, le-ltb, eq-eqb, ne-eqb}
+use borrow.Author.Tests.{eq-eqb, ne-eqb}
 use Rattle.rounding.proofs.alignment.sticky.Statement.{statement}
 use Rattle.rounding.proofs.alignment.sticky.Tie as tie
 

@@ -1,5 +1,5 @@
 -- `rounding::mode::cancelled_sign` meets its contract. Assumes nothing.
-use borrow.Author.Tests.{lt-ltb, le-ltb, eq-eqb, ne-eqb}
+use borrow.Author.Tests.{eq-eqb, ne-eqb}
 use Rattle.rounding.specs.Rounding.{cancelledSign}
 use Rattle.rounding.proofs.mode.cancelled_sign.Statement.{statement}
 use Rattle.rounding.proofs.mode.cancelled_sign.Tie as tie

@@ -1,5 +1,4 @@
 -- `rounding::mode::direction` meets its contract: mode 2 + s is the one that is s above 2. Assumes nothing.
-use mathlib.Core.Path.{_≡_}
 use Prim.Native.Nat.{_+_}
 use native.Mathlib.Omega.{arith}
 use borrow.Author.Tests.{eq-eqb, ne-eqb}

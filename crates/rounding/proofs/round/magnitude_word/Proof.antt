@@ -1,6 +1,6 @@
 -- `rounding::round::magnitude_word` meets its contract: x tells how many bits are dropped, and rounds as the magnitude does (proofs/Held). Assumes nothing.
-use mathlib.Core.Path.{_≡_, refl, sym, ap, ap₂, _∙_, subst}
-use Prim.Native.Nat.{ℕ, zero, suc, _+_, _-_, _*_, _/_, _%_, _^_, _≤_, _<_}
+use mathlib.Core.Path.{_≡_, ap, ap₂, _∙_}
+use Prim.Native.Nat.{ℕ, _+_, _-_, _*_, _%_, _^_, _≤_, _<_}
 use native.Mathlib.Nat.{lt-of-lt-of-le, mul-le-mul-right, add-mul, one-mul}
 use native.Mathlib.Omega.{arith}
 use lib.Ieee.{size}
@@ -8,7 +8,7 @@ use lib.Ieee.Digits.{size-lt, size-le}
 use lib.Pow.{pow-mono, pow-add, shl-lt}
 use Rattle.format.specs.declared.Format.{Format}
 use Rattle.format.specs.Format.{Supported}
-use Rattle.rounding.specs.Rounding.{roundOff, dropped, magnitudeWord}
+use Rattle.rounding.specs.Rounding.{dropped, magnitudeWord}
 use Rattle.rounding.specs.Sticky.{keptPart}
 use Rattle.format.proofs.Room.{significand-room}
 use Rattle.word.proofs.Bounds.{place-power, exponent-place}

@@ -1,5 +1,5 @@
 -- `rounding::round::overflow_word` meets its contract: in a supported format infinity's word is not 0. Assumes nothing.
-use mathlib.Core.Path.{_≡_, refl, ap, _∙_}
+use mathlib.Core.Path.{refl, ap}
 use Prim.Native.Nat.{ℕ, _-_}
 use native.Mathlib.Omega.{arith}
 use Rattle.rounding.specs.Rounding.{overflowWord}

@@ -1,7 +1,7 @@
 -- `word::masks::exponent_mask` meets its contract. Assumes nothing.
-use mathlib.Core.Path.{_≡_, refl, sym, ap, ap₂, _∙_, subst}
+use mathlib.Core.Path.{ap, _∙_}
 use Rattle.mask.specs.declared.Mask.{Mask}
-use Rattle.mask.specs.Mask.{Meets, meets, WellFormed, low, high}
+use Rattle.mask.specs.Mask.{low, high}
 use borrow.Author.Needs.{needs}
 use Rattle.word.proofs.masks.exponent_mask.Statement.{statement}
 use Rattle.word.proofs.masks.exponent_mask.Tie as tie

@@ -1,6 +1,6 @@
 -- `word::unpack::effective` meets its contract: subtracting turns the sign bit and nothing else (proofs/Fields). Assumes nothing.
 use mathlib.Core.Path.{_≡_, sym, ap₂, _∙_}
-use Prim.Native.Nat.{ℕ, _+_, _%_, _^_, _<_}
+use Prim.Native.Nat.{_+_, _%_, _^_, _<_}
 use native.Mathlib.Nat.{mod-lt}
 use native.Mathlib.Omega.{arith}
 use lib.Pow.{pow-pos}
@@ -33,7 +33,7 @@ returns c =
     let bit = c .before .before .bit-at in
     let turned : (bit .result + s .args .operation % 2) % 2 ≡ (sign F b + s .args .operation) % 2 = omega (arith, bit .ensures) in
     let below : c .before .low .result < 2 ^ (F .w + F .f) = rw (c .before .low .ensures) (mod-lt b (pow-pos (F .w + F .f))) in
-    c .signed .ensures .0 (record { supported = s .pre; sign-lt = mod-lt (bit .result + s .args .operation % 2) (omega arith); magnitude-lt = below })
+    c .signed .ensures .0 (record { supported = s .pre; sign-lt = omega arith; magnitude-lt = below })
     ∙ ap₂ (signed F) turned (c .before .low .ensures)
     ∙ sym (effective-signed F (s .args .operation) b)
 

@@ -1,16 +1,17 @@
 -- `word::unpack::operand_of` meets its contract: the fields that the code takes are those of the definition. Assumes nothing.
-use mathlib.Core.Path.{_≡_, refl, sym, ap, ap₂, _∙_, subst}
-use Prim.Native.Nat.{ℕ, zero, suc, _+_, _-_, _*_, _/_, _%_, _^_, _≤_, _<_}
+use mathlib.Core.Path.{_≡_, sym, ap, ap₂, _∙_}
+use Prim.Native.Nat.{ℕ, _+_, _-_, _/_, _%_, _^_}
 use native.Mathlib.Nat.{mod-lt}
 use native.Mathlib.Omega.{arith}
-use borrow.Author.Tests.{lt-ltb, le-ltb, eq-eqb, ne-eqb}
+use borrow.Author.Tests.{eq-eqb, ne-eqb}
 use lib.Pow.{pow-pos}
-use Rattle.bits.proofs.Laws.{power-exact}
+use Rattle.format.proofs.Room.{significand-room}
 use Rattle.format.specs.declared.Format.{Format}
 use Rattle.word.specs.declared.Finite as record-of
 use Rattle.word.specs.declared.Operand.the-variants.{Finite, Infinite, Nan}
 use Rattle.word.specs.Word.{significand, biased, fraction, sign, allOnes}
-use Rattle.word.specs.Operand.{operandOf, finiteOf}
+use Rattle.word.specs.Operand.{operandOf}
+use Rattle.word.proofs.Bounds.{exponents}
 use borrow.Author.Needs.{needs}
 use Rattle.word.proofs.unpack.operand_of.Statement.{statement}
 use Rattle.word.proofs.unpack.operand_of.Tie as tie
@@ -60,12 +61,12 @@ sub-if1 : tie.Need-sub-if1
 sub-if1 c =
     let s = c .before .before .before .before .before .before in
     let F = s .args .format in
-    rw (c .power .ensures ∙ power-exact (F .w) (omega (arith, s .pre .w-most))) (pow-pos (F .w))
+    rw (exponents F (s .pre) (c .power .ensures)) (pow-pos (F .w))
 
 significand-requires : tie.Need-significand-requires
 significand-requires c κs =
     let s = c .before .before .before .before .before .before .before in
-    (omega (arith, s .pre .f-most), rw (c .before .before .before .before .before .before .low .ensures) (mod-lt (s .args .x) (pow-pos (s .args .format .f))))
+    (omega (arith, significand-room (s .args .format) (s .pre)), rw (c .before .before .before .before .before .before .low .ensures) (mod-lt (s .args .x) (pow-pos (s .args .format .f))))
 
 returns : tie.Need-returns
 returns c =
@@ -74,7 +75,7 @@ returns c =
     let low = c .before .before .before .before .before .before .before .low in
     let low2 = c .before .before .before .before .before .low2 in
     let high = c .before .before .before .before .before .before .high in
-    infinite F (s .args .x) (low .result) (low2 .result) (c .before .before .before .high2 .result) (c .before .before .power .result) (low .ensures) (low2 .ensures ∙ ap (λ (n : ℕ). n % 2 ^ F .w) (high .ensures)) (c .before .before .before .high2 .ensures) (c .before .before .power .ensures ∙ power-exact (F .w) (omega (arith, s .pre .w-most))) (c .before .if1 .taken) (c .if2 .taken)
+    infinite F (s .args .x) (low .result) (low2 .result) (c .before .before .before .high2 .result) (c .before .before .power .result) (low .ensures) (low2 .ensures ∙ ap (λ (n : ℕ). n % 2 ^ F .w) (high .ensures)) (c .before .before .before .high2 .ensures) (exponents F (s .pre) (c .before .before .power .ensures)) (c .before .if1 .taken) (c .if2 .taken)
 
 returns-2 : tie.Need-returns-2
 returns-2 c =
@@ -83,7 +84,7 @@ returns-2 c =
     let low = c .before .before .before .before .before .before .before .low in
     let low2 = c .before .before .before .before .before .low2 in
     let high = c .before .before .before .before .before .before .high in
-    nan F (s .args .x) (low .result) (low2 .result) (c .before .before .before .high2 .result) (c .before .before .power .result) (low .ensures) (low2 .ensures ∙ ap (λ (n : ℕ). n % 2 ^ F .w) (high .ensures)) (c .before .before .before .high2 .ensures) (c .before .before .power .ensures ∙ power-exact (F .w) (omega (arith, s .pre .w-most))) (c .before .if1 .taken) (c .if2 .left)
+    nan F (s .args .x) (low .result) (low2 .result) (c .before .before .before .high2 .result) (c .before .before .power .result) (low .ensures) (low2 .ensures ∙ ap (λ (n : ℕ). n % 2 ^ F .w) (high .ensures)) (c .before .before .before .high2 .ensures) (exponents F (s .pre) (c .before .before .power .ensures)) (c .before .if1 .taken) (c .if2 .left)
 
 returns-3 : tie.Need-returns-3
 unfolding number
@@ -93,7 +94,7 @@ returns-3 c =
     let low = c .before .before .before .before .before .before .before .low in
     let low2 = c .before .before .before .before .before .low2 in
     let high = c .before .before .before .before .before .before .high in
-    finite F (s .args .x) (low .result) (low2 .result) (c .before .before .before .high2 .result) (c .before .before .power .result) (low .ensures) (low2 .ensures ∙ ap (λ (n : ℕ). n % 2 ^ F .w) (high .ensures)) (c .before .before .before .high2 .ensures) (c .before .before .power .ensures ∙ power-exact (F .w) (omega (arith, s .pre .w-most))) (c .before .if1 .left) (c .significand .result) (c .significand .ensures)
+    finite F (s .args .x) (low .result) (low2 .result) (c .before .before .before .high2 .result) (c .before .before .power .result) (low .ensures) (low2 .ensures ∙ ap (λ (n : ℕ). n % 2 ^ F .w) (high .ensures)) (c .before .before .before .high2 .ensures) (exponents F (s .pre) (c .before .before .power .ensures)) (c .before .if1 .left) (c .significand .result) (c .significand .ensures)
 
 pub operand-of-spec : {M : Type 1} → statement M
 operand-of-spec =
