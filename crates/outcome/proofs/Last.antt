@@ -1,6 +1,5 @@
 -- The last kept bit as a mask of one bit, joined to another mask: a number meets the joined mask exactly when it meets the other and has
--- that bit, and where the two clash no number does both. With that bit fixed, rounding to nearest adds a constant and a carry.
--- Assumes nothing.
+-- that bit, and where the two clash no number does both. Assumes nothing.
 use mathlib.Core.Logic.{_↔_}
 use mathlib.Core.Path.{_≡_, ap, ap₂, _∙_, subst}
 use Prim.Native.Nat.{ℕ, zero, suc, _+_, _-_, _*_, _/_, _%_, _^_, _≤_, _<_}
@@ -10,16 +9,12 @@ use lib.Bits.{and-zero-r, or-zero-l}
 use Rattle.bits.specs.Bit.{bit}
 use Rattle.mask.specs.declared.Mask.{Mask}
 use Rattle.mask.specs.declared.Joined.the-variants as reply
-use Rattle.mask.specs.Mask.{Inside, Meets, raised, fixed}
+use Rattle.mask.specs.Mask.{Inside, Meets, fixed}
 use Rattle.mask.specs.Join.{join, joined}
 use Rattle.mask.proofs.Fixing.{fixed-inside, fixed-meets}
 use Rattle.mask.proofs.Joining.{meets-agree}
 use Rattle.mask.proofs.Replies.{agree-true, join-inside, join-meets}
-use Rattle.rounding.specs.declared.Direction.the-variants.{Nearest}
-use Rattle.rounding.specs.Rounding.{roundOff}
-use Rattle.rounding.proofs.AddConstant.{round-nearest}
 use Rattle.outcome.proofs.Topped.{anything}
-use Rattle.outcome.proofs.Rounds.{rounds-meets}
 
 -- bit j fixed to b, and no other
 abbrev pub oneBit : ℕ → ℕ → Mask
@@ -54,11 +49,3 @@ module _ (j b : ℕ) (h : b < 2) where
       let w : join x (oneBit j b) ≡ reply.Mask (joined x (oneBit j b)) = join-inside x (oneBit j b) inside one-inside ∙ simp a in
       let z : _≡_ {A = ℕ} 0 1 = cc in
       omega arith
-
--- j bits, one at least, rounded off to nearest
-pub nearest-meets : (n j b : ℕ) (y : Mask) → 1 ≤ j → bit n j ≡ b → Meets (n + (2 ^ (j - 1) - 1) + b) (raised j y) ↔ Meets (roundOff Nearest n j) y
-nearest-meets n zero b y h e = absurd (omega arith)
-nearest-meets n (suc i) b y h e = rounds-meets (suc i) n (n + (2 ^ (suc i - 1) - 1) + b) y Nearest (round-nearest n i ∙ ap₂ (λ (k c : ℕ). (n + (2 ^ k - 1) + c) / 2 ^ suc i) down e)
-  where
-    down : i ≡ suc i - 1
-    down = omega arith

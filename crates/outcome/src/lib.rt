@@ -2,17 +2,16 @@
 use digits::fits;
 use format::Format;
 use mask::Mask;
-use width::ALIGNED;
-use width::GUARD_BITS;
-use width::SMALL;
-use width::SUM;
+use rounding::width::ALIGNED;
+use rounding::width::GUARD_BITS;
+use rounding::width::SMALL;
+use rounding::width::SUM;
 use word::Unit;
 
 mod ask;
 mod digits;
 mod masks;
 mod sought;
-mod width;
 
 ghost use mathlib.Core.Bool.{true};
 ghost use mathlib.Core.Logic.{_↔_};

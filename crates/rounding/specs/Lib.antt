@@ -1,4 +1,4 @@
 pub mod Rounding
-pub mod Sticky
 pub mod Width
+pub mod Sticky
 pub mod Outcome

@@ -4,7 +4,11 @@
 pub const GUARD_BITS: u64 = 3;
 // A significand with these bits.
 pub const ALIGNED: u64 = 1 + GUARD_BITS;
+// One whose two top bits are 0.
+pub const SMALL: u64 = GUARD_BITS - 1;
 // What two of them make.
 pub const SUM: u64 = 2 + GUARD_BITS;
+// That with a constant and a carry added: the columns of a question.
+pub const COLUMNS: u64 = 3 + GUARD_BITS;
 // The most bits that are rounded off: one more than the guard bits after a carry.
 pub const MOST_ROUNDED: u64 = 1 + GUARD_BITS;

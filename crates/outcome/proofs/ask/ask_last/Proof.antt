@@ -3,15 +3,16 @@
 use mathlib.Core.Logic.{_↔_}
 use mathlib.Core.Path.{_≡_, sym, ap₂, _∙_}
 use mathlib.Core.Bool.{Bool, true, false}
-use Prim.Native.Nat.{ℕ, _+_, _-_, _*_, _%_, _^_, _≤_, _<_}
+use Prim.Native.Nat.{ℕ, _+_, _*_, _%_, _^_, _≤_, _<_}
 use native.Mathlib.Omega.{arith}
-use lib.Pow.{pow-pos, pow-mono, shl-exact}
+use lib.Pow.{shl-exact}
 use Rattle.bits.specs.Bit.{bit}
 use Rattle.bits.proofs.Laws.{one-shl}
 use Rattle.mask.specs.declared.Mask.{Mask}
 use Rattle.mask.specs.declared.Joined.the-variants as reply
 use Rattle.mask.specs.Mask.{Inside, Meets}
 use Rattle.mask.specs.Join.{join}
+use Rattle.rounding.specs.Width.{mostRounded}
 use Rattle.outcome.specs.declared.Aligned as pair
 use Rattle.outcome.specs.Outcome.{Making}
 use Rattle.outcome.proofs.Making.{none-made, making-answer}
@@ -20,34 +21,29 @@ use borrow.Author.Needs.{needs}
 use Rattle.outcome.proofs.ask.ask_last.Statement.{statement}
 use Rattle.outcome.proofs.ask.ask_last.Tie as tie
 
--- the mask that the code forms, and the constant
-kept : (j b : ℕ) → j ≤ 4 → b < 2 → (x : Mask) → join x (record { care = (1 * 2 ^ j) % 2 ^ 64; value = (b * 2 ^ j) % 2 ^ 64 }) ≡ join x (oneBit j b)
+-- the mask that the code forms
+kept : (j b : ℕ) → j ≤ mostRounded → b < 2 → (x : Mask) → join x (record { care = (1 * 2 ^ j) % 2 ^ 64; value = (b * 2 ^ j) % 2 ^ 64 }) ≡ join x (oneBit j b)
 kept j b l h x = ap₂ (λ (s t : ℕ). join x (record { care = s; value = t })) (one-shl j (omega arith)) (shl-exact 1 j 64 h (omega arith))
 
-half : (j : ℕ) → j ≤ 4 → (1 * 2 ^ (j - 1)) % 2 ^ 64 ≡ 2 ^ (j - 1)
-half j l = one-shl (j - 1) (omega arith)
-
 -- the question with the joined mask is the question
-module _ (f : ℕ) (A : pair.Aligned) (x z : Mask) (j b : ℕ) (l : j ≤ 4) (h : b < 2) where
+module _ (f : ℕ) (A : pair.Aligned) (x z : Mask) (j b constant carry : ℕ) (h : b < 2) where
   met : (m : Mask) → join x (oneBit j b) ≡ reply.Mask m → (r : Bool)
-      → ((r ≡ true) ↔ Making f A (λ (n : ℕ). Meets n m × Meets (n + ((1 * 2 ^ (j - 1)) % 2 ^ 64 - 1) + b) z))
-      → (r ≡ true) ↔ Making f A (λ (n : ℕ). (Meets n x × (bit n j ≡ b)) × Meets (n + (2 ^ (j - 1) - 1) + b) z)
+      → ((r ≡ true) ↔ Making f A (λ (n : ℕ). Meets n m × Meets (n + constant + carry) z))
+      → (r ≡ true) ↔ Making f A (λ (n : ℕ). (Meets n x × (bit n j ≡ b)) × Meets (n + constant + carry) z)
   met m e r asks =
-      making-answer f A (λ (n : ℕ). Meets n m × Meets (n + ((1 * 2 ^ (j - 1)) % 2 ^ 64 - 1) + b) z)
-      (λ (n : ℕ). (Meets n x × (bit n j ≡ b)) × Meets (n + (2 ^ (j - 1) - 1) + b) z) r
-      (λ n made. let p = last-joined j b h x m e n in ((λ q. (p .0 (q .0), rw (half j l) at (q .1))), λ q. (p .1 (q .0), rw (half j l) (q .1)))) asks
+      making-answer f A (λ (n : ℕ). Meets n m × Meets (n + constant + carry) z) (λ (n : ℕ). (Meets n x × (bit n j ≡ b)) × Meets (n + constant + carry) z) r
+      (λ n made. let p = last-joined j b h x m e n in ((λ q. (p .0 (q .0), q .1)), λ q. (p .1 (q .0), q .1))) asks
 
-  clash : (k : ℕ) → Inside x → join x (oneBit j b) ≡ reply.Refused k
-      → (false ≡ true) ↔ Making f A (λ (n : ℕ). (Meets n x × (bit n j ≡ b)) × Meets (n + (2 ^ (j - 1) - 1) + b) z)
+  clash : (k : ℕ) → Inside x → join x (oneBit j b) ≡ reply.Refused k → (false ≡ true) ↔ Making f A (λ (n : ℕ). (Meets n x × (bit n j ≡ b)) × Meets (n + constant + carry) z)
   clash k inside e =
-      none-made f A (λ (n : ℕ). (Meets n x × (bit n j ≡ b)) × Meets (n + (2 ^ (j - 1) - 1) + b) z)
+      none-made f A (λ (n : ℕ). (Meets n x × (bit n j ≡ b)) × Meets (n + constant + carry) z)
       (λ m. last-refused j b h x k inside e (m .x) (m .holds .0 .0) (m .holds .0 .1))
 
-shl-t10 : tie.Need-shl-t10
-shl-t10 c = search needs
+shl-t12 : tie.Need-shl-t12
+shl-t12 c = search needs
 
-shl-t11 : tie.Need-shl-t11
-shl-t11 c = search needs
+shl-t13 : tie.Need-shl-t13
+shl-t13 c = search needs
 
 join-requires : tie.Need-join-requires
 join-requires c κs = search needs
@@ -55,23 +51,8 @@ join-requires c κs = search needs
 enum-known-joined : tie.Need-enum-known-joined
 enum-known-joined c = search needs
 
-sub-ask : tie.Need-sub-ask
-sub-ask c = search needs
-
-shl-ask : tie.Need-shl-ask
-shl-ask c = search needs
-
-sub-ask-2 : tie.Need-sub-ask-2
-sub-ask-2 c =
-    let a = c .before .before .before .before .args in
-    rw (half (a .j) (omega arith)) (pow-pos (a .j - 1))
-
 ask-requires : tie.Need-ask-requires
-ask-requires c κs =
-    let s = c .before .before .before .before in
-    let a = s .args in
-    let p = pow-mono {i = a .j - 1} {j = 3} (omega arith) in
-    (s .pre .0, rw (half (a .j) (omega arith)) (omega arith), s .pre .3)
+ask-requires c κs = search needs
 
 enum-told : tie.Need-enum-told
 enum-told c = search needs
@@ -81,8 +62,8 @@ returns c =
     let s = c .before .before .before .before .before in
     let a = s .args in
     let j = c .before .before .joined .given in
-    λ formed. met (a .f) (a .aligned) (a .x) (a .z) (a .j) (a .last) (s .pre .2) (s .pre .3) (j .0 .0)
-    (sym (kept (a .j) (a .last) (s .pre .2) (s .pre .3) (a .x)) ∙ sym (c .before .before .before .before .join .ensures) ∙ j .1)
+    λ formed. met (a .f) (a .aligned) (a .x) (a .z) (a .j) (a .last) (a .constant) (a .carry) (s .pre .2) (j .0 .0)
+    (sym (kept (a .j) (a .last) (s .pre .1) (s .pre .2) (a .x)) ∙ sym (c .before .before .before .before .join .ensures) ∙ j .1)
     (c .ask .result) (c .ask .ensures formed)
 
 returns-2 : tie.Need-returns-2
@@ -90,20 +71,17 @@ returns-2 c =
     let s = c .before .before .before in
     let a = s .args in
     let j = c .enum-told .given in
-    λ formed. clash (a .f) (a .aligned) (a .x) (a .z) (a .j) (a .last) (s .pre .2) (s .pre .3) (j .0 .0) (s .pre .4)
-    (sym (kept (a .j) (a .last) (s .pre .2) (s .pre .3) (a .x)) ∙ sym (c .before .before .join .ensures) ∙ j .1)
+    λ formed. clash (a .f) (a .aligned) (a .x) (a .z) (a .j) (a .last) (a .constant) (a .carry) (s .pre .2) (j .0 .0) (s .pre .3)
+    (sym (kept (a .j) (a .last) (s .pre .1) (s .pre .2) (a .x)) ∙ sym (c .before .before .join .ensures) ∙ j .1)
 
 pub ask-last-spec : {M : Type 1} → statement M
 ask-last-spec =
     tie.close
     (tie.spec
-    shl-t10
-    shl-t11
+    shl-t12
+    shl-t13
     join-requires
     enum-known-joined
-    sub-ask
-    shl-ask
-    sub-ask-2
     ask-requires
     enum-told
     returns
