@@ -3,8 +3,8 @@
 -- Where the signs are unlike y is not the larger. The search cites this law and no other of the adder. Assumes nothing.
 use mathlib.Core.Path.{_≡_, refl, sym, ap, ap₂, _∙_, subst}
 use mathlib.Core.Bool.{Bool, true, false, not, cond}
-use mathlib.Core.Logic.{_⊎_, inl, inr, _↔_}
-use Prim.Native.Nat.{ℕ, zero, suc, _+_, _-_, _*_, _/_, _%_, _^_, _≤_, _<_}
+use mathlib.Core.Logic.{inl, inr, _↔_}
+use Prim.Native.Nat.{ℕ, suc, _+_, _-_, _*_, _/_, _%_, _^_, _≤_, _<_}
 use native.Mathlib.Nat.{add-comm, mul-assoc, div-add-mod', mod-lt, lt-of-mul-lt-mul-right, le-of-lt, not-le-of-lt}
 use native.Mathlib.Decide.{decLt, ℕ-discrete}
 use native.Mathlib.Omega.{arith}
@@ -16,7 +16,7 @@ use Rattle.format.specs.declared.Format.{Format}
 use Rattle.format.specs.Format.{Supported, precision}
 use Rattle.word.specs.declared.Finite as record-of
 use Rattle.word.specs.Word.{fraction, biased, sign, unitOf, effective, allOnes, significand}
-use Rattle.word.specs.Operand.{finiteOf, operandOf, magnitude, Canonical}
+use Rattle.word.specs.Operand.{finiteOf, magnitude, Canonical}
 use Rattle.rounding.specs.Sticky.{sticky, withSticky}
 use Rattle.adder.specs.declared.Row.the-variants.{Carries}
 use Rattle.adder.specs.Row.{carryIn, carryAt, finiteRow, kindRow, rowOf}

@@ -1,15 +1,15 @@
 -- The row's bit i is the carry into column i + 4 of H + T, or the borrow at column i + 4 of H - T, for H = 8 * L and the aligned T.
 -- Assumes nothing.
-use mathlib.Core.Path.{_≡_, refl, sym, ap, ap₂, _∙_, subst}
+use mathlib.Core.Path.{_≡_, sym, ap, ap₂, _∙_}
 use mathlib.Core.Bool.{Bool, true, false, not, cond}
-use Prim.Native.Nat.{ℕ, zero, suc, _+_, _-_, _*_, _/_, _%_, _^_, _≤_, _<_}
-use native.Mathlib.Nat.{mod-lt, mul-comm, add-comm, add-zero, add-mul, add-assoc, div-eq-of-lt, div-eq-of-lt-le, one-mul}
+use Prim.Native.Nat.{ℕ, suc, _+_, _*_, _/_, _%_, _^_, _<_}
+use native.Mathlib.Nat.{mod-lt, mul-comm, add-comm, add-zero, div-eq-of-lt, div-eq-of-lt-le, one-mul}
 use native.Mathlib.Decide.{decLt}
 use native.Mathlib.Omega.{arith}
 use borrow.Author.Tests.{le-leb, lt-leb}
 use lib.Arith.{digits-div}
 use lib.Dec.{leb, ltb, lit<}
-use lib.Pow.{pow-pos, pow-add, mod-pow-add, shr-shr}
+use lib.Pow.{pow-pos, mod-pow-add, shr-shr}
 use Rattle.columns.specs.Carry.{carry, borrow as borrowAt, carryOf}
 use Rattle.rounding.specs.Sticky.{sticky}
 use Rattle.adder.specs.Row.{carryIn}

@@ -1,7 +1,6 @@
 -- What a supported format leaves room for: the columns of a question fit a word of 64 bits, and no exponent is near its end.
 -- Assumes nothing.
 use Prim.Native.Nat.{ℕ, _^_, _≤_, _<_}
-use native.Mathlib.Nat.{lt-of-lt-of-le}
 use native.Mathlib.Omega.{arith}
 use lib.Pow.{pow-mono}
 use Rattle.format.specs.declared.Format.{Format}

@@ -18,7 +18,7 @@ use Rattle.format.proofs.Room.{significand-room}
 use Rattle.mask.specs.declared.Mask.{Mask}
 use Rattle.mask.specs.Mask.{Meets, WellFormed}
 use Rattle.word.specs.declared.Biased.{Biased}
-use Rattle.word.specs.Word.{significand, unitOf}
+use Rattle.word.specs.Word.{significand}
 use Rattle.rounding.proofs.Sticky.{with-sticky-bounds}
 use Rattle.significand.specs.Significand.{topBit, significandMask}
 use Rattle.significand.specs.Tail.{tailMask}
@@ -28,8 +28,8 @@ use Rattle.outcome.specs.Outcome.{Made}
 use Rattle.outcome.proofs.Range.{made-like, made-unlike}
 use Rattle.pair.specs.declared.Side.{Side}
 use Rattle.special.specs.Asked.{fieldIs}
-use Rattle.pair.specs.Pair.{significandsOf, gapOf, alignedOf}
-use Rattle.pair.specs.Class.{lowField, classOf, aField, bField, smallField, atField}
+use Rattle.pair.specs.Pair.{gapOf, alignedOf}
+use Rattle.pair.specs.Class.{lowField, aField, bField, smallField, atField}
 
 pub low-le : (f E e : ℕ) → e ≤ E → lowField f E e ≤ f + 4
 low-le f E zero l = omega arith

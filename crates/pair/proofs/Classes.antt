@@ -1,10 +1,9 @@
 -- Pairs of one class have one answer: what a pair admits, the pair that stands for its class admits too, with c's exponent field moved by
 -- as much as the unit. Assumes nothing.
 use mathlib.Core.Logic.{_⊎_, inl, inr, ⊎-elim}
-use mathlib.Core.Path.{_≡_, refl, sym, ap, ap₂, _∙_, subst, subst₂}
+use mathlib.Core.Path.{_≡_, refl, sym, ap, _∙_, subst, subst₂}
 use mathlib.Core.Bool.{Bool, cond}
 use Prim.Native.Nat.{ℕ, zero, suc, _+_, _-_, _^_, _≤_, _<_}
-use native.Mathlib.Nat.{mod-lt}
 use native.Mathlib.Decide.{decLe, ℕ-discrete}
 use native.Mathlib.Omega.{arith}
 use borrow.Author.Tests.{le-leb, lt-leb}
@@ -18,7 +17,6 @@ use Rattle.mask.specs.Mask.{Meets, WellFormed}
 use Rattle.mask.proofs.ByParts.{fraction-formed}
 use Rattle.job.specs.declared.Job.{Job}
 use Rattle.job.specs.Job.{Valid}
-use Rattle.word.specs.declared.Biased.{Biased}
 use Rattle.word.specs.declared.Unit as exponent
 use Rattle.word.specs.Word.{unitOf, allOnes, signed}
 use Rattle.rounding.specs.Rounding.{direction, overflowWord}

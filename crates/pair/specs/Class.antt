@@ -9,7 +9,7 @@ use lib.Dec.{leb}
 use Rattle.format.specs.declared.Format.{Format}
 use Rattle.format.specs.Format.{Supported}
 use Rattle.mask.specs.declared.Mask.{Mask}
-use Rattle.mask.specs.Mask.{Meets, WellFormed}
+use Rattle.mask.specs.Mask.{Meets}
 use Rattle.job.specs.declared.Job.{Job}
 use Rattle.job.specs.declared.Role.the-variants.{C}
 use Rattle.job.specs.Role.{withWanted, withMask}

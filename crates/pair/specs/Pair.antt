@@ -1,7 +1,5 @@
 -- The significand question of two finite operands, posed by a side for each: what is asked of an operand whose sign, in the effective
 -- addition, and exponent field are known. Assumes nothing.
-use mathlib.Core.Path.{_≡_}
-use mathlib.Core.Bool.{Bool}
 use mathlib.Core.Logic.{_⊎_}
 use Prim.Native.Nat.{ℕ, _+_, _-_, _%_, _≤_, _<_}
 use lib.Dec.{eqb}

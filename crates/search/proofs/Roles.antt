@@ -4,14 +4,12 @@ use Prim.Native.Nat.{ℕ}
 use Rattle.mask.specs.declared.Mask.{Mask}
 use Rattle.choice.proofs.Walk.{Replaced}
 use Rattle.job.specs.declared.Setting.{Setting}
-use Rattle.job.specs.declared.Wanted.{Wanted}
 use Rattle.job.specs.declared.Job.{Job}
 use Rattle.job.specs.declared.Role.{Role}
 use Rattle.job.specs.Role.{wanted, withWanted, withMask}
 use Rattle.word.specs.Word.{biased}
 use Rattle.special.specs.Asked.{fieldIs}
-use Rattle.fit.specs.Fit.{Allowed}
-use Rattle.fit.proofs.Roles.{fits-allowed, fits-with, with-allowed, fits-back}
+use Rattle.fit.proofs.Roles.{fits-with, with-allowed, fits-back}
 use Rattle.search.specs.Walk.{NoneBelow, Case, CaseFits, memberOf}
 
 -- the cases that fit the job with another mask of one word

@@ -11,7 +11,7 @@ use word::masks::exponent_mask;
 ghost use mathlib.Core.Bool.{true, false};
 ghost use mathlib.Core.Logic.{_⊎_};
 ghost use mathlib.Core.Path.{_≡_};
-ghost use Prim.Native.Nat.{ℕ, _+_, _-_, _*_, _^_, _≤_, _<_};
+ghost use Prim.Native.Nat.{_+_, _-_, _*_, _^_, _≤_, _<_};
 ghost use Rattle.mask.specs.Mask.{Meets};
 ghost use Rattle.job.specs.Job.{Valid};
 ghost use Rattle.outcome.specs.Class.{fieldAt};

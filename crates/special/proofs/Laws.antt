@@ -1,8 +1,8 @@
 -- The tries of the representatives settle the pair: where one succeeds a case fits, and where a case fits, the representatives of its
 -- operands' kinds go together. Assumes nothing.
 use mathlib.Core.Path.{_≡_, refl, sym, ap, _∙_, subst, subst₂}
-use mathlib.Core.Logic.{_↔_, _⊎_, inl, inr}
-use mathlib.Core.Bool.{Bool, true, false, _&&_, _||_, and-eq-true-iff}
+use mathlib.Core.Logic.{_↔_, inl, inr}
+use mathlib.Core.Bool.{Bool, true, false, _&&_, and-eq-true-iff}
 use Prim.Native.Nat.{ℕ, suc, _/_, _^_, _<_}
 use native.Mathlib.Nat.{mod-lt}
 use lib.Pow.{pow-pos}
@@ -14,19 +14,18 @@ use Rattle.columns.proofs.Some.{some-sound, some-complete}
 use Rattle.job.specs.declared.Job.{Job}
 use Rattle.job.specs.Job.{Valid}
 use Rattle.word.specs.declared.Biased.{Biased}
-use Rattle.word.specs.Word.{biased, allOnes}
+use Rattle.word.specs.Word.{biased}
 use Rattle.adder.specs.declared.Row as row
-use Rattle.adder.specs.declared.Row.the-variants.{NoRow}
 use Rattle.adder.specs.declared.Reply.the-variants.{Word}
 use Rattle.adder.specs.Result.{resultReply}
 use Rattle.adder.proofs.Causes.{result-word}
 use Rattle.adder.proofs.ResultLaws.{result-lt}
 use Rattle.fit.proofs.Laws.{words-fit}
-use Rattle.fit.specs.Fit.{resultIn, rowIn, RowMeets, Fits}
+use Rattle.fit.specs.Fit.{resultIn, RowMeets, Fits}
 use Rattle.special.specs.Asked.{InRange, PairFits}
 use Rattle.special.specs.Special.{Special, representative, together, partnered, admitted}
 use Rattle.special.proofs.Alike.{special-row, alike-result}
-use Rattle.special.proofs.Representatives.{representative-lt, representative-biased, standsFor, stands-lt, stands-word, representative-alike, representative-meets}
+use Rattle.special.proofs.Representatives.{representative-lt, representative-biased, standsFor, stands-lt, representative-alike, representative-meets}
 
 -- where no number below n passes a test, and n does not
 pub some-none : (n : ℕ) (test : ℕ → Bool) → some n test ≡ false → test n ≡ false → some (suc n) test ≡ false

@@ -8,7 +8,6 @@ use Rattle.format.specs.declared.Format.{Format}
 use Rattle.format.specs.Format.{Supported}
 use Rattle.format.proofs.Laws.{format-none}
 use Rattle.format.proofs.Room.{exponent-room}
-use Rattle.outcome.specs.Outcome.{InFormat}
 use borrow.Author.Needs.{needs}
 use Rattle.outcome.proofs.admits.Statement.{statement}
 use Rattle.outcome.proofs.admits.Tie as tie

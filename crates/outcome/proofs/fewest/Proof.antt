@@ -1,7 +1,6 @@
 -- `outcome::fewest` meets its contract: the mask of the larger significand refuses that its top bit is 0. Assumes nothing.
-use mathlib.Core.Path.{_≡_, sym, ap, _∙_}
 use mathlib.Core.Bool.{false}
-use Prim.Native.Nat.{ℕ, _+_}
+use Prim.Native.Nat.{_+_}
 use Rattle.outcome.proofs.Range.{high-tested, refused-none, made-like, made-unlike}
 use borrow.Author.Needs.{needs}
 use Rattle.outcome.proofs.fewest.Statement.{statement}

@@ -5,7 +5,6 @@ use mathlib.Core.Bool.{false≢true}
 use Prim.Native.Nat.{ℕ, _-_, _<_}
 use native.Mathlib.Omega.{arith}
 use borrow.Author.Count.{below-more}
-use borrow.Author.Needs.{needs}
 use Rattle.mask.specs.Mask.{Meets}
 use Rattle.word.specs.Masks.{exponentMask}
 use Rattle.search.specs.Fields.{PairAt}

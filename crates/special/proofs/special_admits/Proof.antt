@@ -1,12 +1,8 @@
 -- `special::special_admits` meets its contract: with no row a fixed carry refuses, and else the representatives settle it.
 -- Assumes nothing.
-use mathlib.Core.Path.{_≡_, sym, _∙_}
-use mathlib.Core.Bool.{true, false≢true}
+use mathlib.Core.Path.{sym, _∙_}
+use mathlib.Core.Bool.{false≢true}
 use borrow.Author.Tests.{not-true, not-false}
-use Rattle.job.specs.declared.Job.{Job}
-use Rattle.job.specs.Job.{Valid}
-use Rattle.word.specs.declared.Biased.{Biased}
-use Rattle.special.specs.Asked.{InRange, PairFits}
 use Rattle.special.proofs.Laws.{fields-in-range, admitted-sound, admitted-complete, special-carries}
 use borrow.Author.Needs.{needs}
 use Rattle.special.proofs.special_admits.Statement.{statement}

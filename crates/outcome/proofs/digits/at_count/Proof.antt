@@ -10,7 +10,6 @@ use Rattle.rounding.specs.Width.{alignedBits}
 use Rattle.rounding.specs.Outcome.{boundedHeld}
 use Rattle.outcome.proofs.Room.{columns-lt, unit-short}
 use Rattle.outcome.proofs.Counted.{first-quotient, second-quotient}
-use borrow.Author.Needs.{needs}
 use Rattle.outcome.proofs.digits.at_count.Statement.{statement}
 use Rattle.outcome.proofs.digits.at_count.Tie as tie
 

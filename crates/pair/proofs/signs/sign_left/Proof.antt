@@ -1,10 +1,9 @@
 -- `pair::signs::sign_left` meets its contract. Assumes nothing.
 use mathlib.Core.Path.{_≡_, ap, _∙_}
 use mathlib.Core.Bool.{not, _&&_, _||_}
-use Prim.Native.Nat.{ℕ, _+_, _%_}
+use Prim.Native.Nat.{_+_, _%_}
 use native.Mathlib.Omega.{arith}
 use lib.Dec.{eqb}
-use Rattle.mask.specs.declared.Mask.{Mask}
 use Rattle.mask.specs.Mask.{meets}
 use Rattle.pair.specs.Signs.{signLeft}
 use Rattle.pair.specs.Pair.{turned}
