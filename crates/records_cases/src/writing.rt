@@ -1,9 +1,8 @@
 // Entries written into a buffer of 64 bytes, all 255 before.
 use crate::reading;
 use format::Format;
-use job::Job;
 use job::Setting;
-use job::Wanted;
+use job::words::masked_job;
 use libc::STDOUT_FILENO;
 use mask::Mask;
 use records::Entry;
@@ -97,14 +96,7 @@ fn entry(format: Format, operation: u64, mode: u64, mask: Mask, carries: Mask, r
         operation,
         mode,
     };
-    let wanted = Wanted { mask };
-    let job = Job {
-        setting,
-        a: wanted,
-        b: wanted,
-        c: wanted,
-        carries,
-    };
+    let job = masked_job(setting, mask, mask, mask, carries);
     Entry { job, r1, r2: 0 }
 }
 
