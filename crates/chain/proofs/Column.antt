@@ -160,10 +160,10 @@ side-turned p true = refl
 side-turned p false = refl
 
 -- the places p are those that the mask m leaves in column i
-abbrev pub Open : Mask → ℕ → Places → Type 0
-Open m i p = (b : Bool) → may p i b ≡ lets m i b
+abbrev pub PlacesOf : Mask → ℕ → Places → Type 0
+PlacesOf m i p = (b : Bool) → may p i b ≡ lets m i b
 
-module _ (l t x c : Mask) (pl pt px pc : Places) (w : Ways) (i : ℕ) (hl : Open l i pl) (ht : Open t i pt) (hx : Open x i px) (hc : Open c i pc) where
+module _ (l t x c : Mask) (pl pt px pc : Places) (w : Ways) (i : ℕ) (hl : PlacesOf l i pl) (ht : PlacesOf t i pt) (hx : PlacesOf x i px) (hc : PlacesOf c i pc) where
   pub adder-way : (subtract : Bool)
       → ((cin cout b : Bool) → may (way w cin cout) i b ≡ wayOf false (may (turnedOf subtract pl) i) (may pt i) (may (turnedOf subtract px) i) (may pc i) cin cout b)
       → (cin cout b : Bool)
@@ -172,7 +172,7 @@ module _ (l t x c : Mask) (pl pt px pc : Places) (w : Ways) (i : ℕ) (hl : Open
       e cin cout b
       ∙ way-cong false (may pl i) (lets l i) (may pt i) (lets t i) (may px i) (lets x i) (may pc i) (lets c i) hl ht hx hc cin cout b
   adder-way true e cin cout b =
-      let over : (m : Mask) (p : Places) → Open m i p → (a : Bool) → may (turnedOf true p) i a ≡ lets m i (not a) =
+      let over : (m : Mask) (p : Places) → PlacesOf m i p → (a : Bool) → may (turnedOf true p) i a ≡ lets m i (not a) =
       λ m p h a. ap (λ (v : ℕ). mem v i) (side-turned p a) ∙ h (not a) in
       ap (λ (v : ℕ). mem v i) (side-turned (way w cin cout) b)
       ∙ e cin cout (not b)

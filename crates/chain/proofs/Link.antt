@@ -22,7 +22,7 @@ use Rattle.chain.specs.declared.ways.Ways.{Ways}
 use Rattle.chain.specs.declared.walk.States.{States}
 use Rattle.chain.specs.declared.walk.Table.{Table}
 use Rattle.chain.specs.Ways.{mem, digit, lets, may, way, either, wayOf, secondOf, linked}
-use Rattle.chain.specs.Walk.{firstSum, lBit, xBit, secondSum, step, state, wordOf, rowOf}
+use Rattle.chain.specs.Walk.{firstSum, lBit, xBit, secondSum, step, state, stateWord, waysTo}
 use Rattle.chain.proofs.Words.{digit-lt, ones-bit}
 use Rattle.chain.proofs.Column.{same-test, both, and-both, either-sound, either-complete, Way, way-sound, way-complete, way-cong}
 use Rattle.chain.proofs.Step.{Fine, step-is, step-fine, nextState}
@@ -219,16 +219,16 @@ module _ (w : Wires) (f g : Ways) (i : ℕ)
 
   -- v is the row of the carries out d and k
   abbrev Row : Bool → Bool → States → Type 0
-  Row d k v = (c e : Bool) → mem (wordOf v (state c e)) i ≡ linked (cond c (way f true d) (way f false d)) (cond e (way g true k) (way g false k)) i
+  Row d k v = (c e : Bool) → mem (stateWord v (state c e)) i ≡ linked (cond c (way f true d) (way f false d)) (cond e (way g true k) (way g false k)) i
 
-  row-into : (v : States) (d k : Bool) → Row d k v → (s : ℕ) → s < 4 → mem (wordOf v s) i ≡ into (step w) i s (state d k)
+  row-into : (v : States) (d k : Bool) → Row d k v → (s : ℕ) → s < 4 → mem (stateWord v s) i ≡ into (step w) i s (state d k)
   row-into v d k row s h =
       let o = as-state s h in
-      subst (λ (s : ℕ). mem (wordOf v s) i ≡ into (step w) i s (state d k)) (o .2)
+      subst (λ (s : ℕ). mem (stateWord v s) i ≡ into (step w) i s (state d k)) (o .2)
       (row (o .0) (o .1) ∙ ap₂ (λ (p q : Places). linked p q i) (way-cond f (o .0) d) (way-cond g (o .1) k) ∙ linked-into (o .0) d (o .1) k)
 
   pub table-into : (v : Table) → Row false false (v .to0) → Row true false (v .to1) → Row false true (v .to2) → Row true true (v .to3)
-      → (s t : ℕ) → s < 4 → t < 4 → mem (wordOf (rowOf v t) s) i ≡ into (step w) i s t
+      → (s t : ℕ) → s < 4 → t < 4 → mem (stateWord (waysTo v t) s) i ≡ into (step w) i s t
   table-into v r0 r1 r2 r3 s zero hs ht = row-into (v .to0) false false r0 s hs
   table-into v r0 r1 r2 r3 s (suc zero) hs ht = row-into (v .to1) true false r1 s hs
   table-into v r0 r1 r2 r3 s (suc (suc zero)) hs ht = row-into (v .to2) false true r2 s hs

@@ -15,7 +15,7 @@ use Rattle.mask.proofs.Bitwise.{of-bit}
 use Rattle.chain.specs.declared.walk.States.{States}
 use Rattle.chain.specs.declared.walk.Table.{Table}
 use Rattle.chain.specs.Ways.{mem, digit}
-use Rattle.chain.specs.Walk.{wordOf, rowOf, flag, flags}
+use Rattle.chain.specs.Walk.{stateWord, waysTo, flag, flags}
 use Rattle.chain.proofs.Words.{digit-lt, digit-one, flag-and, flag-or, flag-test}
 
 -- ---- in one column
@@ -29,12 +29,12 @@ module _ (i : ℕ) where
 
   pub lead-flag : (b : ℕ → Bool) (at to : States) → at ≡ flags b i
       → bitOr (bitOr (bitOr (bitAnd (at .s0) (to .s0)) (bitAnd (at .s1) (to .s1))) (bitAnd (at .s2) (to .s2))) (bitAnd (at .s3) (to .s3))
-      ≡ flag (some 4 (λ s. b s && mem (wordOf to s) i)) i
+      ≡ flag (some 4 (λ s. b s && mem (stateWord to s) i)) i
   lead-flag b at to e =
       ap (λ (v : States). bitOr (bitOr (bitOr (bitAnd (v .s0) (to .s0)) (bitAnd (v .s1) (to .s1))) (bitAnd (v .s2) (to .s2))) (bitAnd (v .s3) (to .s3))) e
       ∙ ap₂ (λ (u v : ℕ). bitOr (bitOr (bitOr u v) (bitAnd (flag (b 2) i) (to .s2))) (bitAnd (flag (b 3) i) (to .s3))) (flag-and i (b 0) (to .s0)) (flag-and i (b 1) (to .s1))
       ∙ ap₂ (λ (u v : ℕ). bitOr (bitOr (bitOr (flag (b 0 && mem (to .s0) i) i) (flag (b 1 && mem (to .s1) i) i)) u) v) (flag-and i (b 2) (to .s2)) (flag-and i (b 3) (to .s3))
-      ∙ or-four (λ s. b s && mem (wordOf to s) i)
+      ∙ or-four (λ s. b s && mem (stateWord to s) i)
 
   pub any-flag : (b : ℕ → Bool) (at : States) → at ≡ flags b i → not (eqb (bitOr (bitOr (bitOr (at .s0) (at .s1)) (at .s2)) (at .s3)) 0) ≡ some 4 b
   any-flag b at e =
@@ -77,15 +77,15 @@ gather-mem i b at d e f g h p q u v s l =
 -- the sets that a table leads to from b
 unfoldable pub reached : Table → (ℕ → Bool) → ℕ → ℕ → Bool
 reached table b zero t = b t
-reached table b (suc i) t = some 4 (λ s. reached table b i s && mem (wordOf (rowOf table t) s) i)
+reached table b (suc i) t = some 4 (λ s. reached table b i s && mem (stateWord (waysTo table t) s) i)
 
 module _ (table : Table) (b : ℕ → Bool) where
-  pub reached-sets : (step : ℕ → ℕ → ℕ → ℕ → ℕ) → ((i s t : ℕ) → i < 64 → s < 4 → t < 4 → mem (wordOf (rowOf table t) s) i ≡ into step i s t)
+  pub reached-sets : (step : ℕ → ℕ → ℕ → ℕ → ℕ) → ((i s t : ℕ) → i < 64 → s < 4 → t < 4 → mem (stateWord (waysTo table t) s) i ≡ into step i s t)
       → (i t : ℕ) → i ≤ 64 → t < 4 → reached table b i t ≡ sets step 4 b i t
   unfolding reached sets
   reached-sets step tells zero t hi ht = refl
   reached-sets step tells (suc i) t hi ht =
-      some-cong 4 (λ s. reached table b i s && mem (wordOf (rowOf table t) s) i) (λ s. sets step 4 b i s && into step i s t)
+      some-cong 4 (λ s. reached table b i s && mem (stateWord (waysTo table t) s) i) (λ s. sets step 4 b i s && into step i s t)
       (λ s hs. ap₂ (λ (p q : Bool). p && q) (reached-sets step tells i s (le-trans (le-suc i) hi) hs) (tells i s t hi hs ht))
 
   -- an empty set leads to empty sets
@@ -94,8 +94,8 @@ module _ (table : Table) (b : ℕ → Bool) where
   stays-empty i none zero s h = ap (λ (k : ℕ). reached table b k s) (add-zero i) ∙ none s h
   stays-empty i none (suc j) s h =
       ap (λ (k : ℕ). reached table b k s) (add-suc i j)
-      ∙ some-cong 4 (λ r. reached table b (i + j) r && mem (wordOf (rowOf table s) r) (i + j)) (λ r. false)
-      (λ r hr. ap (λ (v : Bool). v && mem (wordOf (rowOf table s) r) (i + j)) (stays-empty i none j r hr))
+      ∙ some-cong 4 (λ r. reached table b (i + j) r && mem (stateWord (waysTo table s) r) (i + j)) (λ r. false)
+      (λ r hr. ap (λ (v : Bool). v && mem (stateWord (waysTo table s) r) (i + j)) (stays-empty i none j r hr))
 
   pub emptied : (i n : ℕ) → i ≤ n → some 4 (reached table b i) ≡ false → (s : ℕ) → s < 4 → reached table b n s ≡ false
   emptied i n h e s hs =

@@ -50,17 +50,17 @@ abbrev pub state : Bool → Bool → ℕ
 state c e = digit e * 2 + digit c
 
 -- the word of a state, and the row of a state
-abbrev pub wordOf : States → ℕ → ℕ
-wordOf v zero = v .s0
-wordOf v (suc zero) = v .s1
-wordOf v (suc (suc zero)) = v .s2
-wordOf v (suc (suc (suc s))) = v .s3
+abbrev pub stateWord : States → ℕ → ℕ
+stateWord v zero = v .s0
+stateWord v (suc zero) = v .s1
+stateWord v (suc (suc zero)) = v .s2
+stateWord v (suc (suc (suc s))) = v .s3
 
-abbrev pub rowOf : Table → ℕ → States
-rowOf v zero = v .to0
-rowOf v (suc zero) = v .to1
-rowOf v (suc (suc zero)) = v .to2
-rowOf v (suc (suc (suc t))) = v .to3
+abbrev pub waysTo : Table → ℕ → States
+waysTo v zero = v .to0
+waysTo v (suc zero) = v .to1
+waysTo v (suc (suc zero)) = v .to2
+waysTo v (suc (suc (suc t))) = v .to3
 
 -- a set of states that stands in column i: bit i where a state is in it
 abbrev pub flag : Bool → ℕ → ℕ

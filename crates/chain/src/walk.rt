@@ -10,7 +10,7 @@ ghost use lib.Dec.{eqb};
 ghost use Prim.Native.Nat.{ℕ, suc, _<_};
 ghost use Rattle.columns.specs.Machine.{some, into, sets};
 ghost use Rattle.chain.specs.Ways.{mem, digit, may, way, linked, secondOf};
-ghost use Rattle.chain.specs.Walk.{wordOf, rowOf, state, flag, flags, step};
+ghost use Rattle.chain.specs.Walk.{stateWord, waysTo, state, flag, flags, step};
 
 // A word for each state. A state is the first adder's carry plus twice the second's.
 pub struct States {
@@ -37,7 +37,7 @@ fn meet(a: Places, b: Places) -> u64
 
 // The columns that lead to one state, from the places of the two adders at its carries out, by their carries in.
 fn row(f0: Places, f1: Places, g0: Places, g1: Places) -> States
-    ensures { λ r. ⌜ ((i : ℕ) (c e : Bool) → mem (wordOf r (state c e)) i ≡ linked (cond c f1 f0) (cond e g1 g0) i) ⌝ }
+    ensures { λ r. ⌜ ((i : ℕ) (c e : Bool) → mem (stateWord r (state c e)) i ≡ linked (cond c f1 f0) (cond e g1 g0) i) ⌝ }
 {
     States {
         s0: meet(f0, g0),
@@ -60,7 +60,7 @@ fn second(z: Mask, constant: u64) -> Ways
 }
 
 fn transitions(w: Wires) -> Table
-    ensures { λ r. ⌜ ((i s t : ℕ) → i < 64 → s < 4 → t < 4 → mem (wordOf (rowOf r t) s) i ≡ into (step w) i s t) ⌝ }
+    ensures { λ r. ⌜ ((i s t : ℕ) → i < 64 → s < 4 → t < 4 → mem (stateWord (waysTo r t) s) i ≡ into (step w) i s t) ⌝ }
 {
     let f = adder(w.subtract, w.l, w.t, w.x, mask::high(w.carries, 1));
     let g = second(w.z, w.constant);
@@ -74,14 +74,14 @@ fn transitions(w: Wires) -> Table
 
 // Whether a state of the set leads to one more, in the column where the set stands.
 fn lead(to: States, at: States) -> u64
-    ensures { λ r. ⌜ ((i : ℕ) (b : ℕ → Bool) → at ≡ flags b i → r ≡ flag (some 4 (λ (s : ℕ). b s && mem (wordOf to s) i)) i) ⌝ }
+    ensures { λ r. ⌜ ((i : ℕ) (b : ℕ → Bool) → at ≡ flags b i → r ≡ flag (some 4 (λ (s : ℕ). b s && mem (stateWord to s) i)) i) ⌝ }
 {
     (at.s0 & to.s0) | (at.s1 & to.s1) | (at.s2 & to.s2) | (at.s3 & to.s3)
 }
 
 // The set one column on. A set stands in its column: the word of a state has that one bit, or none.
 fn next(table: Table, at: States) -> States
-    ensures { λ r. ⌜ ((i : ℕ) (b : ℕ → Bool) → i < 63 → at ≡ flags b i → r ≡ flags (λ (t : ℕ). some 4 (λ (s : ℕ). b s && mem (wordOf (rowOf table t) s) i)) (suc i)) ⌝ }
+    ensures { λ r. ⌜ ((i : ℕ) (b : ℕ → Bool) → i < 63 → at ≡ flags b i → r ≡ flags (λ (t : ℕ). some 4 (λ (s : ℕ). b s && mem (stateWord (waysTo table t) s) i)) (suc i)) ⌝ }
 {
     States {
         s0: lead(table.to0, at) << 1,

@@ -1,4 +1,4 @@
--- The choice of one number: the member whose exclusive-or with r is smallest is found by settling the bits from the top, each to that of
+-- The choice of one number: the member whose exclusive-or with r is smallest is found by fixing the bits from the top, each to that of
 -- r where a member is left. Two members compare by the first bit, from the top, in which they differ. Assumes nothing.
 use mathlib.Core.Path.{_≡_, sym, ap, ap₂, _∙_}
 use mathlib.Core.Logic.{_⊎_, inl, inr}
@@ -93,19 +93,19 @@ module _ (P : ℕ → Type 0) where
   pub closest-cong : (Q : ℕ → Type 0) → ((y : ℕ) → P y → Q y) → ((y : ℕ) → Q y → P y) → (r x : ℕ) → Closest P r x → Closest Q r x
   closest-cong Q to from r x c = record { member = to x (c .member); least = λ y m. c .least y (from y m) }
 
-  -- with every bit settled, a member is the choice
+  -- with every bit fixed, a member is the choice
   pub closest-done : AgreeFrom P 0 → (r x : ℕ) → P x → Closest P r x
   closest-done agree r x m = record { member = m; least = λ y n. inl (sym (div-one y) ∙ agree y x n m ∙ div-one x) }
 
   module _ (k v : ℕ) (agree : AgreeFrom P (suc k)) where
-    -- one bit more is settled
+    -- one bit more is fixed
     pub agree-fixed : AgreeFrom (λ y. P y × (bit y k ≡ v)) k
     agree-fixed x y m n =
         shr-suc x k ∙ ap₂ (λ (u b : ℕ). u * 2 + b) (agree x y (m .0) (n .0)) (m .1 ∙ sym (n .1)) ∙ sym (shr-suc y k)
 
-    -- bit k settled to v, which is the bit of r, or the only one that a member has
+    -- bit k fixed to v, which is the bit of r, or the only one that a member has
     pub closest-step : (r x : ℕ) → Closest (λ y. P y × (bit y k ≡ v)) r x → ((v ≡ bit r k) ⊎ ((y : ℕ) → P y → bit y k ≡ v)) → Closest P r x
-    closest-step r x c settled = record { member = c .member .0; least = λ y m. go y m settled (ℕ-discrete (bit y k) v) }
+    closest-step r x c kept = record { member = c .member .0; least = λ y m. go y m kept (ℕ-discrete (bit y k) v) }
       where
         go : (y : ℕ) → P y → ((v ≡ bit r k) ⊎ ((z : ℕ) → P z → bit z k ≡ v)) → Dec (bit y k ≡ v) → (y ≡ x) ⊎ (bitXor x r < bitXor y r)
         go y m s (yes e) = c .least y (m, e)

@@ -1,4 +1,4 @@
--- The choice of a pair is the choice of its first number, and then of its second with the first settled. Assumes nothing.
+-- The choice of a pair is the choice of its first number, and then of its second with the first fixed. Assumes nothing.
 use mathlib.Core.Path.{_≡_, sym, subst}
 use mathlib.Core.Logic.{_⊎_, inl, inr, _↔_}
 use Prim.Native.Nat.{ℕ, _<_}

@@ -13,7 +13,7 @@ use Rattle.mask.proofs.ByBits.{meets-bits, meets-full}
 use Rattle.choice.specs.Choice.{AgreeFrom}
 use Rattle.choice.proofs.Closest.{agree-from, closest-done}
 use Rattle.choice.proofs.Narrow.{Narrowed, narrowed-all, narrowed-none, narrowed-closest}
-use Rattle.choice.specs.Walk.{FixedFrom, Has, Settles}
+use Rattle.choice.specs.Walk.{FixedFrom, Has, EndOfWalk}
 use Rattle.choice.proofs.Fixing.{fix-cares, fix-keeps, fix-formed, fix-narrows}
 
 -- the cases of P have numbers of n bits that meet m, whose bits from position b on are fixed
@@ -56,7 +56,7 @@ module _ {C : Type 0} {number : C → ℕ} {n : ℕ} {m : Mask} {P : C → Type 
 
   -- ---- nothing is open
 
-  pub walk-done : b ≡ 0 → (word : ℕ) (c : C) → P c → Settles C number P word P (m .value)
+  pub walk-done : b ≡ 0 → (word : ℕ) (c : C) → P c → EndOfWalk C number P word P (m .value)
   walk-done none word c f = record {
     closest = closest-done (Has C number P) (subst (AgreeFrom (Has C number P)) none agree) word (m .value) (record { case = c; fits = f; is = full c f });
     same = λ d. (λ g. (g, full d g), λ g. g .0);
@@ -107,9 +107,9 @@ module _ {C : Type 0} {number : C → ℕ} {n : ℕ} {m : Mask} {P : C → Type 
             why (inl e) = inl e
             why (inr only) = inr (λ y p. only y (has-meets y p))
 
-        -- the walk below settles the number
+        -- the walk below fixes the number
         walk-step : (word : ℕ) {T : C → Type 0} {w : ℕ} → ((v ≡ bit word (b - 1)) ⊎ ((y : ℕ) → Has C number P y → bit y (b - 1) ≡ v))
-            → Settles C number Q word T w → Settles C number P word T w
+            → EndOfWalk C number Q word T w → EndOfWalk C number P word T w
         walk-step word {w = w} asked q =
             let up : b ≡ suc (b - 1) = omega arith in
             record {
@@ -126,7 +126,7 @@ module _ {C : Type 0} {number : C → ℕ} {n : ℕ} {m : Mask} {P : C → Type 
       v-lt : v < 2
       v-lt = omega (arith, bit-lt word (b - 1))
 
-      pub walk-tried : {T : C → Type 0} {w : ℕ} → Settles C number Q word T w → Settles C number P word T w
+      pub walk-tried : {T : C → Type 0} {w : ℕ} → EndOfWalk C number Q word T w → EndOfWalk C number P word T w
       walk-tried = walk-step v v-lt r word (inl e)
 
       module _ (none : (c : C) → Q c → ⊥) {Q′ : C → Type 0} (r′ : Replaced C number P m (fix m (b - 1) (1 - v)) Q′) where
@@ -143,5 +143,5 @@ module _ {C : Type 0} {number : C → ℕ} {n : ℕ} {m : Mask} {P : C → Type 
         walk-left c f =
             narrowed-all (Has C number P) (Has C number Q′) (b - 1) (1 - v) (walk-narrows (1 - v) w-lt r′) all (number c) (record { case = c; fits = f; is = refl })
 
-        pub walk-other : {T : C → Type 0} {w : ℕ} → Settles C number Q′ word T w → Settles C number P word T w
+        pub walk-other : {T : C → Type 0} {w : ℕ} → EndOfWalk C number Q′ word T w → EndOfWalk C number P word T w
         walk-other = walk-step (1 - v) w-lt r′ word (inr all)

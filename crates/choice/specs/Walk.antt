@@ -1,5 +1,5 @@
 -- What a bit walk goes through and where it ends, over any kind of case (document 01, "each bit .. follows the .. random word"): C are the
--- cases, `number` the number of a case that is settled, P the cases that are left. Nothing here is needed to read a choice.
+-- cases, `number` the number of a case that the walk fixes, P the cases that are left. Nothing here is needed to read a choice.
 -- Assumes nothing.
 -- Internal: no public contract cites this.
 use mathlib.Core.Path.{_≡_}
@@ -19,7 +19,7 @@ pub record Has (C : Type 0) (number : C → ℕ) (P : C → Type 0) (v : ℕ) : 
   pub fits : P case
   pub is : number case ≡ v
 
--- the cases of T are those of P with the number settled to its value v closest to the word
-pub record Settles (C : Type 0) (number : C → ℕ) (P : C → Type 0) (word : ℕ) (T : C → Type 0) (v : ℕ) : Type 0 where
+-- the cases of T are those of P with the number fixed to its value v closest to the word
+pub record EndOfWalk (C : Type 0) (number : C → ℕ) (P : C → Type 0) (word : ℕ) (T : C → Type 0) (v : ℕ) : Type 0 where
   pub closest : Closest (Has C number P) word v
   pub same : (c : C) → T c ↔ (P c × (number c ≡ v))

@@ -3,22 +3,15 @@
 use mathlib.Core.Path.{_≡_, sym, ap, ap₂, _∙_, subst}
 use mathlib.Core.Bool.{true}
 use mathlib.Core.Logic.{_↔_, ⊎-elim}
-use Prim.Native.Nat.{ℕ, zero, suc, _+_, _-_, _*_, _/_, _%_, _^_, _≤_, _<_}
+use Prim.Native.Nat.{ℕ, zero, suc, _+_, _-_, _*_, _/_, _%_, _^_, _<_}
 use native.Mathlib.Nat.{mod-lt, mod-one, mod-eq-of-lt, lt-of-le-of-lt, le-refl, le-trans, le-suc, le-of-suc-le-suc, not-suc-le-zero, eq-or-lt-of-le}
-use native.Mathlib.Omega.{arith}
 use borrow.Author.Tests.{eqb-true, eq-eqb}
 use lib.Bits.{bitAnd, and-mod, and-le-l}
-use lib.Pow.{pow-pos, high, low, mod-mod-pow}
+use lib.Pow.{pow-pos, high, low}
 use Rattle.bits.specs.Bit.{bit}
 use Rattle.bits.proofs.Laws.{low-suc}
 use Rattle.bits.proofs.Logic.{bit-and}
 use Rattle.columns.specs.Column.{allows}
-
--- the low part of a longer low part
-pub mod-low : (x i j : ℕ) → i ≤ j → x % 2 ^ j % 2 ^ i ≡ x % 2 ^ i
-mod-low x i j h =
-    let e : j ≡ (j - i) + i = omega arith in
-    ap (λ (k : ℕ). x % 2 ^ k % 2 ^ i) e ∙ mod-mod-pow x (j - i) i
 
 pub agree-zero : (x y : ℕ) → x % 2 ^ 0 ≡ y % 2 ^ 0
 agree-zero x y = mod-one x ∙ sym (mod-one y)

@@ -10,7 +10,6 @@ use Rattle.bits.specs.Bit.{bit}
 use Rattle.bits.proofs.Laws.{bit-lt, low-suc}
 use Rattle.bits.proofs.Logic.{bit-xor}
 use Rattle.columns.specs.Carry.{carry}
-use Rattle.columns.proofs.Agree.{mod-low}
 
 regroup : (p q P u v c : ℕ) → (p * P + u) + (q * P + v) + c ≡ (p + q) * P + (u + v + c)
 regroup p q P u v c = omega (arith, add-mul p q P)
@@ -32,11 +31,6 @@ module _ (x y c0 : ℕ) where
   pub carry-lt : c0 < 2 → (i : ℕ) → carry x y c0 i < 2
   carry-lt h zero = omega (arith, carry-zero)
   carry-lt h (suc i) = omega (arith, carry-suc i, carry-lt h i, bit-lt x i, bit-lt y i)
-
-  -- a carry is that of the low parts
-  pub carry-mod : (i j : ℕ) → i ≤ j → carry (x % 2 ^ j) (y % 2 ^ j) c0 i ≡ carry x y c0 i
-  unfolding carry
-  carry-mod i j h = ap₂ (λ (u v : ℕ). (u + v + c0) / 2 ^ i) (mod-low x i j h) (mod-low y i j h)
 
   -- what a sum has from position i on
   pub sum-high : (i : ℕ) → (x + y + c0) / 2 ^ i ≡ x / 2 ^ i + y / 2 ^ i + carry x y c0 i

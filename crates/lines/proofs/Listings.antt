@@ -23,7 +23,7 @@ use Rattle.generator.specs.declared.Reply.{Reply}
 use Rattle.generator.specs.declared.Reply.the-variants.{Found, Refused}
 use Rattle.generator.proofs.Replies.{reply-unique}
 use Rattle.lines.specs.Text.{replyLine, refusedLine}
-use Rattle.lines.specs.Listing.{longest, stops, Open, Ended, Lists, long, end, refused, answered, Listed, last, more, Listing, Lines, none, next}
+use Rattle.lines.specs.Listing.{longest, stops, Reading, Ended, Lists, long, end, refused, answered, Listed, last, more, Listing, Lines, none, next}
 use Rattle.lines.specs.declared.Place.{Place}
 use Rattle.lines.specs.declared.Then.{Then}
 use Rattle.lines.specs.declared.Then.the-variants.{On, Done}
@@ -62,7 +62,7 @@ lists-less {s} {p} (answered {e} {n} r short on at replied) =
 -- ---- a file has one listing
 
 -- where a record is to be read, the end comes only with the last byte
-ended : (s : List ℕ) (p : Place) → Open p → Ended s p → firstIn (drop (p .at) s) ≡ found.End
+ended : (s : List ℕ) (p : Place) → Reading p → Ended s p → firstIn (drop (p .at) s) ≡ found.End
 ended s p on (inl stopped) = absurd (false≢true (sym (on .reading) ∙ stopped))
 ended s p on (inr (inl many)) = absurd (omega (arith, many, on .most))
 ended s p on (inr (inr none-left)) = none-left
@@ -137,7 +137,7 @@ reads-listed s u at n short few within is (record-first {e = e} {n = k} {es = es
     let going : stops r ≡ false = stops-none (e .job) (e .r1) (e .r2) r (read-taken u e k q) replied in
     let after : Listed s (record { at = at + k; lines = n + 1; stopped = false }) t =
     reads-listed s (drop k u) (at + k) (n + 1) short (omega (arith, few, w .0)) (w .1) (ap (drop k) is ∙ drop-drop k at s) rest lines in
-    let place : Open (record { at = at; lines = n; stopped = false }) = record { reading = refl; most = omega (arith, few, within, short) } in
+    let place : Reading (record { at = at; lines = n; stopped = false }) = record { reading = refl; most = omega (arith, few, within, short) } in
     more (answered r short place job replied)
     (subst (λ (b : Bool). Listed s (record { at = at + k; lines = n + 1; stopped = b }) t) (sym going) after)
 

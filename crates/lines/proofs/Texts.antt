@@ -118,9 +118,6 @@ unfolding rowText
 row-most (Carries x) = omega (arith, length-word x)
 row-most NoRow = omega arith
 
-pub empty-room : (l : Line) → Empty l → Room l 128
-empty-room l e = record { whole = e .whole; enough = omega (arith, e .len) }
-
 -- what an empty line has grown to
 pub says-grown : {l r : Line} {bs : List ℕ} → Empty l → Grown l r bs → length bs ≤ 128 → Says r bs
 says-grown {l} {r} {bs} e g h =

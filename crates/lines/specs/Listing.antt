@@ -29,7 +29,7 @@ stops (Found x) = false
 stops (Refused k) = not (eqb k cause.noCase)
 
 -- a record is to be read at the place: reading has not stopped, and the count is one that a listing can have
-pub record Open (p : Place) : Type 0 where
+pub record Reading (p : Place) : Type 0 where
   pub reading : p .stopped ≡ false
   pub most : p .lines ≤ longest
 
@@ -44,10 +44,10 @@ pub data Lists (s : List ℕ) (p : Place) : List ℕ → Then → Type 0 where
   -- "`end` is the last line .. and gives the count of the lines before it"
   end : length s ≤ longest → Ended s p → Lists s p (endLine (p .lines)) Done
   -- a record that is refused in reading: the line counts, and reading stops
-  refused : {k : ℕ} → length s ≤ longest → Open p → firstIn (drop (p .at) s) ≡ found.Refused k
+  refused : {k : ℕ} → length s ≤ longest → Reading p → firstIn (drop (p .at) s) ≡ found.Refused k
       → Lists s p (refusedLine (p .lines + 1) k) (On (record { at = p .at; lines = p .lines + 1; stopped = true }))
   -- a job: the line for the generator's reply to it
-  answered : {e : Entry} {n : ℕ} (r : Reply) → length s ≤ longest → Open p → firstIn (drop (p .at) s) ≡ found.Job e n → Replied (e .job) (e .r1) (e .r2) r
+  answered : {e : Entry} {n : ℕ} (r : Reply) → length s ≤ longest → Reading p → firstIn (drop (p .at) s) ≡ found.Job e n → Replied (e .job) (e .r1) (e .r2) r
       → Lists s p (replyLine (p .lines + 1) r) (On (record { at = p .at + n; lines = p .lines + 1; stopped = stops r }))
 
 -- all the text from the place p on

@@ -17,7 +17,7 @@ ghost use mathlib.Core.Path.{_≡_};
 ghost use mathlib.Core.Bool.{true, false};
 ghost use mathlib.Core.Logic.{_⊎_};
 ghost use Prim.Native.Nat.{_<_};
-ghost use Rattle.lines.specs.Listing.{start, stops, longest, Open};
+ghost use Rattle.lines.specs.Listing.{start, stops, longest, Reading};
 ghost use Rattle.lines.specs.Step.{Steps, Answers};
 
 // The longest file that is listed, in bytes.
@@ -85,7 +85,7 @@ fn answered(entry: Entry, n: u64, next: usize) -> Step
 
 // Whether a record is to be read at a place.
 fn reading(place: Place) -> bool
-    ensures { λ r. ⌜ (r ≡ true → Open place) × (r ≡ false → (place .stopped ≡ true) ⊎ (longest < place .lines)) ⌝ }
+    ensures { λ r. ⌜ (r ≡ true → Reading place) × (r ≡ false → (place .stopped ≡ true) ⊎ (longest < place .lines)) ⌝ }
 {
     if place.stopped {
         return false;

@@ -6,7 +6,7 @@ use mathlib.Core.Path.{_≡_, sym, ap, ap₂, _∙_}
 use Prim.Native.Nat.{ℕ, _+_, _*_, _/_, _%_, _^_, _<_}
 use native.Mathlib.Nat.{mod-lt, div-eq-of-lt, add-zero, eq-of-mul-eq-mul-right, add-comm}
 use lib.Bits.{bitAnd, and-mod, and-shr, and-zero-r, and-block}
-use lib.Pow.{pow-pos, split, field, mod-mod-pow, shr-lt, shl-lt}
+use lib.Pow.{pow-pos, split, field, mod-mod-pow, shr-lt}
 use Rattle.mask.specs.declared.Mask.{Mask}
 use Rattle.mask.specs.Mask.{Inside, WellFormed, Meets, low, high, raised}
 use Rattle.mask.proofs.ByBits.{value-below}
@@ -41,9 +41,6 @@ module _ (w f : ℕ) (m : Mask) (h : WellFormed (w + f + 1) m) where
   pub sign-formed : WellFormed 1 (high (w + f) m)
   sign-formed = high-formed 1 (w + f) m (rw (add-comm 1 (w + f)) h)
 
-  pub exponent-formed : WellFormed w (low w (high f m))
-  exponent-formed = low-formed w (high f m) (meets-parts f (m .value) m .0 (h .inside) .1)
-
   pub fraction-formed : WellFormed f (low f m)
   fraction-formed = low-formed f m (h .inside)
 
@@ -68,7 +65,3 @@ meets-raised d x r m h =
         ∙ and-block d x (m .care) r 0 h (pow-pos d)
         ∙ ap (λ (u : ℕ). bitAnd x (m .care) * 2 ^ d + u) (and-zero-r r)
         ∙ add-zero (bitAnd x (m .care) * 2 ^ d)
-
-pub raised-formed : (width d : ℕ) (m : Mask) → WellFormed width m → WellFormed (width + d) (raised d m)
-raised-formed width d m w =
-    record { below = shl-lt width d (w .below); inside = rw add-zero at (meets-raised d (m .value) 0 m (pow-pos d) .1 (w .inside)) }

@@ -114,9 +114,6 @@ module _ (m n : Mask) (hm : Inside m) (hn : Inside n) where
   pub meets-agree : (x : ℕ) → Meets x m → Meets x n → Agree m n
   meets-agree x p q = agree-bits m n .1 (λ i a b. sym (meets-bits x m hm .0 p i a) ∙ meets-bits x n hn .0 q i b)
 
-  pub agree-meets : Agree m n → Meets (joined m n .value) m × Meets (joined m n .value) n
-  agree-meets agrees = joined-meets agrees (joined m n .value) .0 (joined-inside m n hm hn)
-
 -- a third mask agrees with the joined mask exactly when it agrees with both
 pub agree-joined : (m n o : Mask) → Inside m → Inside n → Agree m n → Agree (joined m n) o ↔ (Agree m o × Agree n o)
 agree-joined m n o hm hn agrees = (

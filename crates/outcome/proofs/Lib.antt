@@ -8,4 +8,3 @@ pub mod Last
 pub mod Asked
 pub mod Range
 pub mod Counted
-pub mod Moved

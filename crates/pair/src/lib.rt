@@ -6,7 +6,6 @@ use mask::Mask;
 use special::special_admits;
 use word::Biased;
 
-pub mod class;
 pub mod finite;
 pub mod signs;
 

@@ -27,7 +27,6 @@ use Rattle.records.specs.declared.Entry.{Entry}
 use Rattle.records.specs.declared.First.the-variants as found
 use Rattle.records.proofs.BySizes.{Fits, none, more, length-bytes}
 use Rattle.records.proofs.ByMap.{counts, map-absent, fits-map}
-use Rattle.records.proofs.JobLayout.{length-most}
 
 -- ---- every number fits its byte count
 
@@ -65,9 +64,6 @@ record-fits e ok =
 pub record-length : (e : Entry) → recordCause e ≡ 0 → recordLength (entryMap e) ≡ length (recordBytes e)
 unfolding recordLength recordBytes
 record-length e ok = omega (arith, length-bytes (record-fits e ok))
-
-pub record-most : (e : Entry) → recordCause e ≡ 0 → length (recordBytes e) ≤ 45
-record-most e ok = omega (arith, record-length e ok, length-most (entryMap e))
 
 -- ---- what reading says
 

@@ -128,10 +128,6 @@ write-more s at k x h =
     ∙ put-put s at bs (b ∷ []) (omega arith)
     ∙ ap (put s at) (sym (number-suc k x))
 
--- two numbers put one after the other
-pub length-numbers : (j k x y : ℕ) → length (littleEndian j x ++ littleEndian k y) ≡ j + k
-length-numbers j k x y = length-append (littleEndian j x) (littleEndian k y) ∙ ap₂ _+_ (length-number j x) (length-number k y)
-
 pub put-numbers : (s : List ℕ) (at j k x y : ℕ) → at + (j + k) ≤ length s
     → put (put s at (littleEndian j x)) (at + j) (littleEndian k y) ≡ put s at (littleEndian j x ++ littleEndian k y)
 put-numbers s at j k x y h =

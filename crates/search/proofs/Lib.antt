@@ -1,5 +1,4 @@
 pub mod Pairs
 pub mod Roles
-pub mod Settling
+pub mod Walking
 pub mod Choosing
-pub mod Keeping

@@ -1,5 +1,3 @@
-pub mod Fields
 pub mod Left
 pub mod Choice
 pub mod Walk
-pub mod Classes

@@ -1,32 +1,32 @@
 // The masked search: whether a case is left, and the operands of the one that two random words choose.
-mod classes;
 mod walk;
 
 use bits::power;
+use classes::PLACES;
 use classes::class_end;
-use classes::keep_refused;
-use classes::may_admit;
+use format::format_cause;
 use job::Job;
 use job::Role;
-use job::job_cause;
 use mask::Mask;
 use mask::meets;
-use pair::pair_admits;
 use pair::signs::signs_left;
+use walk::follow;
 use word::Biased;
 use word::masks::exponent_mask;
 ghost use mathlib.Core.Path.{_≡_};
 ghost use mathlib.Core.Bool.{true};
 ghost use mathlib.Core.Logic.{_↔_};
 ghost use Prim.Native.Nat.{_≤_, _<_};
+ghost use Rattle.format.specs.Format.{Supported};
 ghost use Rattle.job.specs.declared.Job.{Job};
 ghost use Rattle.job.specs.Job.{Valid};
 ghost use Rattle.mask.specs.Mask.{Meets};
 ghost use Rattle.word.specs.Masks.{exponentMask};
-ghost use Rattle.search.specs.Fields.{PairAt};
-ghost use Rattle.search.specs.Classes.{Kept};
-ghost use Rattle.search.specs.Walk.{NoneBelow, FirstRow, PassOf, RowStart};
+ghost use Rattle.special.specs.Asked.{PairFits};
+ghost use Rattle.classes.specs.Kept.{Kept};
+ghost use Rattle.search.specs.Walk.{NoneBelow, FirstField, PassOf, PartnersFrom};
 ghost use Rattle.search.specs.Choice.{Chosen};
+ghost use Rattle.search.specs.declared.Choice.the-variants.{Nothing};
 
 // The operands of a case.
 pub struct Pair {
@@ -44,97 +44,95 @@ pub enum Choice {
 pub struct Pass {
     pub a: Mask,
     pub b: Mask,
-    pub past: u64,
+    pub past: Biased,
     pub signs: bool,
-    pub end: u64,
+    pub end: Biased,
 }
 
 // The masks on the exponent fields of a and b, one past the last field, whether signs are left for finite operands, and one past the
 // fields that the classes of pairs answer for.
 fn pass_of(job: Job) -> Pass
-    requires { ⌜ Valid job ⌝ }
-    ensures { λ r. ⌜ PassOf job r ⌝ }
+    requires { ⌜ Supported (job .setting .format) ⌝ }
+    ensures { λ r. ⌜ (Valid job → PassOf job r) ⌝ }
 {
     let format = job.setting.format;
     Pass {
         a: exponent_mask(format, job.a.mask),
         b: exponent_mask(format, job.b.mask),
-        past: power(format.w),
+        past: Biased(power(format.w)),
         signs: signs_left(job),
         end: class_end(job),
     }
 }
 
-// Whether some case whose operands have these exponent fields fits; the question is put only where b's meets its mask and the class of the
-// pair leaves it open.
-fn admits(job: Job, pass: Pass, ea: u64, eb: u64, table: &mut [u64; 128]) -> bool
-    requires { ⌜ Valid job × PassOf job pass × (ea < pass .past) × (eb < pass .past) × Meets ea (exponentMask (job .setting .format) (job .a .mask)) × Kept job (now table) ⌝ }
-    ensures { λ r. ⌜ Kept job (now (table .exit)) × ((r ≡ true) ↔ PairAt job ea eb) ⌝ }
+// Whether some case whose operands have these exponent fields fits; the question is put only where b's meets its mask.
+fn left_at(job: Job, pass: Pass, ea: Biased, eb: Biased, table: &mut [u64; PLACES]) -> bool
+    ensures { λ r. ⌜ (Valid job → PassOf job pass → Meets (ea .0) (exponentMask (job .setting .format) (job .a .mask)) → Kept job (now (table .entry))
+        → Kept job (now (table .exit)) × ((r ≡ true) ↔ PairFits job ea eb)) ⌝ }
 {
-    if !meets(pass.b, eb) {
+    if !meets(pass.b, eb.0) {
         return false;
     }
-    if !may_admit(job, ea, eb, pass.end, table) {
-        return false;
-    }
-    if pair_admits(job, Biased(ea), Biased(eb)) {
-        return true;
-    }
-    keep_refused(job, ea, eb, table);
-    false
+    classes::admits(job, ea, eb, pass.end, table)
 }
 
-// Where the row of pairs of an exponent field of a begins: past its last one where the field does not meet its mask, at b's field of
-// infinities and NaNs where a's is finite and no signs are left for finite operands, else at its first one.
-fn row_start(pass: Pass, ea: u64) -> u64
-    requires { ⌜ 1 ≤ pass .past ⌝ }
-    ensures { λ r. ⌜ ((job : Job) → Valid job → PassOf job pass → RowStart job ea r) ⌝ }
+// The first exponent field of b that is tried with one of a: past the last where a's does not meet its mask, that of infinities and NaNs
+// where a's is finite and no signs are left for finite operands, else 0.
+fn first_partner(pass: Pass, ea: Biased) -> Biased
+    requires { ⌜ 1 ≤ pass .past .0 ⌝ }
+    ensures { λ r. ⌜ ((job : Job) → Valid job → PassOf job pass → PartnersFrom job ea r) ⌝ }
 {
-    if !meets(pass.a, ea) {
+    if !meets(pass.a, ea.0) {
         return pass.past;
     }
     if pass.signs {
-        return 0;
+        return Biased(0);
     }
-    let ones = pass.past - 1;
-    if ea < ones { ones } else { 0 }
+    let ones = pass.past.0 - 1;
+    if ea.0 < ones {
+        return Biased(ones);
+    }
+    Biased(0)
 }
 
 // The first exponent field of a that some case left has, or one past them all. Those below `start` are known to have none. The loops are
 // left at the first pair of exponent fields that admits a case.
-pub(crate) fn first_row(job: Job, start: u64) -> u64
-    requires { ⌜ Valid job × NoneBelow job start ⌝ }
-    ensures { λ r. ⌜ FirstRow job r ⌝ }
+pub(crate) fn first_field(job: Job, start: Biased) -> Biased
+    requires { ⌜ Supported (job .setting .format) ⌝ }
+    ensures { λ r. ⌜ (Valid job → NoneBelow job start → FirstField job r) ⌝ }
 {
     let pass = pass_of(job);
-    let past = pass.past;
-    let mut table = [0; 128];
+    let past = pass.past.0;
+    let mut table = [0; PLACES];
     let mut ea = start;
-    'pairs: while ea < past {
-        let mut eb = row_start(pass, ea);
-        while eb < past {
-            if admits(job, pass, ea, eb, &mut table) {
+    'pairs: while ea.0 < past {
+        let mut eb = first_partner(pass, ea);
+        while eb.0 < past {
+            if left_at(job, pass, ea, eb, &mut table) {
                 break 'pairs;
             }
-            eb += 1;
+            eb = Biased(eb.0 + 1);
         }
-        ea += 1;
+        ea = Biased(ea.0 + 1);
     }
     ea
 }
 
-// The operands that the random words choose: each bit of a, from the top, follows the first, and then each bit of b the second.
+// The operands that the random words choose: each bit of a, from the top, follows the first, and then each bit of b the second. Nothing in
+// a format that is not supported. For a job with a malformed mask the answer is free: a job is tested once, where the generator is asked.
 pub fn choose(job: Job, r1: u64, r2: u64) -> Choice
-    ensures { λ r. ⌜ Chosen job r1 r2 r ⌝ }
+    ensures unsupported { λ r. ⌜ ((Supported (job .setting .format) → ⊥) → r ≡ Nothing) ⌝ }
+    ensures chosen { λ r. ⌜ (Valid job → Chosen job r1 r2 r) ⌝ }
 {
-    if job_cause(job) != 0 {
+    let format = job.setting.format;
+    if format_cause(format) != 0 {
         return Choice::Nothing;
     }
-    let row = first_row(job, 0);
-    if row < power(job.setting.format.w) {
-        let width = job.setting.format.w + job.setting.format.f + 1;
-        let with_a = walk::settle(job, Role::A, r1, width, row);
-        let with_b = walk::settle(with_a, Role::B, r2, width, row);
+    let first = first_field(job, Biased(0));
+    if first.0 < power(format.w) {
+        let width = format.w + format.f + 1;
+        let with_a = follow(job, Role::A, r1, width, first);
+        let with_b = follow(with_a, Role::B, r2, width, first);
         return Choice::Operands(Pair {
             a: with_a.a.mask.value,
             b: with_b.b.mask.value,

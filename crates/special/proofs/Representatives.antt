@@ -94,9 +94,6 @@ module _ (F : Format) (m : Mask) (w : WellFormed (wordBits F) m) (x : ℕ) (met 
   e-lt : biased F x .0 < 2 ^ F .w
   e-lt = mod-lt (x / 2 ^ F .f) (pow-pos (F .w))
 
-  pub stands-word : representative F m (biased F x) (standsFor F x) < 2 ^ wordBits F
-  stands-word = representative-lt F m w (biased F x) (standsFor F x) e-lt (stands-lt F x)
-
   which-sign : standsFor F x / 2 ≡ sign F x
   which-sign = omega (arith, nonzero-lt (fraction F x))
 

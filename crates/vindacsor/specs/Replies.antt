@@ -35,8 +35,8 @@ use Rattle.vindacsor.specs.Answer.{Content, numbers, refusal, Delivered}
 abbrev pub formatOf : ℕ → ℕ → Format
 formatOf w f = record { w = w; f = f }
 
-abbrev pub maskOf : ℕ → ℕ → Mask
-maskOf care value = record { care = care; value = value }
+abbrev pub maskFrom : ℕ → ℕ → Mask
+maskFrom care value = record { care = care; value = value }
 
 -- a job of the whole-number generator
 abbrev pub masksOf : Mask → Mask → Mask → Mask → Masks

@@ -18,11 +18,11 @@ ghost use Rattle.adder.specs.Result.{resultReply};
 ghost use Rattle.adder.specs.Row.{rowReply};
 ghost use Rattle.records.specs.Record.{firstIn};
 ghost use Rattle.vindacsor.specs.Answer.{Delivered};
-ghost use Rattle.vindacsor.specs.Replies.{formatOf, maskOf, masksOf, wordsOf, wholeJob, ofResult, ofRow, ofJoined, ofFirst, confirmation, Generated, WholeGenerated};
+ghost use Rattle.vindacsor.specs.Replies.{formatOf, maskFrom, masksOf, wordsOf, wholeJob, ofResult, ofRow, ofJoined, ofFirst, confirmation, Generated, WholeGenerated};
 
 // The mask of two numbers.
 fn mask_of(care: u64, value: u64) -> Mask
-    ensures { λ r. ⌜ r ≡ maskOf care value ⌝ }
+    ensures { λ r. ⌜ r ≡ maskFrom care value ⌝ }
 {
     Mask { care, value }
 }
@@ -72,7 +72,7 @@ pub extern "C" fn vindacsor_join(
     value2: u64,
     out: &mut [u8],
 ) -> u64
-    ensures { λ r. ⌜ Delivered (ofJoined (join (maskOf care value) (maskOf care2 value2))) (now (out .entry)) (now (out .exit)) r ⌝ }
+    ensures { λ r. ⌜ Delivered (ofJoined (join (maskFrom care value) (maskFrom care2 value2))) (now (out .entry)) (now (out .exit)) r ⌝ }
 {
     let one = Mask { care, value };
     let other = Mask {
@@ -124,7 +124,7 @@ pub extern "C" fn vindacsor_whole(
     out: &mut [u8],
 ) -> u64
     ensures { λ r. ⌜ WholeGenerated
-        (wholeJob length (masksOf (maskOf «x_care» «x_value») (maskOf «y_care» «y_value») (maskOf «z_care» «z_value») (maskOf «carries_care» «carries_value»)) (wordsOf r1 r2 r3))
+        (wholeJob length (masksOf (maskFrom «x_care» «x_value») (maskFrom «y_care» «y_value») (maskFrom «z_care» «z_value») (maskFrom «carries_care» «carries_value»)) (wordsOf r1 r2 r3))
         (now (out .entry)) (now (out .exit)) r ⌝ }
 {
     let x = mask_of(x_care, x_value);

@@ -1,4 +1,4 @@
--- Three walks, one for each number, end at the chosen case: the first settles x, the second y among the cases with that x, the third z
+-- Three walks, one for each number, end at the chosen case: the first fixes x, the second y among the cases with that x, the third z
 -- among those with that x and y. The numbers of a case tell its carries, so two cases differ in a number. Assumes nothing.
 use mathlib.Core.Path.{_≡_, refl, sym, ap, ap₂, _∙_, subst}
 use mathlib.Core.Logic.{_⊎_}
@@ -21,7 +21,7 @@ use Rattle.whole.specs.declared.Role.the-variants.{X, Y, Z}
 use Rattle.whole.specs.Role.{number}
 use Rattle.whole.specs.Fits.{Adds, Fits}
 use Rattle.whole.specs.Choice.{Chosen}
-use Rattle.whole.specs.Walk.{Settled, caseOf}
+use Rattle.whole.specs.Walk.{WalkEnd, caseOf}
 
 -- ---- the numbers of a case tell the rest
 
@@ -64,9 +64,9 @@ nearest : (n : ℕ) (s : Masks) (role : Role) (word v : ℕ) → Closest (Has Ca
     → (number role d ≡ v) ⊎ (bitXor v word < bitXor (number role d) word)
 nearest n s role word v q d f = q .least (number role d) (record { case = d; fits = f; is = refl })
 
-module _ (n : ℕ) (s : Masks) {rx ry rz : ℕ} (least : 1 ≤ n) (sx sy sz : Masks) (qx : Settled n s X rx sx) (qy : Settled n sx Y ry sy)
-    (qz : Settled n sy Z rz sz) where
-  -- what the walks have settled
+module _ (n : ℕ) (s : Masks) {rx ry rz : ℕ} (least : 1 ≤ n) (sx sy sz : Masks) (qx : WalkEnd n s X rx sx) (qy : WalkEnd n sx Y ry sy)
+    (qz : WalkEnd n sy Z rz sz) where
+  -- what the walks have fixed
   abbrev pub chosen : Case
   chosen = caseOf (sx .x .value) (sy .y .value) (sz .z .value)
 
@@ -76,13 +76,13 @@ module _ (n : ℕ) (s : Masks) {rx ry rz : ℕ} (least : 1 ≤ n) (sx sy sz : Ma
 
   last-z : Fits n sy last × (last .z ≡ sz .z .value)
   unfolding last
-  last-z = qz .settles .same last .0 (qz .ready .left .fits)
+  last-z = qz .ends .same last .0 (qz .ready .left .fits)
 
   last-y : Fits n sx last × (last .y ≡ sy .y .value)
-  last-y = qy .settles .same last .0 (last-z .0)
+  last-y = qy .ends .same last .0 (last-z .0)
 
   last-x : Fits n s last × (last .x ≡ sx .x .value)
-  last-x = qx .settles .same last .0 (last-y .0)
+  last-x = qx .ends .same last .0 (last-y .0)
 
   is-last : chosen ≡ last
   is-last =
@@ -101,11 +101,11 @@ module _ (n : ℕ) (s : Masks) {rx ry rz : ℕ} (least : 1 ≤ n) (sx sy sz : Ma
       later : (d : Case) → Fits n s d
           → Farther rx (sx .x .value) (d .x) (Farther ry (sy .y .value) (d .y) (Farther rz (sz .z .value) (d .z) (d ≡ chosen)))
       later d f =
-          farther rx (sx .x .value) (d .x) (nearest n s X rx (sx .x .value) (qx .settles .closest) d f)
+          farther rx (sx .x .value) (d .x) (nearest n s X rx (sx .x .value) (qx .ends .closest) d f)
           (λ ex.
-          let g = qx .settles .same d .1 (f, ex) in
-          farther ry (sy .y .value) (d .y) (nearest n sx Y ry (sy .y .value) (qy .settles .closest) d g)
+          let g = qx .ends .same d .1 (f, ex) in
+          farther ry (sy .y .value) (d .y) (nearest n sx Y ry (sy .y .value) (qy .ends .closest) d g)
           (λ ey.
-          let h = qy .settles .same d .1 (g, ey) in
-          farther rz (sz .z .value) (d .z) (nearest n sy Z rz (sz .z .value) (qz .settles .closest) d h)
+          let h = qy .ends .same d .1 (g, ey) in
+          farther rz (sz .z .value) (d .z) (nearest n sy Z rz (sz .z .value) (qz .ends .closest) d h)
           (λ ez. same-case n chosen d least (chosen-fits .adds) (f .adds) ex ey ez)))

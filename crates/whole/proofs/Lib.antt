@@ -1,6 +1,6 @@
 pub mod Exact
 pub mod Roles
-pub mod Settling
+pub mod Walking
 pub mod Choosing
 pub mod Taken
 pub mod Replies

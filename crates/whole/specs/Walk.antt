@@ -4,7 +4,7 @@
 use Prim.Native.Nat.{ℕ, _+_, _%_, _≤_}
 use lib.Bits.{bitXor}
 use Rattle.format.specs.Limits.{leastLength, mostLength}
-use Rattle.choice.specs.Walk.{FixedFrom, Settles}
+use Rattle.choice.specs.Walk.{FixedFrom, EndOfWalk}
 use Rattle.whole.specs.declared.Masks.{Masks}
 use Rattle.whole.specs.declared.Case.{Case}
 use Rattle.whole.specs.declared.Role.{Role}
@@ -20,15 +20,15 @@ pub record Ready (n : ℕ) (s : Masks) : Type 0 where
   pub left : Left n s
 
 -- and the number's bits from position k on are fixed
-pub record Open (n : ℕ) (s : Masks) (role : Role) (k : ℕ) : Type 0 where
+pub record OpenBits (n : ℕ) (s : Masks) (role : Role) (k : ℕ) : Type 0 where
   pub ready : Ready n s
   pub most : k ≤ n
-  pub settled : FixedFrom n (maskOf role s) k
+  pub fixed : FixedFrom n (maskOf role s) k
 
--- t is s with the number settled to its closest value
-pub record Settled (n : ℕ) (s : Masks) (role : Role) (word : ℕ) (t : Masks) : Type 0 where
+-- t is s with the number fixed to its closest value
+pub record WalkEnd (n : ℕ) (s : Masks) (role : Role) (word : ℕ) (t : Masks) : Type 0 where
   pub ready : Ready n t
-  pub settles : Settles Case (number role) (Fits n s) word (Fits n t) (maskOf role t .value)
+  pub ends : EndOfWalk Case (number role) (Fits n s) word (Fits n t) (maskOf role t .value)
 
 -- the case of three numbers that make one: the carry in is what makes the lowest bits right, and the exclusive-or of the addends and the
 -- sum has the carries as its bits

@@ -112,9 +112,9 @@ fn choose(length: u64, masks: Masks, words: Words) -> Case
     requires { ⌜ Ready length masks ⌝ }
     ensures { λ r. ⌜ Chosen length masks words r ⌝ }
 {
-    let with_x = walk::settle(length, masks, Role::X, words.x, length);
-    let with_y = walk::settle(length, with_x, Role::Y, words.y, length);
-    let with_z = walk::settle(length, with_y, Role::Z, words.z, length);
+    let with_x = walk::follow(length, masks, Role::X, words.x, length);
+    let with_y = walk::follow(length, with_x, Role::Y, words.y, length);
+    let with_z = walk::follow(length, with_y, Role::Z, words.z, length);
     let x = with_x.x;
     let y = with_y.y;
     let z = with_z.z;

@@ -1,4 +1,4 @@
-// The bits of one number, settled from the top: each follows the random word where that leaves a case.
+// The bits of one number, fixed from the top: each follows the random word where that leaves a case.
 use super::Masks;
 use super::Role;
 use super::left::left;
@@ -7,7 +7,7 @@ use mask::fix;
 ghost use mathlib.Core.Path.{_≡_};
 ghost use Rattle.mask.specs.Mask.{fix};
 ghost use Rattle.whole.specs.Role.{maskOf, withMask};
-ghost use Rattle.whole.specs.Walk.{Open, Settled};
+ghost use Rattle.whole.specs.Walk.{OpenBits, WalkEnd};
 
 // The mask of a number.
 fn mask_of(s: Masks, role: Role) -> Mask
@@ -57,11 +57,11 @@ fn fix_bit(s: Masks, role: Role, i: u64, v: u64) -> Masks
     with_mask(s, role, fix(mask_of(s, role), i, v))
 }
 
-// One number settled, where its bits from position `open_bits` on are fixed: the bit below them follows the random word, or is the
-// other where no case would be left.
-pub(crate) fn settle(n: u64, s: Masks, role: Role, word: u64, open_bits: u64) -> Masks
-    requires { ⌜ Open n s role open_bits ⌝ }
-    ensures { λ r. ⌜ Settled n s role word r ⌝ }
+// The masks with one number fixed to its closest value, where its bits from position `open_bits` on are fixed: the bit below them follows
+// the random word, or is the other where no case would be left.
+pub(crate) fn follow(n: u64, s: Masks, role: Role, word: u64, open_bits: u64) -> Masks
+    requires { ⌜ OpenBits n s role open_bits ⌝ }
+    ensures { λ r. ⌜ WalkEnd n s role word r ⌝ }
 {
     if open_bits == 0 {
         return s;
@@ -70,7 +70,7 @@ pub(crate) fn settle(n: u64, s: Masks, role: Role, word: u64, open_bits: u64) ->
     let v = bits::bit_at(word, k);
     let tried = fix_bit(s, role, k, v);
     if left(n, tried) {
-        return settle(n, tried, role, word, k);
+        return follow(n, tried, role, word, k);
     }
-    settle(n, fix_bit(s, role, k, 1 - v), role, word, k)
+    follow(n, fix_bit(s, role, k, 1 - v), role, word, k)
 }

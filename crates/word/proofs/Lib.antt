@@ -1,4 +1,3 @@
 pub mod Bounds
 pub mod Canonical
 pub mod Fields
-pub mod Widths

@@ -31,7 +31,7 @@ case-of-requires c κs =
     let i = h .before in
     let a = i .before .before .args in
     let taken = request-none (a .job) (a .r1) (a .r2) .0 (sym (i .before .request-cause .ensures) ∙ i .if1 .left) in
-    let m = subst (Chosen (a .job) _ _) (c .before .pair .given .1) (h .choose .ensures) .1 .member in
+    let m = subst (Chosen (a .job) _ _) (c .before .pair .given .1) (h .choose .ensures .1 (taken .valid)) .1 .member in
     fits-request (a .job) (c .before .pair .given .0 .0 .a) (c .before .pair .given .0 .0 .b) (m .0) (a .r1) (a .r2) taken (m .1)
 
 enum-told : tie.Need-enum-told
@@ -43,8 +43,10 @@ returns-2 c =
     let h = p .before .before in
     let i = h .before in
     let a = i .before .before .args in
-    let closest = subst (Chosen (a .job) (a .r1) (a .r2)) (p .pair .given .1) (h .choose .ensures) .1 in (
-      sym (i .before .request-cause .ensures) ∙ i .if1 .left,
+    let e = sym (i .before .request-cause .ensures) ∙ i .if1 .left in
+    let valid = request-none (a .job) (a .r1) (a .r2) .0 e .valid in
+    let closest = subst (Chosen (a .job) (a .r1) (a .r2)) (p .pair .given .1) (h .choose .ensures .1 valid) .1 in (
+      e,
       subst (promise.Chosen (a .job) (a .r1) (a .r2)) (sym (c .case-of .ensures)) (case-chosen (a .job) (a .r1) (a .r2) (p .pair .given .0 .0 .a) (p .pair .given .0 .0 .b) closest),
     )
 
@@ -55,7 +57,7 @@ returns-3 c =
     let a = i .before .before .args in
     let e = sym (i .before .request-cause .ensures) ∙ i .if1 .left in
     let valid = request-none (a .job) (a .r1) (a .r2) .0 e .valid in
-    let none = subst (Chosen (a .job) (a .r1) (a .r2)) (c .enum-told .given .1) (h .choose .ensures) in
+    let none = subst (Chosen (a .job) (a .r1) (a .r2)) (c .enum-told .given .1) (h .choose .ensures .1 valid) in
     inr (record { taken = e; none = λ x y z f. none (record { valid = valid; left = record { a = x; b = y; c = z; fits = f } }) }, refl)
 
 pub generate-spec : {M : Type 1} → statement M

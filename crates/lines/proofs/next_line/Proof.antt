@@ -14,7 +14,7 @@ use Rattle.records.specs.declared.First.the-variants as found
 use Rattle.reader.specs.Drawn.{taken}
 use Rattle.reader.specs.declared.Drawn.{Drawn}
 use Rattle.lines.specs.Text.{text, Says}
-use Rattle.lines.specs.Listing.{longest, stops, Open, Lists, long, end, refused, answered}
+use Rattle.lines.specs.Listing.{longest, stops, Reading, Lists, long, end, refused, answered}
 use Rattle.lines.specs.Step.{Steps, Answers}
 use Rattle.lines.specs.declared.Place.{Place}
 use Rattle.lines.specs.declared.Then.{Then}
@@ -30,7 +30,7 @@ steps : {s : List ℕ} {p : Place} {l : Line} {bs : List ℕ} {x : Then} → Say
 steps {s} {p} {l} {bs} {x} said lists = record { most = said .most; lists = subst (λ (t : List ℕ). Lists s p t x) (sym (said .text)) lists }
 
 -- an answer to the job that stands at the place
-answer : {s : List ℕ} {p : Place} {e : Entry} {n next : ℕ} {r : Step} → length s ≤ longest → Open p → firstIn (drop (p .at) s) ≡ found.Job e n → next ≡ p .at + n
+answer : {s : List ℕ} {p : Place} {e : Entry} {n next : ℕ} {r : Step} → length s ≤ longest → Reading p → firstIn (drop (p .at) s) ≡ found.Job e n → next ≡ p .at + n
     → Answers e (p .lines + 1) next r → Steps s p r
 answer {s} {p} {e} {n} {next} {r} short reads-on job at a =
     let on : On (record { at = p .at + n; lines = p .lines + 1; stopped = stops (a .reply) }) ≡ r .then =
@@ -62,7 +62,7 @@ returns-2 c =
 short : (c : tie.Else2) → length (now (c .before .before .before .before .args .file)) ≤ longest
 short c = c .before .before .if1 .left
 
-reads-on : (c : tie.Else2) → Open (c .before .before .before .before .args .place)
+reads-on : (c : tie.Else2) → Reading (c .before .before .before .before .args .place)
 reads-on c = c .before .reading .ensures .0 (not-false (c .before .reading .result) (c .if2 .left))
 
 -- what was drawn stands at the place

@@ -1,5 +1,5 @@
 -- `search::pass_of` meets its contract. Assumes nothing.
-use Rattle.search.proofs.Pairs.{count-is}
+use Rattle.word.proofs.Bounds.{exponents}
 use borrow.Author.Needs.{needs}
 use Rattle.search.proofs.pass_of.Statement.{statement}
 use Rattle.search.proofs.pass_of.Tie as tie
@@ -20,18 +20,14 @@ class-end-requires : tie.Need-class-end-requires
 class-end-requires c κs = search needs
 
 returns : tie.Need-returns
-returns c =
-    let g = c .before in
-    let w = g .before in
-    let b = w .before in
-    let a = b .before in
-    let s = a .before .before in
+returns c = λ valid.
+    let s = c .before .before .before .before .before .before in
     record {
-      a = a .exponent-mask .ensures;
-      b = b .exponent-mask2 .ensures;
-      past = count-is (s .args .job) (w .power .result) (s .pre) (w .power .ensures);
-      signs = g .signs-left .ensures;
-      end = c .class-end .ensures;
+      a = c .before .before .before .before .exponent-mask .ensures;
+      b = c .before .before .before .exponent-mask2 .ensures;
+      past = exponents (s .args .job .setting .format) (s .pre) (c .before .before .power .ensures);
+      signs = c .before .signs-left .ensures;
+      end = c .class-end .ensures .0 valid;
     }
 
 pub pass-of-spec : {M : Type 1} → statement M

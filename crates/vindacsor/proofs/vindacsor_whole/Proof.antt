@@ -2,7 +2,7 @@
 use mathlib.Core.Path.{_≡_, subst}
 use Rattle.whole.specs.declared.Masks.{Masks}
 use Rattle.whole.specs.Reply.{Replied}
-use Rattle.vindacsor.specs.Replies.{maskOf, masksOf, wordsOf, wholeJob}
+use Rattle.vindacsor.specs.Replies.{maskFrom, masksOf, wordsOf, wholeJob}
 use Rattle.vindacsor.proofs.Bytes.{delivered-as}
 use borrow.Author.Needs.{needs}
 use Rattle.vindacsor.proofs.vindacsor_whole.Statement.{statement}
@@ -43,7 +43,7 @@ returns c =
     let one = two .before in
     let a = one .before .before .args in
     let masks : masksOf (one .mask-of .result) (two .mask-of2 .result) (three .mask-of3 .result) (four .mask-of4 .result)
-    ≡ masksOf (maskOf (a .x-care) (a .x-value)) (maskOf (a .y-care) (a .y-value)) (maskOf (a .z-care) (a .z-value)) (maskOf (a .carries-care) (a .carries-value)) =
+    ≡ masksOf (maskFrom (a .x-care) (a .x-value)) (maskFrom (a .y-care) (a .y-value)) (maskFrom (a .z-care) (a .z-value)) (maskFrom (a .carries-care) (a .carries-value)) =
     λ i. masksOf (one .mask-of .ensures i) (two .mask-of2 .ensures i) (three .mask-of3 .ensures i) (four .mask-of4 .ensures i) in
     record {
       reply = g .generate .result;

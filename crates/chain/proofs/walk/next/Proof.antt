@@ -4,7 +4,7 @@ use mathlib.Core.Bool.{_&&_}
 use Prim.Native.Nat.{ℕ, suc, _*_, _%_, _^_}
 use Rattle.columns.specs.Machine.{some}
 use Rattle.chain.specs.Ways.{mem}
-use Rattle.chain.specs.Walk.{wordOf, rowOf, flag}
+use Rattle.chain.specs.Walk.{stateWord, waysTo, flag}
 use Rattle.chain.proofs.Words.{flag-up}
 use borrow.Author.Needs.{needs}
 use Rattle.chain.proofs.walk.next.Statement.{statement}
@@ -25,8 +25,8 @@ lead-requires-4 c κs = search needs
 returns : tie.Need-returns
 returns c i b h e =
     let table = c .before .before .before .before .args .table in
-    let on : (t r : ℕ) → r ≡ flag (some 4 (λ s. b s && mem (wordOf (rowOf table t) s) i)) i → r * 2 % 2 ^ 64 ≡ flag (some 4 (λ s. b s && mem (wordOf (rowOf table t) s) i)) (suc i) =
-    λ t r q. ap (λ (u : ℕ). u * 2 % 2 ^ 64) q ∙ flag-up i (some 4 (λ s. b s && mem (wordOf (rowOf table t) s) i)) h in
+    let on : (t r : ℕ) → r ≡ flag (some 4 (λ s. b s && mem (stateWord (waysTo table t) s) i)) i → r * 2 % 2 ^ 64 ≡ flag (some 4 (λ s. b s && mem (stateWord (waysTo table t) s) i)) (suc i) =
+    λ t r q. ap (λ (u : ℕ). u * 2 % 2 ^ 64) q ∙ flag-up i (some 4 (λ s. b s && mem (stateWord (waysTo table t) s) i)) h in
     let e0 = on 0 (c .before .before .before .lead .result) (c .before .before .before .lead .ensures i b e) in
     let e1 = on 1 (c .before .before .lead2 .result) (c .before .before .lead2 .ensures i b e) in
     let e2 = on 2 (c .before .lead3 .result) (c .before .lead3 .ensures i b e) in

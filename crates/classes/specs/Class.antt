@@ -1,0 +1,134 @@
+-- Classes of pairs of exponent fields. Of two finite operands the significands are aligned by the gap between their units, and from `farGap`
+-- places on all gaps are alike; the word c then depends on the units in its exponent field only. So one pair stands for its class, and
+-- whether some case has c's exponent field i there is one answer for all pairs of the class. No definition of the promise cites this file.
+-- Assumes nothing.
+use mathlib.Core.Bool.{cond}
+use mathlib.Core.Logic.{_⊎_}
+use Prim.Native.Nat.{ℕ, zero, suc, _+_, _-_, _*_, _^_, _≤_, _<_}
+use lib.Dec.{leb}
+use Rattle.format.specs.declared.Format.{Format}
+use Rattle.mask.specs.declared.Mask.{Mask}
+use Rattle.mask.specs.Mask.{Meets}
+use Rattle.job.specs.declared.Job.{Job}
+use Rattle.job.specs.declared.Role.the-variants.{C}
+use Rattle.job.specs.Role.{withWanted, withMask}
+use Rattle.word.specs.declared.Biased.{Biased}
+use Rattle.word.specs.declared.Unit as exponent
+use Rattle.word.specs.Word.{unitOf, fieldOf, allOnes}
+use Rattle.word.specs.Masks.{signMask, fractionMask}
+use Rattle.rounding.specs.Width.{guardBits}
+use Rattle.special.specs.Asked.{fieldIs}
+use Rattle.pair.specs.declared.Side.{Side}
+use Rattle.pair.specs.Pair.{SomeSigns}
+use Rattle.classes.specs.declared.Fields.{Fields}
+use Rattle.classes.specs.declared.Class.{Class}
+
+-- ---- two exponent fields by size
+
+-- the order is 0 where a has the larger field, else 1
+unfoldable pub fieldsOf : Biased → Biased → Fields
+fieldsOf ea eb = cond (leb (eb .0) (ea .0)) (record { order = 0; larger = ea; smaller = eb }) (record { order = 1; larger = eb; smaller = ea })
+
+-- what is said of a's field and b's, said of the larger one and the smaller
+abbrev pub InOrder : (Biased → Biased → Type 0) → ℕ → Biased → Biased → Type 0
+InOrder P zero E e = P E e
+InOrder P (suc o) E e = P e E
+
+-- the fields of two finite operands, by size
+pub record FiniteFields (F : Format) (p : Fields) : Type 0 where
+  pub order-lt : p .order < 2
+  pub ordered : p .smaller .0 ≤ p .larger .0
+  pub finite : p .larger .0 < allOnes F
+
+-- ---- the pair that stands for a class
+
+-- the gap from which on an aligned significand is its sticky bit alone
+abbrev pub farGap : ℕ → ℕ
+farGap f = f + guardBits
+
+-- the unit of its larger operand: the sum of any gap has digits enough for a normal number
+abbrev pub classUnit : ℕ → exponent.Unit
+classUnit f = record { 0 = farGap f }
+
+-- the larger field
+abbrev pub topField : ℕ → Biased
+topField f = fieldOf (classUnit f) 1
+
+-- the smaller field: as far below the larger one as in the pair, but at most by the far gap; 0 for 0
+abbrev pub lowerField : ℕ → ℕ → ℕ → Biased
+lowerField f gap zero = fieldIs 0
+lowerField f gap (suc e) = fieldOf (record { 0 = farGap f - gap }) 1
+
+abbrev pub lowField : ℕ → Biased → Biased → Biased
+lowField f E e = lowerField f (unitOf E .0 - unitOf e .0) (e .0)
+
+-- the class of a pair
+abbrev pub classOf : ℕ → Fields → Class
+classOf f p = record { order = p .order; low = lowField f (p .larger) (p .smaller) }
+
+-- c's exponent field where the larger operand's unit is u, if it is i where it is the class's; a zero sum has 0 with any unit
+abbrev pub movedField : ℕ → ℕ → ℕ → ℕ
+movedField from to zero = 0
+movedField from to (suc i) = suc i + to - from
+
+abbrev pub fieldAt : ℕ → exponent.Unit → Biased → Biased
+fieldAt f u i = fieldIs (movedField (farGap f) (u .0) (i .0))
+
+-- c's greatest exponent field there: a sum has one digit more than the larger operand at most, and may be rounded up to the next exponent
+abbrev pub mostField : ℕ → ℕ
+mostField f = topField f .0 + 2
+
+-- and its least one: with a gap of 2 places or more the sum has one digit less than the larger operand at the least
+unfoldable pub leastField : ℕ → Class → Biased
+leastField f k = cond (leb (k .low .0 + 2) (topField f .0)) (fieldIs (farGap f)) (fieldIs 0)
+
+-- ---- what is asked of it
+
+-- a side with another exponent field
+abbrev pub atField : Side → Biased → Side
+atField x e = record { sign = x .sign; exponent = e; fraction = x .fraction }
+
+-- the mask c with another mask on its exponent field
+unfoldable pub withExponent : Format → Mask → Mask → Mask
+withExponent F c n = record {
+  care = signMask F c .care * 2 ^ (F .w + F .f) + (n .care * 2 ^ F .f + fractionMask F c .care);
+  value = signMask F c .value * 2 ^ (F .w + F .f) + (n .value * 2 ^ F .f + fractionMask F c .value);
+}
+
+-- the job that asks for another mask of c's exponent field
+abbrev pub asking : Job → Mask → Job
+asking j n = withWanted C j (withMask (j .c) (withExponent (j .setting .format) (j .c .mask) n))
+
+-- the mask of one exponent field
+abbrev pub onlyField : Format → Biased → Mask
+onlyField F i = record { care = allOnes F; value = i .0 }
+
+-- the pair that stands for the class k admits a case, where n is asked of c's exponent field
+abbrev pub ClassAdmits : Job → Class → Mask → Type 0
+ClassAdmits j k n = InOrder (SomeSigns (asking j n)) (k .order) (topField (j .setting .format .f)) (k .low)
+
+-- a class has an order and a smaller field
+pub record ClassIn (f : ℕ) (k : Class) : Type 0 where
+  pub order-lt : k .order < 2
+  pub low-le : k .low .0 ≤ topField f .0
+
+-- ---- the pairs that their classes answer for
+
+-- a format with fields enough: c's greatest one there is finite, and so is the one after the next
+abbrev pub Wide : Format → Type 0
+Wide F = mostField (F .f) + 3 ≤ allOnes F
+
+-- no word past the largest finite number meets c: those have the fraction 0 or all ones
+pub record NeverPast (F : Format) (c : Mask) : Type 0 where
+  pub zeros : Meets 0 (fractionMask F c) → ⊥
+  pub ones : Meets (2 ^ F .f - 1) (fractionMask F c) → ⊥
+
+-- each sum of operands with the fields E and e, E the larger, is 0 or has digits enough for a normal number, by the unit or by the gap
+abbrev pub Normal : ℕ → Biased → Biased → Type 0
+Normal f E e = (topField f .0 ≤ E .0) ⊎ ((1 ≤ e .0) × (e .0 + 2 ≤ E .0))
+
+-- and no word that meets c is past the largest finite number
+pub record Classed (F : Format) (c : Mask) (E e : Biased) : Type 0 where
+  pub wide : Wide F
+  pub normal : Normal (F .f) E e
+  pub within : (E .0 + 3 ≤ allOnes F) ⊎ NeverPast F c
