@@ -23,6 +23,7 @@ use Rattle.adder.specs.declared.Row.the-variants.{Carries}
 use Rattle.adder.specs.Row.{carryIn, carryAt, finiteRow, kindRow, rowOf}
 use Rattle.adder.specs.Result.{finiteSum, kindSum, result}
 use Rattle.rounding.proofs.Outcome.{outcome-held}
+use Rattle.rounding.proofs.Widths.{guards}
 use Rattle.rounding.proofs.Align as align
 use Rattle.word.proofs.Canonical.{unit-le, operand-finite}
 use Rattle.word.proofs.Fields.{effective-sign, effective-biased, effective-fraction}
@@ -119,14 +120,14 @@ module _ (F : Format) (ok : Supported F) (x y : record-of.Finite) (cx : Canonica
           (align.sum-held F (x .significand) (y .significand) u v d gap (cx .significand-lt) (cy .significand-lt) normal)
           (align.sum-lt F (x .significand) (y .significand) u v d gap (cx .significand-lt) (cy .significand-lt) normal) (inl refl))
       go (no e) (yes m) =
-          let t = align.equal-tail guardBits align.guards (x .significand) (y .significand) u v d gap .0 m in
+          let t = align.equal-tail guardBits guards (x .significand) (y .significand) u v d gap .0 m in
           let z : headOf guardBits - tailOf guardBits ≡ 0 = omega arith in
           rw (ne-eqb _ _ e, z) (sum-cancelled F mode x y e m)
       go (no e) (no m) =
           let l = le (ne-eqb _ _ e) in
           let lt = align.sum-lt F (x .significand) (y .significand) u v d gap (cx .significand-lt) (cy .significand-lt) normal in
-          let o = tail-ordered guardBits align.guards .1 l in
-          let ne : (headOf guardBits - tailOf guardBits ≡ 0 → ⊥) = λ z. m (align.equal-tail guardBits align.guards (x .significand) (y .significand) u v d gap .1 (omega arith)) in
+          let o = tail-ordered guardBits guards .1 l in
+          let ne : (headOf guardBits - tailOf guardBits ≡ 0 → ⊥) = λ z. m (align.equal-tail guardBits guards (x .significand) (y .significand) u v d gap .1 (omega arith)) in
           rw (ne-eqb _ _ e)
           (sum-unlike F mode x y e (omega (arith, m))
           ∙ outcome-held F ok mode (x .sign) (magnitude x - magnitude y) (headOf guardBits - tailOf guardBits) (unitOf (x .exponent)) false

@@ -10,7 +10,7 @@ use native.Mathlib.Omega.{arith}
 use borrow.Author.Tests.{not-true, eq-eqb}
 use lib.Bits.{bitAnd, and-zero-r}
 use lib.Dec.{eqb}
-use lib.Pow.{pow-pos, pow-mono, pow-add, add-lt-pow, shl-shr}
+use lib.Pow.{pow-mono, add-lt-pow, shl-shr}
 use Rattle.bits.specs.Bit.{bit}
 use Rattle.bits.proofs.Laws.{bit-mod, bit-shr, bit-above}
 use Rattle.mask.specs.declared.Mask.{Mask}
@@ -22,6 +22,7 @@ use Rattle.columns.specs.Carry.{combined, carryOf}
 use Rattle.chain.specs.Chain.{Solved, Answered}
 use Rattle.outcome.specs.declared.Aligned as pair
 use Rattle.rounding.specs.Width.{guardBits, alignedBits, sumBits, columnsOf, mostRounded, shortBits, maskBits}
+use Rattle.rounding.proofs.Widths.{sum-width, columns-width, rounded-le}
 use Rattle.outcome.specs.Outcome.{Formed, Making}
 
 -- the wires of a question
@@ -76,9 +77,6 @@ pub combined-lt : (subtract : Bool) (l t k : ℕ) → l < 2 ^ k → t < 2 ^ k �
 combined-lt true l t k hl ht = lt-of-le-of-lt (sub-le l t) (lt-of-lt-of-le hl (pow-mono {i = k} {j = suc k} (omega arith)))
 combined-lt false l t k hl ht = add-lt-pow k hl ht
 
-pub sum-width : (f : ℕ) → suc (alignedBits f) ≡ sumBits f
-sum-width f = omega arith
-
 module _ (f : ℕ) (A : pair.Aligned) (formed : Formed f A) (most : columnsOf f < 64) (x z : Mask) (constant carry : ℕ) where
   below : (n : ℕ) → n < 2 ^ columnsOf f → n < 2 ^ maskBits
   below n h = lt-of-lt-of-le h (pow-mono {i = columnsOf f} {j = maskBits} (omega arith))
@@ -107,10 +105,9 @@ module _ (f : ℕ) (A : pair.Aligned) (formed : Formed f A) (most : columnsOf f 
   asked-complete hc hg m =
       let w = m .made in
       let n = combined-lt (not (A .like)) (w .H) (w .T) (alignedBits f) (w .head-lt) (w .tail-lt) in
-      let p : 2 ^ columnsOf f ≡ 2 ^ f * 2 ^ (3 + guardBits) = pow-add 2 f (3 + guardBits) in
-      let q : 2 ^ alignedBits f ≡ 2 ^ f * 2 ^ (1 + guardBits) = pow-add 2 f (1 + guardBits) in
-      let r : 2 ^ suc (alignedBits f) ≡ 2 ^ f * 2 ^ (2 + guardBits) = ap (λ (e : ℕ). 2 ^ e) (sum-width f) ∙ pow-add 2 f (2 + guardBits) in
-      let o = pow-pos f in
+      let c : 2 ^ mostRounded ≤ 2 ^ alignedBits f = pow-mono (rounded-le f) in
+      let s : 2 ^ sumBits f ≡ 2 ^ suc (alignedBits f) = ap (λ (e : ℕ). 2 ^ e) (sym (sum-width f)) in
+      let p : 2 ^ columnsOf f ≡ 2 ^ suc (sumBits f) = ap (λ (e : ℕ). 2 ^ e) (sym (columns-width f)) in
       record {
         l-lt = omega (arith, w .head-lt);
         t-lt = omega (arith, w .tail-lt);

@@ -15,11 +15,12 @@ use Rattle.mask.specs.Mask.{Meets, meets, high}
 use Rattle.mask.proofs.ByParts.{meets-parts}
 use Rattle.mask.proofs.Checks.{meets-true}
 use Rattle.rounding.specs.Width.{guardBits, alignedBits, smallBits, sumBits}
+use Rattle.rounding.proofs.Widths.{sum-width}
 use Rattle.rounding.proofs.Size.{size-least}
 use Rattle.columns.specs.Carry.{combined}
 use Rattle.outcome.specs.declared.Aligned as pair
 use Rattle.outcome.specs.Outcome.{Made}
-use Rattle.outcome.proofs.Asked.{combined-lt, sum-width}
+use Rattle.outcome.proofs.Asked.{combined-lt}
 
 -- a test of the high part
 pub high-tested : (v k : ℕ) (m h : Mask) (r b : Bool) → h ≡ high k m → r ≡ meets v h → r ≡ b → meets v (high k m) ≡ b

@@ -25,7 +25,7 @@ use Rattle.word.specs.Word.{significand, unitOf}
 use Rattle.word.specs.Operand.{magnitude, Canonical}
 use Rattle.rounding.specs.Sticky.{headAt, tailAt}
 use Rattle.rounding.specs.Width.{guardBits, alignedBits, shortBits, maskBits}
-use Rattle.rounding.proofs.Align.{guards, aligned-width}
+use Rattle.rounding.proofs.Widths.{guards, aligned-width}
 use Rattle.adder.specs.Result.{finiteSum}
 use Rattle.adder.specs.Row.{finiteRow}
 use Rattle.word.proofs.Canonical.{significand-bounds, unit-le}

@@ -9,12 +9,13 @@ use native.Mathlib.Decide.{decLt, decLe}
 use native.Mathlib.Omega.{arith}
 use borrow.Author.Tests.{ltb-true, ltb-false, lt-ltb, le-ltb, eqb-true, eq-eqb}
 use lib.Dec.{eqb}
-use lib.Pow.{pow-pos, pow-mono, pow-add, shr-le}
+use lib.Pow.{pow-pos, pow-mono, pow-add, add-lt-pow, shr-le}
 use Rattle.format.specs.declared.Format.{Format}
 use Rattle.format.specs.Format.{precision}
 use Rattle.rounding.specs.Sticky.{sticky, withSticky, guardedAt, headAt, tailAt, guarded, Held}
 use Rattle.rounding.specs.Width.{guardBits, alignedBits, smallBits, sumBits}
 use Rattle.bits.proofs.Division.{mod-scale, mul-sub-right}
+use Rattle.rounding.proofs.Widths.{guards, aligned-width, sum-width}
 use Rattle.rounding.proofs.Sticky.{above-sticky, equal-sticky, with-sticky-scale, with-sticky-add, with-sticky-sub, with-sticky-none, with-sticky-bounds}
 
 -- above a number of units, or not: with the sticky bit too; and equal to it exactly when equal
@@ -147,14 +148,7 @@ module _ (q : ℕ) (some : 0 < q) where
               mul-comm (2 ^ (q - 1)) R ∙ ap (λ (n : ℕ). R * 2 ^ n) (sym back) ∙ ap (λ (n : ℕ). R * n) (pow-add 2 (q - 1 - d) d)
               ∙ sym (mul-assoc R (2 ^ (q - 1 - d)) (2 ^ d))
 
--- ---- with the guard bits
-pub guards : 0 < guardBits
-guards = omega arith
-
-pub aligned-width : (F : Format) → precision F + guardBits ≡ alignedBits (F .f)
-aligned-width F = omega arith
-
--- two canonical operands: l is normal but in the least unit
+-- ---- with the guard bits, two canonical operands: l is normal but in the least unit
 module _ (F : Format) (L R u v d : ℕ) (units : d + v ≡ u) (hL : L < 2 ^ precision F) (hR : R < 2 ^ precision F) (normal : 0 < u → 2 ^ F .f ≤ L) where
   head-lt : headAt guardBits L < 2 ^ alignedBits (F .f)
   head-lt = subst (λ (k : ℕ). headAt guardBits L < 2 ^ k) (aligned-width F) (head-short guardBits guards (precision F) L hL)
@@ -163,7 +157,7 @@ module _ (F : Format) (L R u v d : ℕ) (units : d + v ≡ u) (hL : L < 2 ^ prec
   tail-lt = subst (λ (k : ℕ). tailAt guardBits R d < 2 ^ k) (aligned-width F) (tail-short guardBits guards (precision F) R hR d)
 
   pub sum-lt : headAt guardBits L + tailAt guardBits R d < 2 ^ sumBits (F .f)
-  sum-lt = let p = pow-add 2 (F .f) (1 + guardBits) in let q = pow-add 2 (F .f) (2 + guardBits) in omega (arith, head-lt, tail-lt)
+  sum-lt = subst (λ (k : ℕ). headAt guardBits L + tailAt guardBits R d < 2 ^ k) (sum-width (F .f)) (add-lt-pow (alignedBits (F .f)) head-lt tail-lt)
 
   pub sum-held : Held F (L * 2 ^ u + R * 2 ^ v) (headAt guardBits L + tailAt guardBits R d) u
   sum-held = record { stands = sym (sum-stands guardBits guards L R u v d units); exact-or-long = go u refl }

@@ -2,6 +2,7 @@
 -- and sticky bit. No definition of the promise cites this file. Assumes nothing.
 use Prim.Native.Nat.{ℕ, _+_, _-_}
 
+-- three or more: a difference that loses its top bit still has a round bit and the sticky bit below its last one
 abbrev pub guardBits : ℕ
 guardBits = 3
 

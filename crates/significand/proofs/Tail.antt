@@ -17,7 +17,8 @@ use Rattle.mask.proofs.Checks.{wellFormed-true}
 use Rattle.rounding.specs.Sticky.{sticky, withSticky, guardedAt, headAt, tailAt}
 use Rattle.rounding.specs.Width.{guardBits, shortBits, maskBits}
 use Rattle.rounding.proofs.Sticky.{sticky-lt}
-use Rattle.rounding.proofs.Align.{guards, tail-none, tail-short}
+use Rattle.rounding.proofs.Widths.{guards, short-room}
+use Rattle.rounding.proofs.Align.{tail-none, tail-short}
 use Rattle.significand.specs.Tail.{least, greatest, spanned, formsMask, alignedMask, tailMask}
 use Rattle.significand.proofs.Part.{Part, part-le, part-shr, part-mod, part-block, part-scale, part-unscale, part-with-sticky}
 use Rattle.significand.proofs.Range.{greatest-lt, meets-range, spanned-formed, spanned-meets}
@@ -136,9 +137,6 @@ forms-far n q p m d e w hd he = ap₂ (spanned n) (same (least m) (value-below p
 pub aligned-zero : (r : ℕ) → tailAt guardBits r 0 ≡ headAt guardBits r
 aligned-zero r = tail-none guardBits guards r
 
-pub guard-room : (p : ℕ) → p ≤ shortBits → p + guardBits ≤ maskBits
-guard-room p h = omega arith
-
 module _ (p : ℕ) (m : Mask) (d : ℕ) (hp : p ≤ shortBits) (w : WellFormed p m) where
   pub tail-aligned : tailMask p m d ≡ alignedMask p m d
   unfolding tailMask
@@ -146,13 +144,13 @@ module _ (p : ℕ) (m : Mask) (d : ℕ) (hp : p ≤ shortBits) (w : WellFormed p
 
   pub tail-sound : (r : ℕ) → r < 2 ^ p → Meets r m → Meets (tailAt guardBits r d) (tailMask p m d) × (tailAt guardBits r d < 2 ^ (p + guardBits))
   tail-sound r h met =
-      (rw tail-aligned (forms-sound maskBits guardBits p m d guards (guard-room p hp) w r h met), tail-short guardBits guards p r h d)
+      (rw tail-aligned (forms-sound maskBits guardBits p m d guards (short-room p hp) w r h met), tail-short guardBits guards p r h d)
 
   pub tail-complete : (t : ℕ) → t < 2 ^ maskBits → Meets t (tailMask p m d) → (r : ℕ) × (r < 2 ^ p) × Meets r m × (tailAt guardBits r d ≡ t)
-  tail-complete t h met = forms-complete maskBits guardBits p m d guards (guard-room p hp) w t h (rw tail-aligned at met)
+  tail-complete t h met = forms-complete maskBits guardBits p m d guards (short-room p hp) w t h (rw tail-aligned at met)
 
   pub tail-below : (t : ℕ) → t < 2 ^ maskBits → Meets t (tailMask p m d) → t < 2 ^ (p + guardBits)
-  tail-below t h met = forms-below maskBits guardBits p m d guards (guard-room p hp) w t h (rw tail-aligned at met)
+  tail-below t h met = forms-below maskBits guardBits p m d guards (short-room p hp) w t h (rw tail-aligned at met)
 
 pub tail-far : (p : ℕ) (m : Mask) (d e : ℕ) → p ≤ shortBits → WellFormed p m → p + (guardBits - 1) ≤ d → p + (guardBits - 1) ≤ e → tailMask p m d ≡ tailMask p m e
 tail-far p m d e hp w hd he = tail-aligned p m d hp w ∙ forms-far maskBits guardBits p m d e w hd he ∙ sym (tail-aligned p m e hp w)

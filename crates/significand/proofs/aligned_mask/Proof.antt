@@ -11,11 +11,11 @@ use Rattle.mask.specs.Mask.{WellFormed}
 use Rattle.mask.proofs.ByBits.{value-below}
 use Rattle.rounding.specs.Sticky.{tailAt}
 use Rattle.rounding.specs.Width.{guardBits, shortBits, maskBits}
-use Rattle.rounding.proofs.Align.{guards}
+use Rattle.rounding.proofs.Widths.{guards, short-room}
 use Rattle.significand.specs.Tail.{least, greatest, spanned}
 use Rattle.significand.proofs.Part.{part-le}
 use Rattle.significand.proofs.Range.{greatest-lt, greatest-word}
-use Rattle.significand.proofs.Tail.{ends-part, ends-lt, guard-room}
+use Rattle.significand.proofs.Tail.{ends-part, ends-lt}
 use Rattle.significand.proofs.aligned_mask.Statement.{statement}
 use Rattle.significand.proofs.aligned_mask.Tie as tie
 
@@ -53,7 +53,7 @@ spanned-requires c κs =
     let a = s .args in
     let l = least-form (c .before .before) in
     let g = greatest-form c in
-    let room = guard-room (a .p) (s .pre .0) in
+    let room = short-room (a .p) (s .pre .0) in
     let part = part-le (tailAt guardBits (least (a .m)) (a .gap)) (tailAt guardBits (greatest (a .p) (a .m)) (a .gap)) (ends-part maskBits guardBits (a .p) (a .m) (a .gap) guards room (s .pre .1)) in
     omega (arith, ends-lt maskBits guardBits (a .p) (a .m) (a .gap) guards room (s .pre .1))
 

@@ -16,6 +16,7 @@ use Rattle.rounding.specs.Sticky.{headAt, tailAt, Held, Roundable}
 use Rattle.rounding.specs.Width.{guardBits, sumBits, shortBits}
 use Rattle.format.proofs.Room.{significand-room}
 use Rattle.word.proofs.Canonical.{gap-le}
+use Rattle.rounding.proofs.Widths.{guards}
 use Rattle.rounding.proofs.Align as align
 use Rattle.rounding.proofs.Rounded.{cancelled-lt}
 use Rattle.adder.proofs.FiniteSum.{sum-like, sum-unlike, sum-cancelled}
@@ -53,7 +54,7 @@ module _ (F : Format) (l r : record-of.Finite) (ok : Supported F) (cl : Canonica
     normal p = cl .normal (omega (arith, up))
 
     head : h ≡ headAt guardBits (l .significand)
-    head = eh (short l cl) ∙ align.tail-none guardBits align.guards (l .significand)
+    head = eh (short l cl) ∙ align.tail-none guardBits guards (l .significand)
 
     tail : t ≡ tailAt guardBits (r .significand) (u .0 - v .0)
     tail = et (short r cr)
@@ -77,10 +78,10 @@ module _ (F : Format) (l r : record-of.Finite) (ok : Supported F) (cl : Canonica
           sum-lt = below;
           sum-fits = lt-of-lt-of-le below (pow-mono {i = sumBits (F .f)} {j = 64} (omega (arith, significand-room F ok)));
           sum-held = rw (head, tail, ← exact-l, ← exact-r) (align.sum-held F L R (u .0) (v .0) (u .0 - v .0) units (cl .significand-lt) (cr .significand-lt) normal);
-          tail-le = rw (head, tail) (align.tail-ordered guardBits align.guards L R (u .0) (v .0) (u .0 - v .0) units .1 not-above);
+          tail-le = rw (head, tail) (align.tail-ordered guardBits guards L R (u .0) (v .0) (u .0 - v .0) units .1 not-above);
           difference-held = rw (head, tail, ← exact-l, ← exact-r)
               (align.difference-held F L R (u .0) (v .0) (u .0 - v .0) units (cl .significand-lt) (cr .significand-lt) normal not-above);
-          equal = rw (head, tail, ← exact-l, ← exact-r) (align.equal-tail guardBits align.guards L R (u .0) (v .0) (u .0 - v .0) units);
+          equal = rw (head, tail, ← exact-l, ← exact-r) (align.equal-tail guardBits guards L R (u .0) (v .0) (u .0 - v .0) units);
         }
 
 unit-of-requires : tie.Need-unit-of-requires

@@ -13,7 +13,7 @@ use Rattle.mask.specs.declared.Mask.{Mask}
 use Rattle.mask.specs.Mask.{WellFormed}
 use Rattle.word.specs.declared.Unit as exponent
 use Rattle.word.specs.Word.{unitOf}
-use Rattle.rounding.proofs.Align.{aligned-width}
+use Rattle.rounding.proofs.Widths.{aligned-width}
 use Rattle.significand.specs.Tail.{tailMask}
 use Rattle.significand.proofs.Significand.{significand-formed}
 use Rattle.significand.proofs.Tail.{tail-below}
