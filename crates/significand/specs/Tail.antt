@@ -1,7 +1,7 @@
 -- The mask on the aligned forms of all the significands that meet a mask. An aligned form is R "counted in L's unit" (document 01, "The
--- carry row") with some bits more, the last of them the sticky bit. A bit of the significand that rises from 0 to 1 makes no bit of the aligned
--- form fall, not the sticky bit either; so what is fixed is what the aligned forms of the least and of the greatest significand agree in.
--- Assumes nothing.
+-- carry row") with some bits more, the last of them the sticky bit. A bit of the significand that rises from 0 to 1 makes no bit of the
+-- aligned form fall, not the sticky bit either; so what is fixed is what the aligned forms of the least and of the greatest significand
+-- agree in. Assumes nothing.
 use mathlib.Core.Bool.{_&&_}
 use Prim.Native.Nat.{ℕ, _+_, _-_, _^_}
 use lib.Dec.{leb}
@@ -27,7 +27,7 @@ abbrev pub spanned : ℕ → ℕ → ℕ → Mask
 spanned k l g = record { care = complement k (g - l); value = l }
 
 -- the mask on n bits of the aligned forms, for a gap of d places and with q bits below the larger operand's last one, of the significands of
--- p bits that meet m; it fixes the bits from p + q on to 0
+-- p bits that meet m; a number of n bits that meets it has p + q at most
 abbrev pub formsMask : ℕ → ℕ → ℕ → Mask → ℕ → Mask
 formsMask n q p m d = spanned n (tailAt q (least m) d) (tailAt q (greatest p m) d)
 

@@ -1,5 +1,5 @@
--- `significand::aligned_mask` meets its contract: the aligned forms of the least and the greatest number are numbers of as many bits as the mask has, and the
--- first is a part of the second. Assumes nothing.
+-- `significand::aligned_mask` meets its contract: the aligned forms of the least and the greatest number have no more bits than the mask,
+-- and the first is a part of the second. Assumes nothing.
 use borrow.Author.Needs.{needs}
 use mathlib.Core.Path.{_≡_, ap, ap₂, _∙_}
 use Prim.Native.Nat.{ℕ, _^_, _≤_, _<_}
