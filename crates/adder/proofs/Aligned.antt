@@ -1,28 +1,29 @@
 -- What the adder publishes beside its contracts: c and the carry row of two finite words, from their fields and from their aligned
--- significands. Of operands x and y, y's unit not above x's, H is 8 times x's significand and T is y's with guard, round and sticky bit.
--- Where the signs are unlike y is not the larger. The search cites this law and no other of the adder. Assumes nothing.
-use mathlib.Core.Path.{_≡_, refl, sym, ap, ap₂, _∙_, subst}
+-- significands. Of operands x and y, y's unit not above x's, H is x's significand with some bits below it, and T is y's aligned to it: c
+-- comes from them with the guard bits, the row with any number of bits. Where the signs are unlike y is not the larger. The search cites
+-- these laws and no other of the adder. Assumes nothing.
+use mathlib.Core.Path.{_≡_, refl, sym, ap, ap₂, _∙_}
 use mathlib.Core.Bool.{Bool, true, false, not, cond}
 use mathlib.Core.Logic.{inl, inr, _↔_}
-use Prim.Native.Nat.{ℕ, suc, _+_, _-_, _*_, _/_, _%_, _^_, _≤_, _<_}
-use native.Mathlib.Nat.{add-comm, mul-assoc, div-add-mod', mod-lt, lt-of-mul-lt-mul-right, le-of-lt, not-le-of-lt}
+use Prim.Native.Nat.{ℕ, suc, _+_, _-_, _%_, _^_, _≤_, _<_}
+use native.Mathlib.Nat.{add-comm, le-of-lt, not-le-of-lt}
 use native.Mathlib.Decide.{decLt, ℕ-discrete}
 use native.Mathlib.Omega.{arith}
-use borrow.Author.Tests.{lt-ltb, le-ltb, eq-eqb, ne-eqb, ltb-true}
+use borrow.Author.Tests.{lt-ltb, le-ltb, eq-eqb, ne-eqb}
 use lib.Dec.{ltb, leb, eqb}
-use lib.Pow.{pow-pos, pow-add}
 use Rattle.bits.specs.Bit.{bit}
 use Rattle.format.specs.declared.Format.{Format}
 use Rattle.format.specs.Format.{Supported, precision}
 use Rattle.word.specs.declared.Finite as record-of
 use Rattle.word.specs.Word.{fraction, biased, sign, unitOf, effective, allOnes, significand}
 use Rattle.word.specs.Operand.{finiteOf, magnitude, Canonical}
-use Rattle.rounding.specs.Sticky.{sticky, withSticky}
+use Rattle.rounding.specs.Sticky.{headAt, tailAt}
+use Rattle.rounding.specs.Width.{guardBits}
 use Rattle.adder.specs.declared.Row.the-variants.{Carries}
 use Rattle.adder.specs.Row.{carryIn, carryAt, finiteRow, kindRow, rowOf}
 use Rattle.adder.specs.Result.{finiteSum, kindSum, result}
-use Rattle.rounding.proofs.Sticky.{above-sticky}
 use Rattle.rounding.proofs.Outcome.{outcome-held}
+use Rattle.rounding.proofs.Widths.{guards}
 use Rattle.rounding.proofs.Align as align
 use Rattle.word.proofs.Canonical.{unit-le, operand-finite}
 use Rattle.word.proofs.Fields.{effective-sign, effective-biased, effective-fraction}
@@ -72,14 +73,6 @@ row-lt F x y = finite-row-lt F x y
 
 -- ---- from aligned significands
 
--- above a number of units, and so with the sticky bit
-with-sticky-lt : (L Z d : ℕ) → L * 2 ^ d < Z → 2 * L < withSticky Z d
-unfolding withSticky
-with-sticky-lt L Z d h =
-    let w = div-add-mod' Z (2 ^ d) in
-    let t = sym (above-sticky L (Z / 2 ^ d) (Z % 2 ^ d) (2 ^ d) (mod-lt Z (pow-pos d))) ∙ lt-ltb (L * 2 ^ d) (Z / 2 ^ d * 2 ^ d + Z % 2 ^ d) (omega arith) in
-    omega (arith, ltb-true (2 * L) (2 * (Z / 2 ^ d) + sticky (Z % 2 ^ d)) t)
-
 module _ (F : Format) (ok : Supported F) (x y : record-of.Finite) (cx : Canonical F x) (cy : Canonical F y)
     (units : unitOf (y .exponent) .0 ≤ unitOf (x .exponent) .0) where
   u : ℕ
@@ -91,9 +84,12 @@ module _ (F : Format) (ok : Supported F) (x y : record-of.Finite) (cx : Canonica
   d : ℕ
   d = unitOf (x .exponent) .0 - unitOf (y .exponent) .0
 
-  -- the aligned significand of y
-  abbrev pub tailOf : ℕ
-  tailOf = withSticky (4 * y .significand) (unitOf (x .exponent) .0 - unitOf (y .exponent) .0)
+  -- the significand of x with q bits below it, and that of y aligned to it
+  abbrev pub headOf : ℕ → ℕ
+  headOf q = headAt q (x .significand)
+
+  abbrev pub tailOf : ℕ → ℕ
+  tailOf q = tailAt q (y .significand) (unitOf (x .exponent) .0 - unitOf (y .exponent) .0)
 
   gap : d + v ≡ u
   unfolding u v d
@@ -103,81 +99,71 @@ module _ (F : Format) (ok : Supported F) (x y : record-of.Finite) (cx : Canonica
   unfolding u
   normal h = cx .normal (omega arith)
 
-  -- the difference is ordered as the magnitudes are
-  pub tail-ordered : tailOf ≤ 8 * x .significand ↔ (magnitude y ≤ magnitude x)
+  -- the two are ordered as the magnitudes are
+  pub tail-ordered : (q : ℕ) → 0 < q → tailOf q ≤ headOf q ↔ (magnitude y ≤ magnitude x)
   unfolding u v d
-  tail-ordered = (
-    λ h. go h (decLt (magnitude x) (magnitude y)),
-    λ h. align.tail-le F (x .significand) (y .significand) u v d gap (cx .significand-lt) (cy .significand-lt) normal h,
-  )
-    where
-      scaled : x .significand * 2 ^ u ≡ x .significand * 2 ^ d * 2 ^ v
-      scaled = ap (λ (k : ℕ). x .significand * 2 ^ k) (sym gap) ∙ ap (λ (m : ℕ). x .significand * m) (pow-add 2 d v) ∙ sym (mul-assoc (x .significand) (2 ^ d) (2 ^ v))
+  tail-ordered q some = align.tail-ordered q some (x .significand) (y .significand) u v d gap
 
-      go : tailOf ≤ 8 * x .significand → Dec (magnitude x < magnitude y) → magnitude y ≤ magnitude x
-      go h (yes l) =
-          let q : x .significand * 2 ^ d < y .significand = lt-of-mul-lt-mul-right (2 ^ v) (subst (λ (n : ℕ). n < magnitude y) scaled l) in
-          let t = with-sticky-lt (4 * x .significand) (4 * y .significand) d (omega (arith, mul-assoc 4 (x .significand) (2 ^ d))) in
-          absurd (omega arith)
-      go h (no l) = omega arith
+  -- c, from what they make with the guard bits
 
   pub sum-outcome : (mode : ℕ) → (eqb (x .sign) (y .sign) ≡ false → magnitude y ≤ magnitude x)
-      → finiteSum F mode x y ≡ outcome F mode (eqb (x .sign) (y .sign)) (x .sign) (unitOf (x .exponent)) (combined (not (eqb (x .sign) (y .sign))) (8 * x .significand) tailOf)
+      → finiteSum F mode x y ≡ outcome F mode (eqb (x .sign) (y .sign)) (x .sign) (unitOf (x .exponent)) (combined (not (eqb (x .sign) (y .sign))) (headOf guardBits) (tailOf guardBits))
   unfolding u v d outcome
   sum-outcome mode le = go (ℕ-discrete (x .sign) (y .sign)) (ℕ-discrete (magnitude x) (magnitude y))
     where
       go : Dec (x .sign ≡ y .sign) → Dec (magnitude x ≡ magnitude y)
-          → finiteSum F mode x y ≡ outcome F mode (eqb (x .sign) (y .sign)) (x .sign) (unitOf (x .exponent)) (combined (not (eqb (x .sign) (y .sign))) (8 * x .significand) tailOf)
+          → finiteSum F mode x y ≡ outcome F mode (eqb (x .sign) (y .sign)) (x .sign) (unitOf (x .exponent)) (combined (not (eqb (x .sign) (y .sign))) (headOf guardBits) (tailOf guardBits))
       go (yes e) m =
           rw (eq-eqb _ _ e)
           (sum-like F mode x y e
-          ∙ outcome-held F ok mode (x .sign) (magnitude x + magnitude y) (8 * x .significand + tailOf) (unitOf (x .exponent)) true
+          ∙ outcome-held F ok mode (x .sign) (magnitude x + magnitude y) (headOf guardBits + tailOf guardBits) (unitOf (x .exponent)) true
           (align.sum-held F (x .significand) (y .significand) u v d gap (cx .significand-lt) (cy .significand-lt) normal)
           (align.sum-lt F (x .significand) (y .significand) u v d gap (cx .significand-lt) (cy .significand-lt) normal) (inl refl))
       go (no e) (yes m) =
-          let t = align.equal-tail F (x .significand) (y .significand) u v d gap (cx .significand-lt) (cy .significand-lt) normal .0 m in
-          let z : 8 * x .significand - tailOf ≡ 0 = omega arith in
+          let t = align.equal-tail guardBits guards (x .significand) (y .significand) u v d gap .0 m in
+          let z : headOf guardBits - tailOf guardBits ≡ 0 = omega arith in
           rw (ne-eqb _ _ e, z) (sum-cancelled F mode x y e m)
       go (no e) (no m) =
           let l = le (ne-eqb _ _ e) in
           let lt = align.sum-lt F (x .significand) (y .significand) u v d gap (cx .significand-lt) (cy .significand-lt) normal in
-          let o = tail-ordered .1 l in
-          let ne : (8 * x .significand - tailOf ≡ 0 → ⊥) = λ z. m (align.equal-tail F (x .significand) (y .significand) u v d gap (cx .significand-lt) (cy .significand-lt) normal .1 (omega arith)) in
+          let o = tail-ordered guardBits guards .1 l in
+          let ne : (headOf guardBits - tailOf guardBits ≡ 0 → ⊥) = λ z. m (align.equal-tail guardBits guards (x .significand) (y .significand) u v d gap .1 (omega arith)) in
           rw (ne-eqb _ _ e)
           (sum-unlike F mode x y e (omega (arith, m))
-          ∙ outcome-held F ok mode (x .sign) (magnitude x - magnitude y) (8 * x .significand - tailOf) (unitOf (x .exponent)) false
+          ∙ outcome-held F ok mode (x .sign) (magnitude x - magnitude y) (headOf guardBits - tailOf guardBits) (unitOf (x .exponent)) false
           (align.difference-held F (x .significand) (y .significand) u v d gap (cx .significand-lt) (cy .significand-lt) normal l)
           (omega arith) (inr ne))
 
-  -- a test of the row, from the aligned significands
-  row-test : (i : ℕ) (t : Bool) → flag (carryAt t (magnitude x) (magnitude y) u i) ≡ carryOf (not t) (8 * x .significand) tailOf (i + 4)
-  unfolding u v d
-  row-test i t =
-      ap flag
-      (row-bit (x .significand) (y .significand) u v d i gap t
-      ∙ ap₂ (λ (q s : ℕ). carryIn t (x .significand) q s i) (sym (tail-whole (y .significand) d)) (sym (tail-sticky (y .significand) d)))
-      ∙ sym (column-carry (x .significand) tailOf i t)
+  -- the row, from what they make with any number of bits below
+  module _ (q : ℕ) (some : 0 < q) where
+    row-test : (i : ℕ) (t : Bool) → flag (carryAt t (magnitude x) (magnitude y) u i) ≡ carryOf (not t) (headOf q) (tailOf q) (i + suc q)
+    unfolding u v d
+    row-test i t =
+        ap flag
+        (row-bit (x .significand) (y .significand) u v d i gap t
+        ∙ ap₂ (λ (r s : ℕ). carryIn t (x .significand) r s i) (sym (tail-whole q some (y .significand) d)) (sym (tail-sticky q some (y .significand) d)))
+        ∙ sym (column-carry q (x .significand) (tailOf q) i t)
 
-  pub row-columns : (eqb (x .sign) (y .sign) ≡ false → magnitude y ≤ magnitude x) → (i : ℕ) → i < precision F
-      → bit (finiteRow F x y) i ≡ carryOf (not (eqb (x .sign) (y .sign))) (8 * x .significand) tailOf (i + 4)
-  unfolding u v finiteRow
-  row-columns le i h = go (decLt (magnitude x) (magnitude y)) (ℕ-discrete (x .sign) (y .sign))
-    where
-      ordered : (l r : record-of.Finite) → ℕ
-      ordered l r = Rattle.adder.specs.Row.orderedRow F l r
+    pub row-columns : (eqb (x .sign) (y .sign) ≡ false → magnitude y ≤ magnitude x) → (i : ℕ) → i < precision F
+        → bit (finiteRow F x y) i ≡ carryOf (not (eqb (x .sign) (y .sign))) (headOf q) (tailOf q) (i + suc q)
+    unfolding u v finiteRow
+    row-columns le i h = go (decLt (magnitude x) (magnitude y)) (ℕ-discrete (x .sign) (y .sign))
+      where
+        ordered : (l r : record-of.Finite) → ℕ
+        ordered l r = Rattle.adder.specs.Row.orderedRow F l r
 
-      go : Dec (magnitude x < magnitude y) → Dec (x .sign ≡ y .sign)
-          → bit (cond (ltb (magnitude x) (magnitude y)) (ordered y x) (ordered x y)) i ≡ carryOf (not (eqb (x .sign) (y .sign))) (8 * x .significand) tailOf (i + 4)
-      go (no l) s =
-          rw (le-ltb (magnitude x) (magnitude y) (omega arith))
-          (gather-bit (precision F) (carryAt (eqb (x .sign) (y .sign)) (magnitude x) (magnitude y) u) i h ∙ row-test i (eqb (x .sign) (y .sign)))
-      go (yes l) (no s) = absurd (not-le-of-lt l (le (ne-eqb _ _ s)))
-      go (yes l) (yes s) =
-          let same : v ≡ u = omega (arith, unit-le F y x cy cx (le-of-lt l)) in
-          let M = 2 ^ (v + suc i) in
-          rw (lt-ltb (magnitude x) (magnitude y) l, eq-eqb _ _ s)
-          (gather-bit (precision F) (carryAt (eqb (y .sign) (x .sign)) (magnitude y) (magnitude x) v) i h
-          ∙ ap (λ (t : Bool). flag (carryAt t (magnitude y) (magnitude x) v i)) (eq-eqb _ _ (sym s))
-          ∙ ap (λ (n : ℕ). flag (leb M n)) (add-comm (magnitude y % M) (magnitude x % M))
-          ∙ ap (λ (n : ℕ). flag (carryAt true (magnitude x) (magnitude y) n i)) same
-          ∙ row-test i true)
+        go : Dec (magnitude x < magnitude y) → Dec (x .sign ≡ y .sign)
+            → bit (cond (ltb (magnitude x) (magnitude y)) (ordered y x) (ordered x y)) i ≡ carryOf (not (eqb (x .sign) (y .sign))) (headOf q) (tailOf q) (i + suc q)
+        go (no l) s =
+            rw (le-ltb (magnitude x) (magnitude y) (omega arith))
+            (gather-bit (precision F) (carryAt (eqb (x .sign) (y .sign)) (magnitude x) (magnitude y) u) i h ∙ row-test i (eqb (x .sign) (y .sign)))
+        go (yes l) (no s) = absurd (not-le-of-lt l (le (ne-eqb _ _ s)))
+        go (yes l) (yes s) =
+            let same : v ≡ u = omega (arith, unit-le F y x cy cx (le-of-lt l)) in
+            let M = 2 ^ (v + suc i) in
+            rw (lt-ltb (magnitude x) (magnitude y) l, eq-eqb _ _ s)
+            (gather-bit (precision F) (carryAt (eqb (y .sign) (x .sign)) (magnitude y) (magnitude x) v) i h
+            ∙ ap (λ (t : Bool). flag (carryAt t (magnitude y) (magnitude x) v i)) (eq-eqb _ _ (sym s))
+            ∙ ap (λ (n : ℕ). flag (leb M n)) (add-comm (magnitude y % M) (magnitude x % M))
+            ∙ ap (λ (n : ℕ). flag (carryAt true (magnitude x) (magnitude y) n i)) same
+            ∙ row-test i true)

@@ -1,5 +1,5 @@
--- The row's bit i is the carry into column i + 4 of H + T, or the borrow at column i + 4 of H - T, for H = 8 * L and the aligned T.
--- Assumes nothing.
+-- With q bits below L's last one, for any q, the row's bit i is the carry into column i + 1 + q of H + T, or the borrow at that column of
+-- H - T: H is L with these bits, T the aligned significand. Assumes nothing.
 use mathlib.Core.Path.{_≡_, sym, ap, ap₂, _∙_}
 use mathlib.Core.Bool.{Bool, true, false, not, cond}
 use Prim.Native.Nat.{ℕ, suc, _+_, _*_, _/_, _%_, _^_, _<_}
@@ -8,10 +8,10 @@ use native.Mathlib.Decide.{decLt}
 use native.Mathlib.Omega.{arith}
 use borrow.Author.Tests.{le-leb, lt-leb}
 use lib.Arith.{digits-div}
-use lib.Dec.{leb, ltb, lit<}
+use lib.Dec.{leb, ltb}
 use lib.Pow.{pow-pos, mod-pow-add, shr-shr}
 use Rattle.columns.specs.Carry.{carry, borrow as borrowAt, carryOf}
-use Rattle.rounding.specs.Sticky.{sticky}
+use Rattle.rounding.specs.Sticky.{sticky, headAt}
 use Rattle.adder.specs.Row.{carryIn}
 use Rattle.bits.proofs.Division.{mod-scale}
 use Rattle.rounding.proofs.Sticky.{sticky-lt, above-sticky, halved}
@@ -28,37 +28,37 @@ carried m N pos h = go (decLt m N)
     go (yes l) = div-eq-of-lt l ∙ ap flag (sym (lt-leb N m l))
     go (no l) = div-eq-of-lt-le N {m = m} (omega (arith, one-mul N)) (omega arith) ∙ ap flag (sym (le-leb N m (omega arith)))
 
-module _ (L T i : ℕ) where
-  up : i + 4 ≡ suc i + 3
+module _ (q L T i : ℕ) where
+  up : i + suc q ≡ suc i + q
   up = omega arith
 
-  head-part : 8 * L % 2 ^ (i + 4) ≡ L % 2 ^ suc i * 8
-  head-part = ap₂ (λ (m n : ℕ). m % 2 ^ n) (mul-comm 8 L) up ∙ mod-scale L (suc i) 3
+  head-part : headAt q L % 2 ^ (i + suc q) ≡ L % 2 ^ suc i * 2 ^ q
+  head-part = ap₂ (λ (m n : ℕ). m % 2 ^ n) (mul-comm (2 ^ q) L) up ∙ mod-scale L (suc i) q
 
-  tail-part : T % 2 ^ (i + 4) ≡ T / 8 % 2 ^ suc i * 8 + T % 8
-  tail-part = ap (λ (n : ℕ). T % 2 ^ n) up ∙ mod-pow-add T (suc i) 3
+  tail-part : T % 2 ^ (i + suc q) ≡ T / 2 ^ q % 2 ^ suc i * 2 ^ q + T % 2 ^ q
+  tail-part = ap (λ (n : ℕ). T % 2 ^ n) up ∙ mod-pow-add T (suc i) q
 
-  carry-part : carry (8 * L) T 0 (i + 4) ≡ flag (leb (2 ^ suc i) (L % 2 ^ suc i + T / 8 % 2 ^ suc i))
+  carry-part : carry (headAt q L) T 0 (i + suc q) ≡ flag (leb (2 ^ suc i) (L % 2 ^ suc i + T / 2 ^ q % 2 ^ suc i))
   unfolding carry
   carry-part =
-      ap₂ (λ (m n : ℕ). m / 2 ^ n) (ap (λ (n : ℕ). n + 0) (ap₂ _+_ head-part tail-part) ∙ together) (up ∙ add-comm (suc i) 3)
-      ∙ sym (shr-shr ((L % 2 ^ suc i + T / 8 % 2 ^ suc i) * 8 + T % 8) 3 (suc i))
-      ∙ ap (λ (n : ℕ). n / 2 ^ suc i) (digits-div (L % 2 ^ suc i + T / 8 % 2 ^ suc i) (mod-lt T (lit< tt)))
-      ∙ carried (L % 2 ^ suc i + T / 8 % 2 ^ suc i) (2 ^ suc i) (pow-pos (suc i))
-      (let a = mod-lt L (pow-pos (suc i)) in let b = mod-lt (T / 8) (pow-pos (suc i)) in omega arith)
+      ap₂ (λ (m n : ℕ). m / 2 ^ n) (ap (λ (n : ℕ). n + 0) (ap₂ _+_ head-part tail-part) ∙ together) (up ∙ add-comm (suc i) q)
+      ∙ sym (shr-shr ((L % 2 ^ suc i + T / 2 ^ q % 2 ^ suc i) * 2 ^ q + T % 2 ^ q) q (suc i))
+      ∙ ap (λ (n : ℕ). n / 2 ^ suc i) (digits-div (L % 2 ^ suc i + T / 2 ^ q % 2 ^ suc i) (mod-lt T (pow-pos q)))
+      ∙ carried (L % 2 ^ suc i + T / 2 ^ q % 2 ^ suc i) (2 ^ suc i) (pow-pos (suc i))
+      (let a = mod-lt L (pow-pos (suc i)) in let b = mod-lt (T / 2 ^ q) (pow-pos (suc i)) in omega arith)
     where
-      together : L % 2 ^ suc i * 8 + (T / 8 % 2 ^ suc i * 8 + T % 8) + 0 ≡ (L % 2 ^ suc i + T / 8 % 2 ^ suc i) * 8 + T % 8
+      together : L % 2 ^ suc i * 2 ^ q + (T / 2 ^ q % 2 ^ suc i * 2 ^ q + T % 2 ^ q) + 0 ≡ (L % 2 ^ suc i + T / 2 ^ q % 2 ^ suc i) * 2 ^ q + T % 2 ^ q
       together = omega arith
 
-  borrow-part : borrowAt (8 * L) T 0 (i + 4) ≡ flag (ltb (L % 2 ^ suc i) (T / 8 % 2 ^ suc i + sticky (T % 8)))
+  borrow-part : borrowAt (headAt q L) T 0 (i + suc q) ≡ flag (ltb (L % 2 ^ suc i) (T / 2 ^ q % 2 ^ suc i + sticky (T % 2 ^ q)))
   unfolding borrowAt
   borrow-part =
       ap flag
-      (ap₂ ltb head-part (add-zero (T % 2 ^ (i + 4)) ∙ tail-part)
-      ∙ above-sticky (L % 2 ^ suc i) (T / 8 % 2 ^ suc i) (T % 8) 8 (mod-lt T (lit< tt))
-      ∙ halved (L % 2 ^ suc i) (T / 8 % 2 ^ suc i) (sticky (T % 8)) (sticky-lt (T % 8)))
+      (ap₂ ltb head-part (add-zero (T % 2 ^ (i + suc q)) ∙ tail-part)
+      ∙ above-sticky (L % 2 ^ suc i) (T / 2 ^ q % 2 ^ suc i) (T % 2 ^ q) (2 ^ q) (mod-lt T (pow-pos q))
+      ∙ halved (L % 2 ^ suc i) (T / 2 ^ q % 2 ^ suc i) (sticky (T % 2 ^ q)) (sticky-lt (T % 2 ^ q)))
 
   -- both at once
-  pub column-carry : (like : Bool) → carryOf (not like) (8 * L) T (i + 4) ≡ flag (carryIn like L (T / 8) (sticky (T % 8)) i)
+  pub column-carry : (like : Bool) → carryOf (not like) (headAt q L) T (i + suc q) ≡ flag (carryIn like L (T / 2 ^ q) (sticky (T % 2 ^ q)) i)
   column-carry true = carry-part
   column-carry false = borrow-part

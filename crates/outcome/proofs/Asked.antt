@@ -10,18 +10,19 @@ use native.Mathlib.Omega.{arith}
 use borrow.Author.Tests.{not-true, eq-eqb}
 use lib.Bits.{bitAnd, and-zero-r}
 use lib.Dec.{eqb}
-use lib.Pow.{pow-pos, pow-mono, pow-add, add-lt-pow, shl-shr}
+use lib.Pow.{pow-mono, add-lt-pow, shl-shr}
 use Rattle.bits.specs.Bit.{bit}
 use Rattle.bits.proofs.Laws.{bit-mod, bit-shr, bit-above}
 use Rattle.mask.specs.declared.Mask.{Mask}
-use Rattle.mask.specs.Mask.{Meets, raised}
+use Rattle.mask.specs.Mask.{WellFormed, Meets, raised}
 use Rattle.mask.proofs.ByBits.{value-below}
 use Rattle.columns.specs.Column.{allows}
 use Rattle.chain.specs.declared.Wires.{Wires}
 use Rattle.columns.specs.Carry.{combined, carryOf}
 use Rattle.chain.specs.Chain.{Solved, Answered}
 use Rattle.outcome.specs.declared.Aligned as pair
-use Rattle.rounding.specs.Width.{columnsOf, mostRounded, shortBits}
+use Rattle.rounding.specs.Width.{guardBits, alignedBits, sumBits, columnsOf, mostRounded, shortBits, maskBits}
+use Rattle.rounding.proofs.Widths.{sum-width, columns-width, rounded-le}
 use Rattle.outcome.specs.Outcome.{Formed, Making}
 
 -- the wires of a question
@@ -51,16 +52,36 @@ allows-free care value i b c v = eq-eqb (bitAnd b (bit care i)) (bit value i) (a
 allows-raised : (m : Mask) (d i b : ℕ) → allows (m .care * 2 ^ d) (m .value * 2 ^ d) (d + i) b ≡ allows (m .care) (m .value) i b
 allows-raised m d i b = ap₂ (λ (c v : ℕ). eqb (bitAnd b c) v) (raised-high (m .care) d i) (raised-high (m .value) d i)
 
+-- where a mask on p bits allows a wire's bits from column e on, the mask moved up by e places allows all of them
+allows-moved : (p e : ℕ) (m : Mask) → WellFormed p m → (wire : ℕ → ℕ) → ((i : ℕ) → i < p → allows (m .care) (m .value) i (wire (i + e)) ≡ true)
+    → (i : ℕ) → allows (m .care * 2 ^ e) (m .value * 2 ^ e) i (wire i) ≡ true
+allows-moved p e m formed wire allow i = go (decLt i e) (decLt (i - e) p)
+  where
+    above : (n : ℕ) → n < 2 ^ p → p ≤ i - e → bit n (i - e) ≡ 0
+    above n h k = bit-above (i - e) (lt-of-lt-of-le h (pow-mono {i = p} {j = i - e} k))
+
+    at : (i < e → ⊥) → allows (m .care) (m .value) (i - e) (wire i) ≡ true → allows (m .care * 2 ^ e) (m .value * 2 ^ e) i (wire i) ≡ true
+    at h a =
+        let up : e + (i - e) ≡ i = omega arith in
+        subst (λ (n : ℕ). allows (m .care * 2 ^ e) (m .value * 2 ^ e) n (wire i) ≡ true) up (allows-raised m e (i - e) (wire i) ∙ a)
+
+    go : Dec (i < e) → Dec (i - e < p) → allows (m .care * 2 ^ e) (m .value * 2 ^ e) i (wire i) ≡ true
+    go (yes h) k = allows-free (m .care * 2 ^ e) (m .value * 2 ^ e) i (wire i) (raised-low (m .care) e i h) (raised-low (m .value) e i h)
+    go (no h) (yes k) =
+        let back : i - e + e ≡ i = omega arith in
+        at h (subst (λ (n : ℕ). allows (m .care) (m .value) (i - e) (wire n) ≡ true) back (allow (i - e) k))
+    go (no h) (no k) = at h (allows-free (m .care) (m .value) (i - e) (wire i) (above (m .care) (formed .below) (omega arith)) (above (m .value) (value-below p m formed) (omega arith)))
+
 -- what is made has one bit more
 pub combined-lt : (subtract : Bool) (l t k : ℕ) → l < 2 ^ k → t < 2 ^ k → combined subtract l t < 2 ^ suc k
 combined-lt true l t k hl ht = lt-of-le-of-lt (sub-le l t) (lt-of-lt-of-le hl (pow-mono {i = k} {j = suc k} (omega arith)))
 combined-lt false l t k hl ht = add-lt-pow k hl ht
 
 module _ (f : ℕ) (A : pair.Aligned) (formed : Formed f A) (most : columnsOf f < 64) (x z : Mask) (constant carry : ℕ) where
-  below : (n : ℕ) → n < 2 ^ (f + 6) → n < 2 ^ 63
-  below n h = lt-of-lt-of-le h (pow-mono {i = f + 6} {j = 63} (omega arith))
+  below : (n : ℕ) → n < 2 ^ columnsOf f → n < 2 ^ maskBits
+  below n h = lt-of-lt-of-le h (pow-mono {i = columnsOf f} {j = maskBits} (omega arith))
 
-  pub asked-sound : (l t : ℕ) → Solved (wiresOf A (raised 4 (A .carries)) x z constant carry) (f + 6) l t → Making f A (λ (n : ℕ). Meets n x × Meets (n + constant + carry) z)
+  pub asked-sound : (l t : ℕ) → Solved (wiresOf A (raised (1 + guardBits) (A .carries)) x z constant carry) (columnsOf f) l t → Making f A (λ (n : ℕ). Meets n x × Meets (n + constant + carry) z)
   asked-sound l t s = record {
     x = combined (not (A .like)) l t;
     made = record {
@@ -71,46 +92,22 @@ module _ (f : ℕ) (A : pair.Aligned) (formed : Formed f A) (most : columnsOf f 
       head-meets = s .l-meets;
       tail-meets = s .t-meets;
       ordered = λ e. s .ordered (ap not e);
-      carries-allow = λ i h. sym (allows-raised (A .carries) 4 i (carryOf (not (A .like)) l t (i + 4)))
-          ∙ subst (λ (k : ℕ). allows (A .carries .care * 2 ^ 4) (A .carries .value * 2 ^ 4) k (carryOf (not (A .like)) l t (i + 4)) ≡ true) (native.Mathlib.Nat.add-comm i 4)
-          (s .carries-allow (i + 4) (omega arith));
+      carries-allow = λ i h. sym (allows-raised (A .carries) (1 + guardBits) i (carryOf (not (A .like)) l t (i + (1 + guardBits))))
+          ∙ subst (λ (k : ℕ). allows (A .carries .care * 2 ^ (1 + guardBits)) (A .carries .value * 2 ^ (1 + guardBits)) k (carryOf (not (A .like)) l t (i + (1 + guardBits))) ≡ true) (native.Mathlib.Nat.add-comm i (1 + guardBits))
+          (s .carries-allow (i + (1 + guardBits)) (omega arith));
       makes = refl;
     };
     holds = (s .x-meets, s .z-meets);
   }
 
-  carries : (H T : ℕ) → ((i : ℕ) → i < f + 1 → allows (A .carries .care) (A .carries .value) i (carryOf (not (A .like)) H T (i + 4)) ≡ true)
-      → (i : ℕ) → allows (A .carries .care * 2 ^ 4) (A .carries .value * 2 ^ 4) i (carryOf (not (A .like)) H T i) ≡ true
-  carries H T allow i = go (decLt i 4) (decLt (i - 4) (f + 1))
-    where
-      b : ℕ
-      b = carryOf (not (A .like)) H T i
-
-      above : (n : ℕ) → n < 2 ^ (f + 1) → f + 1 ≤ i - 4 → bit n (i - 4) ≡ 0
-      above n h k = bit-above (i - 4) (lt-of-lt-of-le h (pow-mono {i = f + 1} {j = i - 4} k))
-
-      go : Dec (i < 4) → Dec (i - 4 < f + 1) → allows (A .carries .care * 2 ^ 4) (A .carries .value * 2 ^ 4) i b ≡ true
-      go (yes h) k = allows-free (A .carries .care * 2 ^ 4) (A .carries .value * 2 ^ 4) i b (raised-low (A .carries .care) 4 i h) (raised-low (A .carries .value) 4 i h)
-      go (no h) (yes k) =
-          let up : 4 + (i - 4) ≡ i = omega arith in
-          let back : i - 4 + 4 ≡ i = omega arith in
-          subst (λ (n : ℕ). allows (A .carries .care * 2 ^ 4) (A .carries .value * 2 ^ 4) n b ≡ true) up
-          (allows-raised (A .carries) 4 (i - 4) b ∙ subst (λ (n : ℕ). allows (A .carries .care) (A .carries .value) (i - 4) (carryOf (not (A .like)) H T n) ≡ true) back (allow (i - 4) k))
-      go (no h) (no k) =
-          let up : 4 + (i - 4) ≡ i = omega arith in
-          subst (λ (n : ℕ). allows (A .carries .care * 2 ^ 4) (A .carries .value * 2 ^ 4) n b ≡ true) up
-          (allows-raised (A .carries) 4 (i - 4) b
-          ∙ allows-free (A .carries .care) (A .carries .value) (i - 4) b (above (A .carries .care) (formed .carries .below) (omega arith)) (above (A .carries .value) (value-below (f + 1) (A .carries) (formed .carries)) (omega arith)))
-
-  pub asked-complete : constant < 16 → carry < 2 → (m : Making f A (λ (n : ℕ). Meets n x × Meets (n + constant + carry) z))
-      → Solved (wiresOf A (raised 4 (A .carries)) x z constant carry) (f + 6) (m .made .H) (m .made .T)
+  pub asked-complete : constant < 2 ^ mostRounded → carry < 2 → (m : Making f A (λ (n : ℕ). Meets n x × Meets (n + constant + carry) z))
+      → Solved (wiresOf A (raised (1 + guardBits) (A .carries)) x z constant carry) (columnsOf f) (m .made .H) (m .made .T)
   asked-complete hc hg m =
       let w = m .made in
-      let n = combined-lt (not (A .like)) (w .H) (w .T) (f + 4) (w .head-lt) (w .tail-lt) in
-      let p : 2 ^ (f + 6) ≡ 2 ^ f * 64 = pow-add 2 f 6 in
-      let q : 2 ^ (f + 4) ≡ 2 ^ f * 16 = pow-add 2 f 4 in
-      let r : 2 ^ suc (f + 4) ≡ 2 ^ f * 32 = ap (λ (e : ℕ). 2 ^ e) (five f) ∙ pow-add 2 f 5 in
-      let o = pow-pos f in
+      let n = combined-lt (not (A .like)) (w .H) (w .T) (alignedBits f) (w .head-lt) (w .tail-lt) in
+      let c : 2 ^ mostRounded ≤ 2 ^ alignedBits f = pow-mono (rounded-le f) in
+      let s : 2 ^ sumBits f ≡ 2 ^ suc (alignedBits f) = ap (λ (e : ℕ). 2 ^ e) (sym (sum-width f)) in
+      let p : 2 ^ columnsOf f ≡ 2 ^ suc (sumBits f) = ap (λ (e : ℕ). 2 ^ e) (sym (columns-width f)) in
       record {
         l-lt = omega (arith, w .head-lt);
         t-lt = omega (arith, w .tail-lt);
@@ -121,15 +118,12 @@ module _ (f : ℕ) (A : pair.Aligned) (formed : Formed f A) (most : columnsOf f 
         t-meets = w .tail-meets;
         x-meets = rw (w .makes) (m .holds .0);
         z-meets = rw (w .makes) (m .holds .1);
-        carries-allow = λ i h. carries (w .H) (w .T) (w .carries-allow) i;
+        carries-allow = λ i h. allows-moved (f + 1) (1 + guardBits) (A .carries) (formed .carries) (carryOf (not (A .like)) (w .H) (w .T)) (w .carries-allow) i;
       }
-    where
-      five : (k : ℕ) → suc (k + 4) ≡ k + 5
-      five k = omega arith
 
--- an answer of the chain, where the carry mask is moved up by 4 places unless that loses bits
+-- an answer of the chain, where the carry mask is moved up above the guard bits unless that loses bits
 pub asked : (f : ℕ) (A : pair.Aligned) (carries x z : Mask) (constant carry : ℕ) (r : Bool) → (columnsOf f < 64) × (constant < 2 ^ mostRounded) × (carry < 2)
-    → (A .carries .care < 2 ^ shortBits → A .carries .value < 2 ^ shortBits → carries ≡ raised 4 (A .carries))
+    → (A .carries .care < 2 ^ shortBits → A .carries .value < 2 ^ shortBits → carries ≡ raised (1 + guardBits) (A .carries))
     → (r ≡ true) ↔ Answered (wiresOf A carries x z constant carry) (columnsOf f)
     → Formed f A → (r ≡ true) ↔ Making f A (λ (n : ℕ). Meets n x × Meets (n + constant + carry) z)
 asked f A carries x z constant carry r pre moved answer formed = (
@@ -146,5 +140,5 @@ asked f A carries x z constant carry r pre moved answer formed = (
     short : 2 ^ (f + 1) ≤ 2 ^ shortBits
     short = pow-mono {i = f + 1} {j = shortBits} (omega arith)
 
-    same : carries ≡ raised 4 (A .carries)
+    same : carries ≡ raised (1 + guardBits) (A .carries)
     same = moved (lt-of-lt-of-le (formed .carries .below) short) (lt-of-lt-of-le (value-below (f + 1) (A .carries) (formed .carries)) short)

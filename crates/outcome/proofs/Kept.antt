@@ -18,33 +18,33 @@ use Rattle.word.specs.declared.Unit as exponent
 use Rattle.rounding.specs.Rounding.{roundOff}
 use Rattle.rounding.specs.Sticky.{keptPart}
 use Rattle.rounding.proofs.RoundOff.{increment-le, round-off-none, round-off-scale}
-use Rattle.rounding.specs.Width.{guardBits, alignedBits, sumBits}
+use Rattle.rounding.specs.Width.{guardBits, alignedBits, sumBits, mostRounded}
 use Rattle.rounding.specs.Outcome.{roundedUnit, keptOf}
 
--- nothing or three bits fewer than u - k, and four bits after a carry
-pub kept-scaled : (d : Direction) (x u k : ℕ) → k ≤ suc u → keptPart d x u k ≡ roundOff d x (k + 3 - u) * 2 ^ (u - (k + 3))
+-- the guard bits less u - k are rounded off, one more than they after a carry, or else zeros are added
+pub kept-scaled : (d : Direction) (x u k : ℕ) → k ≤ suc u → keptPart d x u k ≡ roundOff d x (k + guardBits - u) * 2 ^ (u - (k + guardBits))
 unfolding keptPart
-kept-scaled d x u k most = go (decLt u k) (decLe u (k + 3))
+kept-scaled d x u k most = go (decLt u k) (decLe u (k + guardBits))
   where
     -- no zeros are added
-    alone : (j : ℕ) → k + 3 - u ≡ j → u ≤ k + 3 → roundOff d x j ≡ roundOff d x (k + 3 - u) * 2 ^ (u - (k + 3))
+    alone : (j : ℕ) → k + guardBits - u ≡ j → u ≤ k + guardBits → roundOff d x j ≡ roundOff d x (k + guardBits - u) * 2 ^ (u - (k + guardBits))
     alone j e l =
-        let none : u - (k + 3) ≡ 0 = omega arith in
+        let none : u - (k + guardBits) ≡ 0 = omega arith in
         sym (ap₂ (λ (a b : ℕ). roundOff d x a * 2 ^ b) e none ∙ mul-one (roundOff d x j))
 
-    go : Dec (u < k) → Dec (u ≤ k + 3) → cond (ltb u k) (roundOff d x 4) (roundOff d (x * 2 ^ (u - k)) 3) ≡ roundOff d x (k + 3 - u) * 2 ^ (u - (k + 3))
-    go (yes h) l = rw (lt-ltb u k h) (alone 4 (omega arith) (omega arith))
+    go : Dec (u < k) → Dec (u ≤ k + guardBits) → cond (ltb u k) (roundOff d x mostRounded) (roundOff d (x * 2 ^ (u - k)) guardBits) ≡ roundOff d x (k + guardBits - u) * 2 ^ (u - (k + guardBits))
+    go (yes h) l = rw (lt-ltb u k h) (alone mostRounded (omega arith) (omega arith))
     go (no h) (yes l) =
-        let e : 3 ≡ (k + 3 - u) + (u - k) = omega arith in
+        let e : guardBits ≡ (k + guardBits - u) + (u - k) = omega arith in
         rw (le-ltb u k (omega arith))
-        (ap (roundOff d (x * 2 ^ (u - k))) e ∙ round-off-scale d x (k + 3 - u) (u - k) ∙ alone (k + 3 - u) refl l)
+        (ap (roundOff d (x * 2 ^ (u - k))) e ∙ round-off-scale d x (k + guardBits - u) (u - k) ∙ alone (k + guardBits - u) refl l)
     go (no h) (no l) =
-        let e : u - k ≡ (u - (k + 3)) + 3 = omega arith in
-        let none : k + 3 - u ≡ 0 = omega arith in
+        let e : u - k ≡ (u - (k + guardBits)) + guardBits = omega arith in
+        let none : k + guardBits - u ≡ 0 = omega arith in
         rw (le-ltb u k (omega arith))
-        (ap (λ (n : ℕ). roundOff d n 3) (ap (λ (i : ℕ). x * 2 ^ i) e ∙ ap (_*_ x) (pow-add 2 (u - (k + 3)) 3) ∙ sym (mul-assoc x (2 ^ (u - (k + 3))) (2 ^ 3)))
-        ∙ round-off-scale d (x * 2 ^ (u - (k + 3))) 0 3 ∙ round-off-none d (x * 2 ^ (u - (k + 3)))
-        ∙ ap (λ (n : ℕ). n * 2 ^ (u - (k + 3))) (sym (ap (roundOff d x) none ∙ round-off-none d x)))
+        (ap (λ (n : ℕ). roundOff d n guardBits) (ap (λ (i : ℕ). x * 2 ^ i) e ∙ ap (_*_ x) (pow-add 2 (u - (k + guardBits)) guardBits) ∙ sym (mul-assoc x (2 ^ (u - (k + guardBits))) (2 ^ guardBits)))
+        ∙ round-off-scale d (x * 2 ^ (u - (k + guardBits))) 0 guardBits ∙ round-off-none d (x * 2 ^ (u - (k + guardBits)))
+        ∙ ap (λ (n : ℕ). n * 2 ^ (u - (k + guardBits))) (sym (ap (roundOff d x) none ∙ round-off-none d x)))
 
 -- j bits are rounded off or s zeros are added, and not both
 module _ (d : Direction) (x j s : ℕ) (either : (j ≡ 0) ⊎ (s ≡ 0)) where

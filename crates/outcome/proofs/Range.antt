@@ -1,5 +1,5 @@
--- How many digits a number that two aligned significands make can have: f + 5 at most, or f + 4 where they are subtracted; and at least
--- f + 4, or f + 3, where the larger one has its top bit and the smaller one is added, or is below a quarter of 2^(f+4).
+-- How many digits a number that two aligned significands make can have: one more than they at most, or as many where they are subtracted;
+-- and where the larger one has its top bit, at least as many if the smaller one is added, or one fewer if that has its two top bits 0.
 -- Assumes nothing.
 use mathlib.Core.Path.{_≡_, sym, ap, _∙_, subst}
 use mathlib.Core.Bool.{Bool, true, false, not, true≢false}
@@ -14,6 +14,8 @@ use Rattle.mask.specs.declared.Mask.{Mask}
 use Rattle.mask.specs.Mask.{Meets, meets, high}
 use Rattle.mask.proofs.ByParts.{meets-parts}
 use Rattle.mask.proofs.Checks.{meets-true}
+use Rattle.rounding.specs.Width.{guardBits, alignedBits, smallBits, sumBits}
+use Rattle.rounding.proofs.Widths.{sum-width}
 use Rattle.rounding.proofs.Size.{size-least}
 use Rattle.columns.specs.Carry.{combined}
 use Rattle.outcome.specs.declared.Aligned as pair
@@ -47,13 +49,12 @@ module _ (k n : ℕ) (m : Mask) (met : Meets n m) where
       go (suc (suc (suc (suc v)))) e l = absurd (omega arith)
 
 module _ (f : ℕ) (A : pair.Aligned) (x : ℕ) (made : Made f A x) where
-  pub made-most : size x ≤ f + 5
+  pub made-most : size x ≤ sumBits f
   made-most =
-      let five : suc (f + 4) ≡ f + 5 = omega arith in
-      size-le x (f + 5)
-      (subst (λ (n : ℕ). n < 2 ^ (f + 5)) (made .makes)
-      (subst (λ (k : ℕ). combined (not (A .like)) (made .H) (made .T) < 2 ^ k) five
-      (combined-lt (not (A .like)) (made .H) (made .T) (f + 4) (made .head-lt) (made .tail-lt))))
+      size-le x (sumBits f)
+      (subst (λ (n : ℕ). n < 2 ^ sumBits f) (made .makes)
+      (subst (λ (k : ℕ). combined (not (A .like)) (made .H) (made .T) < 2 ^ k) (sum-width f)
+      (combined-lt (not (A .like)) (made .H) (made .T) (alignedBits f) (made .head-lt) (made .tail-lt))))
 
   -- the parts are added
   pub made-sum : A .like ≡ true → made .H + made .T ≡ x
@@ -63,15 +64,15 @@ module _ (f : ℕ) (A : pair.Aligned) (x : ℕ) (made : Made f A x) where
   pub made-difference : A .like ≡ false → made .H - made .T ≡ x
   made-difference e = sym (ap (λ (b : Bool). combined (not b) (made .H) (made .T)) e) ∙ made .makes
 
-  pub made-difference-most : A .like ≡ false → size x ≤ f + 4
-  made-difference-most e = size-le x (f + 4) (subst (λ (n : ℕ). n < 2 ^ (f + 4)) (made-difference e) (lt-of-le-of-lt (sub-le (made .H) (made .T)) (made .head-lt)))
+  pub made-difference-most : A .like ≡ false → size x ≤ alignedBits f
+  made-difference-most e = size-le x (alignedBits f) (subst (λ (n : ℕ). n < 2 ^ alignedBits f) (made-difference e) (lt-of-le-of-lt (sub-le (made .H) (made .T)) (made .head-lt)))
 
-  pub made-like : A .like ≡ true → 2 ^ (f + 3) ≤ made .H → f + 4 ≤ size x
-  made-like e h = let s = size-least x (f + 3) (omega (arith, made-sum e)) in omega arith
+  pub made-like : A .like ≡ true → 2 ^ (f + guardBits) ≤ made .H → alignedBits f ≤ size x
+  made-like e h = let s = size-least x (f + guardBits) (omega (arith, made-sum e)) in omega arith
 
-  pub made-unlike : A .like ≡ false → 2 ^ (f + 3) ≤ made .H → made .T < 2 ^ (f + 2) → f + 3 ≤ size x
+  pub made-unlike : A .like ≡ false → 2 ^ (f + guardBits) ≤ made .H → made .T < 2 ^ smallBits f → f + guardBits ≤ size x
   made-unlike e h t =
-      let p : 2 ^ (f + 3) ≡ 2 ^ f * 8 = pow-add 2 f 3 in
-      let q : 2 ^ (f + 2) ≡ 2 ^ f * 4 = pow-add 2 f 2 in
-      let s = size-least x (f + 2) (omega (arith, made-difference e)) in
+      let p : 2 ^ (f + guardBits) ≡ 2 ^ f * 2 ^ guardBits = pow-add 2 f guardBits in
+      let q : 2 ^ smallBits f ≡ 2 ^ f * 2 ^ (guardBits - 1) = pow-add 2 f (guardBits - 1) in
+      let s = size-least x (smallBits f) (omega (arith, made-difference e)) in
       omega arith

@@ -10,7 +10,7 @@ use Rattle.mask.specs.Mask.{WellFormed, Meets}
 use Rattle.columns.specs.Carry.{combined, carryOf}
 use Rattle.columns.specs.Column.{allows}
 use Rattle.word.specs.declared.Unit as exponent
-use Rattle.rounding.specs.Width.{guardBits, alignedBits}
+use Rattle.rounding.specs.Width.{guardBits, alignedBits, maskBits}
 use Rattle.rounding.specs.Outcome.{outcome}
 use Rattle.outcome.specs.declared.Aligned as pair
 
@@ -45,7 +45,7 @@ pub record InFormat (F : Format) (s : ℕ) (u : exponent.Unit) : Type 0 where
 
 -- a mask that only numbers of an aligned significand's width meet
 abbrev pub Bounded : ℕ → Mask → Type 0
-Bounded f m = (x : ℕ) → x < 2 ^ 63 → Meets x m → x < 2 ^ alignedBits f
+Bounded f m = (x : ℕ) → x < 2 ^ maskBits → Meets x m → x < 2 ^ alignedBits f
 
 -- the masks of two aligned significands are such, and the carry mask has p bits
 pub record Formed (f : ℕ) (A : pair.Aligned) : Type 0 where

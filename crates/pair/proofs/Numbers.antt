@@ -3,7 +3,7 @@
 use mathlib.Core.Path.{_≡_, refl, sym, ap, ap₂, _∙_, subst}
 use mathlib.Core.Bool.{true, false, not}
 use mathlib.Core.Logic.{_↔_, inl, inr, ⊎-elim}
-use Prim.Native.Nat.{ℕ, _+_, _*_, _^_, _≤_, _<_}
+use Prim.Native.Nat.{ℕ, _+_, _^_, _≤_, _<_}
 use native.Mathlib.Nat.{le-of-lt, lt-of-lt-of-le}
 use native.Mathlib.Decide.{decLt}
 use native.Mathlib.Omega.{arith}
@@ -23,7 +23,9 @@ use Rattle.columns.proofs.Agree.{met-bits, met-whole}
 use Rattle.word.specs.declared.Finite as record-of
 use Rattle.word.specs.Word.{significand, unitOf}
 use Rattle.word.specs.Operand.{magnitude, Canonical}
-use Rattle.rounding.specs.Sticky.{withSticky}
+use Rattle.rounding.specs.Sticky.{headAt, tailAt}
+use Rattle.rounding.specs.Width.{guardBits, alignedBits, shortBits, maskBits}
+use Rattle.rounding.proofs.Widths.{guards, aligned-width}
 use Rattle.adder.specs.Result.{finiteSum}
 use Rattle.adder.specs.Row.{finiteRow}
 use Rattle.word.proofs.Canonical.{significand-bounds, unit-le}
@@ -86,14 +88,11 @@ module _ (j : Job) (valid : Valid j) (x y : Side) (fx : FiniteSide (j .setting .
   ok : Supported (j .setting .format)
   ok = valid .setting .format
 
-  p-most : precision (j .setting .format) ≤ 60
+  p-most : precision (j .setting .format) ≤ shortBits
   p-most = omega (arith, significand-room (j .setting .format) (valid .setting .format))
 
   f-most : j .setting .format .f < 64
   f-most = omega (arith, significand-room (j .setting .format) (valid .setting .format))
-
-  up : precision (j .setting .format) + 3 ≡ j .setting .format .f + 4
-  up = omega arith
 
   gap : ℕ
   gap = gapOf x y
@@ -115,17 +114,17 @@ module _ (j : Job) (valid : Valid j) (x y : Side) (fx : FiniteSide (j .setting .
       let row = meets-allowed (precision F) (finiteRow F X Y) (j .carries) (valid .carries) (row-lt F X Y) .0 (N .row-meets) in (
         units,
         record {
-          x = combined (not (eqb (x .sign) (y .sign))) (8 * X .significand) (withSticky (4 * Y .significand) gap);
+          x = combined (not (eqb (x .sign) (y .sign))) (headAt guardBits (X .significand)) (tailAt guardBits (Y .significand) gap);
           made = record {
-            H = 8 * X .significand;
-            T = withSticky (4 * Y .significand) gap;
-            head-lt = subst (λ (n : ℕ). 8 * X .significand < 2 ^ n) up (rw zero at (hs .1));
-            tail-lt = subst (λ (n : ℕ). withSticky (4 * Y .significand) gap < 2 ^ n) up (ts .1);
+            H = headAt guardBits (X .significand);
+            T = tailAt guardBits (Y .significand) gap;
+            head-lt = subst (λ (n : ℕ). headAt guardBits (X .significand) < 2 ^ n) (aligned-width F) (rw zero at (hs .1));
+            tail-lt = subst (λ (n : ℕ). tailAt guardBits (Y .significand) gap < 2 ^ n) (aligned-width F) (ts .1);
             head-meets = rw zero at (hs .0);
             tail-meets = ts .0;
-            ordered = λ u. tail-ordered F ok X Y cx cy units .1 le;
+            ordered = λ u. tail-ordered F ok X Y cx cy units guardBits guards .1 le;
             carries-allow = λ i h.
-                subst (λ (b : ℕ). allows (j .carries .care) (j .carries .value) i b ≡ true) (row-columns F ok X Y cx cy units (λ u. le) i h) (row i h);
+                subst (λ (b : ℕ). allows (j .carries .care) (j .carries .value) i b ≡ true) (row-columns F ok X Y cx cy units guardBits guards (λ u. le) i h) (row i h);
             makes = refl;
           };
           holds = subst (λ (w : ℕ). Meets w (j .c .mask)) (sum-outcome F ok X Y cx cy units (j .setting .mode) (λ u. le)) (N .sum-meets);
@@ -136,7 +135,7 @@ module _ (j : Job) (valid : Valid j) (x y : Side) (fx : FiniteSide (j .setting .
   unfolding F ok gap
   larger-numbers (units, admitted) =
       let A = admitted .made in
-      let wide : (v : ℕ) → v < 2 ^ (F .f + 4) → v < 2 ^ 63 = λ v h. lt-of-lt-of-le h (pow-mono {i = F .f + 4} {j = 63} (omega (arith, significand-room F ok))) in
+      let wide : (v : ℕ) → v < 2 ^ alignedBits (F .f) → v < 2 ^ maskBits = λ v h. lt-of-lt-of-le h (pow-mono {i = alignedBits (F .f)} {j = maskBits} (omega (arith, significand-room F ok))) in
       let hc = tail-complete (precision F) (significandsOf F x) 0 p-most (significand-formed (F .f) (x .fraction) f-most (fx .formed) (x .exponent)) (A .H) (wide (A .H) (A .head-lt)) (A .head-meets) in
       let tc = tail-complete (precision F) (significandsOf F y) gap p-most (significand-formed (F .f) (y .fraction) f-most (fy .formed) (y .exponent)) (A .T) (wide (A .T) (A .tail-lt)) (A .tail-meets) in
       let hm = significand-meets (F .f) (x .fraction) f-most (fx .formed) (x .exponent) (hc .0) .0 (hc .2, hc .1) in
@@ -146,9 +145,9 @@ module _ (j : Job) (valid : Valid j) (x y : Side) (fx : FiniteSide (j .setting .
       let cx = number-canonical F x fx (hm .0) (hm .1) in
       let cy = number-canonical F y fy (tm .0) (tm .1) in
       let like = eqb (x .sign) (y .sign) in
-      let H : 8 * X .significand ≡ A .H = sym (aligned-zero (X .significand)) ∙ ap (λ (r : ℕ). withSticky (4 * r) 0) (hm .3) ∙ hc .3 in
-      let T : withSticky (4 * Y .significand) gap ≡ A .T = ap (λ (r : ℕ). withSticky (4 * r) gap) (tm .3) ∙ tc .3 in
-      let ordered : (eqb (x .sign) (y .sign) ≡ false → magnitude Y ≤ magnitude X) = λ u. tail-ordered F ok X Y cx cy units .0 (rw (H, T) (A .ordered u)) in
+      let H : headAt guardBits (X .significand) ≡ A .H = sym (aligned-zero (X .significand)) ∙ ap (λ (r : ℕ). tailAt guardBits r 0) (hm .3) ∙ hc .3 in
+      let T : tailAt guardBits (Y .significand) gap ≡ A .T = ap (λ (r : ℕ). tailAt guardBits r gap) (tm .3) ∙ tc .3 in
+      let ordered : (eqb (x .sign) (y .sign) ≡ false → magnitude Y ≤ magnitude X) = λ u. tail-ordered F ok X Y cx cy units guardBits guards .0 (rw (H, T) (A .ordered u)) in
       record {
         p = hm .0;
         q = tm .0;
@@ -159,7 +158,7 @@ module _ (j : Job) (valid : Valid j) (x y : Side) (fx : FiniteSide (j .setting .
         row-meets = meets-allowed (precision F) (finiteRow F X Y) (j .carries) (valid .carries) (row-lt F X Y) .1
             (λ i h.
             subst (λ (b : ℕ). allows (j .carries .care) (j .carries .value) i b ≡ true)
-            (sym (row-columns F ok X Y cx cy units ordered i h ∙ ap₂ (λ (a b : ℕ). carryOf (not like) a b (i + 4)) H T)) (A .carries-allow i h));
+            (sym (row-columns F ok X Y cx cy units guardBits guards ordered i h ∙ ap₂ (λ (a b : ℕ). carryOf (not like) a b (i + (1 + guardBits))) H T)) (A .carries-allow i h));
         sum-meets = subst (λ (w : ℕ). Meets w (j .c .mask))
             (sym
             (sum-outcome F ok X Y cx cy units (j .setting .mode) ordered

@@ -1,21 +1,31 @@
--- Two canonical operands l and r, r not the larger: eight times l's significand, and r's aligned to it with a sticky bit, hold the exact
--- sum and the exact difference. Assumes nothing.
+-- Two operands l and r, r's unit not above l's. With q bits below l's last one, the last of them sticky, l's significand and r's aligned to
+-- it hold the exact sum, and the exact difference where r is not the larger; this for any q. With the guard bits they hold enough of it to
+-- round. Assumes nothing.
 use mathlib.Core.Path.{_≡_, refl, sym, ap, ap₂, _∙_, subst}
 use mathlib.Core.Logic.{_⊎_, inl, inr, _↔_}
 use Prim.Native.Nat.{ℕ, zero, suc, _+_, _-_, _*_, _/_, _%_, _^_, _≤_, _<_}
-use native.Mathlib.Nat.{mod-lt, mod-one, mul-assoc, mul-comm, add-mul, mul-le-mul-left, le-of-mul-le-mul-right, mul-mod-left, div-add-mod', div-lt-iff-lt-mul, eq-of-mul-eq-mul-right}
-use native.Mathlib.Decide.{decLt}
+use native.Mathlib.Nat.{mod-lt, mod-one, mul-assoc, mul-comm, mul-le-mul-left, le-of-mul-le-mul-right, lt-of-mul-lt-mul-right, mul-lt-mul-of-pos-right, mul-mod-left, div-add-mod', div-lt-iff-lt-mul, eq-of-mul-eq-mul-left, eq-of-mul-eq-mul-right, pow-suc}
+use native.Mathlib.Decide.{decLt, decLe}
 use native.Mathlib.Omega.{arith}
-use borrow.Author.Tests.{ltb-false, le-ltb, eqb-true, eq-eqb}
+use borrow.Author.Tests.{ltb-true, ltb-false, lt-ltb, le-ltb, eqb-true, eq-eqb}
 use lib.Dec.{eqb}
-use lib.Pow.{pow-pos, pow-mono, pow-add, shr-le}
+use lib.Pow.{pow-pos, pow-mono, pow-add, add-lt-pow, shr-le}
 use Rattle.format.specs.declared.Format.{Format}
 use Rattle.format.specs.Format.{precision}
-use Rattle.rounding.specs.Sticky.{sticky, withSticky, Held}
+use Rattle.rounding.specs.Sticky.{sticky, withSticky, guardedAt, headAt, tailAt, guarded, Held}
+use Rattle.rounding.specs.Width.{guardBits, alignedBits, smallBits, sumBits}
 use Rattle.bits.proofs.Division.{mod-scale, mul-sub-right}
-use Rattle.rounding.proofs.Sticky.{above-sticky, equal-sticky, with-sticky-scale, with-sticky-add, with-sticky-sub, with-sticky-bounds}
+use Rattle.rounding.proofs.Widths.{guards, aligned-width, sum-width}
+use Rattle.rounding.proofs.Sticky.{above-sticky, equal-sticky, with-sticky-scale, with-sticky-add, with-sticky-sub, with-sticky-none, with-sticky-bounds}
 
--- not above a number of units: not above it with the sticky bit either, and equal to it exactly when equal
+-- above a number of units, or not: with the sticky bit too; and equal to it exactly when equal
+pub with-sticky-lt : (L Z d : ℕ) → L * 2 ^ d < Z → 2 * L < withSticky Z d
+unfolding withSticky
+with-sticky-lt L Z d h =
+    let w = div-add-mod' Z (2 ^ d) in
+    let t = sym (above-sticky L (Z / 2 ^ d) (Z % 2 ^ d) (2 ^ d) (mod-lt Z (pow-pos d))) ∙ lt-ltb (L * 2 ^ d) (Z / 2 ^ d * 2 ^ d + Z % 2 ^ d) (omega arith) in
+    omega (arith, ltb-true (2 * L) (2 * (Z / 2 ^ d) + sticky (Z % 2 ^ d)) t)
+
 pub with-sticky-le : (L Z d : ℕ) → Z ≤ L * 2 ^ d → withSticky Z d ≤ 2 * L
 unfolding withSticky
 with-sticky-le L Z d h =
@@ -30,118 +40,151 @@ with-sticky-equal L Z d =
     ∙ sym (equal-sticky L (Z / 2 ^ d) (Z % 2 ^ d) (2 ^ d) (mod-lt Z (pow-pos d)))
     ∙ ap (λ (n : ℕ). eqb n (L * 2 ^ d)) (div-add-mod' Z (2 ^ d))
 
--- l and r in units 2^u and 2^v, u being d more than v
-module _ (F : Format) (L R u v d : ℕ) (units : d + v ≡ u) (hL : L < 2 ^ precision F) (hR : R < 2 ^ precision F) (normal : 0 < u → 2 ^ F .f ≤ L) where
-  -- in r's unit
-  scaled : (n : ℕ) → n * 2 ^ u ≡ n * 2 ^ d * 2 ^ v
-  scaled n = ap (λ (k : ℕ). n * 2 ^ k) (sym units) ∙ ap (λ (m : ℕ). n * m) (pow-add 2 d v) ∙ sym (mul-assoc n (2 ^ d) (2 ^ v))
+-- ---- significands with q bits below them
+module _ (q : ℕ) (some : 0 < q) where
+  -- the sticky bit's place doubles what stands before it
+  pub head-double : (m : ℕ) → headAt q m ≡ 2 * guardedAt q m
+  head-double m =
+      let up : q ≡ suc (q - 1) = omega arith in
+      ap (λ (k : ℕ). 2 ^ k * m) up ∙ ap (λ (n : ℕ). n * m) (pow-suc 2 (q - 1)) ∙ omega arith
 
-  pub sum-stands : withSticky (4 * (L * 2 ^ u + R * 2 ^ v)) u ≡ 8 * L + withSticky (4 * R) d
-  sum-stands =
-      ap₂ withSticky whole (sym units) ∙ with-sticky-scale (4 * L * 2 ^ d + 4 * R) d v ∙ with-sticky-add (4 * L) (4 * R) d ∙ omega arith
-    where
-      whole : 4 * (L * 2 ^ u + R * 2 ^ v) ≡ (4 * L * 2 ^ d + 4 * R) * 2 ^ v
+  -- with no gap the two are the same
+  pub tail-none : (m : ℕ) → tailAt q m 0 ≡ headAt q m
+  tail-none m = with-sticky-none (guardedAt q m) ∙ sym (head-double m)
+
+  -- of a significand of p bits both have q more
+  module _ (p m : ℕ) (short : m < 2 ^ p) where
+    pub head-short : headAt q m < 2 ^ (p + q)
+    head-short = let a = pow-add 2 p q in let b = mul-lt-mul-of-pos-right short (pow-pos q) in omega arith
+
+    pub tail-short : (d : ℕ) → tailAt q m d < 2 ^ (p + q)
+    tail-short d =
+        let a = pow-add 2 p q in
+        let b = mul-le-mul-left (2 ^ (q - 1)) short in
+        let c = head-double (2 ^ p) in
+        let t = with-sticky-bounds (guardedAt q m) d in
+        let s = shr-le (guardedAt q m) d in
+        omega (arith, pow-pos (q - 1))
+
+  -- l and r in units 2^u and 2^v, u being d more than v
+  module _ (L R u v d : ℕ) (units : d + v ≡ u) where
+    -- in r's unit
+    scaled : (n : ℕ) → n * 2 ^ u ≡ n * 2 ^ d * 2 ^ v
+    scaled n = ap (λ (k : ℕ). n * 2 ^ k) (sym units) ∙ ap (λ (m : ℕ). n * m) (pow-add 2 d v) ∙ sym (mul-assoc n (2 ^ d) (2 ^ v))
+
+    guarded-scaled : guardedAt q (L * 2 ^ u) ≡ guardedAt q L * 2 ^ d * 2 ^ v
+    guarded-scaled = ap (guardedAt q) (scaled L) ∙ omega arith
+
+    pub sum-stands : withSticky (guardedAt q (L * 2 ^ u + R * 2 ^ v)) u ≡ headAt q L + tailAt q R d
+    sum-stands =
+        ap₂ withSticky whole (sym units) ∙ with-sticky-scale (guardedAt q L * 2 ^ d + guardedAt q R) d v ∙ with-sticky-add (guardedAt q L) (guardedAt q R) d
+        ∙ ap (λ (n : ℕ). n + tailAt q R d) (sym (head-double L))
+      where
+        whole : guardedAt q (L * 2 ^ u + R * 2 ^ v) ≡ (guardedAt q L * 2 ^ d + guardedAt q R) * 2 ^ v
+        whole = let b = guarded-scaled in omega arith
+
+    below : R * 2 ^ v ≤ L * 2 ^ u → guardedAt q R ≤ guardedAt q L * 2 ^ d
+    below le =
+        let h : R ≤ L * 2 ^ d = le-of-mul-le-mul-right (subst (λ (n : ℕ). R * 2 ^ v ≤ n) (scaled L) le) (pow-pos v) in
+        omega (arith, mul-le-mul-left (2 ^ (q - 1)) h)
+
+    -- the aligned significands are ordered as the operands are
+    pub tail-ordered : tailAt q R d ≤ headAt q L ↔ (R * 2 ^ v ≤ L * 2 ^ u)
+    tail-ordered = (λ h. back h (decLe (R * 2 ^ v) (L * 2 ^ u)), there)
+      where
+        there : R * 2 ^ v ≤ L * 2 ^ u → tailAt q R d ≤ headAt q L
+        there le = let t = with-sticky-le (guardedAt q L) (guardedAt q R) d (below le) in omega (arith, head-double L)
+
+        back : tailAt q R d ≤ headAt q L → Dec (R * 2 ^ v ≤ L * 2 ^ u) → R * 2 ^ v ≤ L * 2 ^ u
+        back h (yes l) = l
+        back h (no l) =
+            let s : L * 2 ^ d * 2 ^ v < R * 2 ^ v = subst (λ (n : ℕ). n < R * 2 ^ v) (scaled L) (omega arith) in
+            let g : L * 2 ^ d < R = lt-of-mul-lt-mul-right (2 ^ v) s in
+            let t = with-sticky-lt (guardedAt q L) (guardedAt q R) d (omega (arith, mul-le-mul-left (2 ^ (q - 1)) g, pow-pos (q - 1))) in
+            absurd (omega (arith, head-double L))
+
+    -- and equal exactly when they are
+    pub equal-tail : L * 2 ^ u ≡ R * 2 ^ v ↔ (headAt q L ≡ tailAt q R d)
+    equal-tail = (
+      λ e.
+          let h : R ≡ L * 2 ^ d = eq-of-mul-eq-mul-right (2 ^ v) (pow-pos v) R (L * 2 ^ d) (sym e ∙ scaled L) in
+          let g : guardedAt q R ≡ guardedAt q L * 2 ^ d = ap (guardedAt q) h ∙ omega arith in
+          let t = eqb-true (tailAt q R d) (2 * guardedAt q L) (with-sticky-equal (guardedAt q L) (guardedAt q R) d ∙ eq-eqb (guardedAt q R) (guardedAt q L * 2 ^ d) g) in
+          head-double L ∙ sym t,
+      λ e.
+          let o : tailAt q R d ≡ 2 * guardedAt q L = sym e ∙ head-double L in
+          let g = eqb-true (guardedAt q R) (guardedAt q L * 2 ^ d) (sym (with-sticky-equal (guardedAt q L) (guardedAt q R) d) ∙ eq-eqb (tailAt q R d) (2 * guardedAt q L) o) in
+          let h : R ≡ L * 2 ^ d = eq-of-mul-eq-mul-left (2 ^ (q - 1)) (pow-pos (q - 1)) R (L * 2 ^ d) (g ∙ mul-assoc (2 ^ (q - 1)) L (2 ^ d)) in
+          scaled L ∙ ap (λ (n : ℕ). n * 2 ^ v) (sym h),
+    )
+
+    -- ---- the difference, r being not the larger
+    module _ (le : R * 2 ^ v ≤ L * 2 ^ u) where
+      whole : guardedAt q (L * 2 ^ u - R * 2 ^ v) ≡ (guardedAt q L * 2 ^ d - guardedAt q R) * 2 ^ v
       whole =
-          let a = add-mul (4 * L * 2 ^ d) (4 * R) (2 ^ v) in
-          let b = scaled L in
-          let c = ap (λ (n : ℕ). n * 2 ^ v) (mul-assoc 4 L (2 ^ d)) ∙ mul-assoc 4 (L * 2 ^ d) (2 ^ v) in
-          let e = mul-assoc 4 R (2 ^ v) in
-          omega arith
+          mul-comm (2 ^ (q - 1)) (L * 2 ^ u - R * 2 ^ v) ∙ mul-sub-right (L * 2 ^ u) (R * 2 ^ v) (2 ^ (q - 1))
+          ∙ ap₂ _-_ (mul-comm (L * 2 ^ u) (2 ^ (q - 1)) ∙ guarded-scaled) (omega arith)
+          ∙ sym (mul-sub-right (guardedAt q L * 2 ^ d) (guardedAt q R) (2 ^ v))
 
-  -- eight significands and a tail are below 2^(f+5)
-  pub head-lt : 8 * L < 2 ^ (F .f + 4)
-  head-lt = let p = pow-add 2 (F .f) 1 in let q = pow-add 2 (F .f) 4 in omega arith
+      pub difference-stands : withSticky (guardedAt q (L * 2 ^ u - R * 2 ^ v)) u ≡ headAt q L - tailAt q R d
+      difference-stands =
+          ap₂ withSticky whole (sym units) ∙ with-sticky-scale (guardedAt q L * 2 ^ d - guardedAt q R) d v ∙ with-sticky-sub (guardedAt q L) (guardedAt q R) d (below le)
+          ∙ ap (λ (n : ℕ). n - tailAt q R d) (sym (head-double L))
 
-  pub tail-lt : withSticky (4 * R) d < 2 ^ (F .f + 4)
-  tail-lt =
-      let p = pow-add 2 (F .f) 1 in
-      let q = pow-add 2 (F .f) 4 in
-      let b = with-sticky-bounds (4 * R) d in
-      let s = shr-le (4 * R) d in
-      omega arith
+      -- a gap of fewer than q places drops nothing
+      pub near-exact : d < q → guardedAt q (L * 2 ^ u - R * 2 ^ v) % 2 ^ u ≡ 0
+      near-exact h =
+          ap₂ (λ (m n : ℕ). m % 2 ^ n) whole (sym units) ∙ mod-scale (guardedAt q L * 2 ^ d - guardedAt q R) d v
+          ∙ ap (λ (n : ℕ). n * 2 ^ v)
+          (ap (λ (n : ℕ). (guardedAt q L * 2 ^ d - n) % 2 ^ d) units-of ∙ ap (λ (n : ℕ). n % 2 ^ d) (sym (mul-sub-right (guardedAt q L) (R * 2 ^ (q - 1 - d)) (2 ^ d)))
+          ∙ mul-mod-left (guardedAt q L - R * 2 ^ (q - 1 - d)) (2 ^ d))
+          ∙ native.Mathlib.Nat.zero-mul (2 ^ v)
+        where
+          back : q - 1 - d + d ≡ q - 1
+          back = omega arith
 
-  pub sum-lt : 8 * L + withSticky (4 * R) d < 2 ^ (F .f + 5)
-  sum-lt = let p = pow-add 2 (F .f) 4 in let q = pow-add 2 (F .f) 5 in omega (arith, head-lt, tail-lt)
+          units-of : guardedAt q R ≡ R * 2 ^ (q - 1 - d) * 2 ^ d
+          units-of =
+              mul-comm (2 ^ (q - 1)) R ∙ ap (λ (n : ℕ). R * 2 ^ n) (sym back) ∙ ap (λ (n : ℕ). R * n) (pow-add 2 (q - 1 - d) d)
+              ∙ sym (mul-assoc R (2 ^ (q - 1 - d)) (2 ^ d))
 
-  pub sum-held : Held F (L * 2 ^ u + R * 2 ^ v) (8 * L + withSticky (4 * R) d) u
-  sum-held = record { stands = sym sum-stands; exact-or-long = go u refl }
+-- ---- with the guard bits, two canonical operands: l is normal but in the least unit
+module _ (F : Format) (L R u v d : ℕ) (units : d + v ≡ u) (hL : L < 2 ^ precision F) (hR : R < 2 ^ precision F) (normal : 0 < u → 2 ^ F .f ≤ L) where
+  head-lt : headAt guardBits L < 2 ^ alignedBits (F .f)
+  head-lt = subst (λ (k : ℕ). headAt guardBits L < 2 ^ k) (aligned-width F) (head-short guardBits guards (precision F) L hL)
+
+  tail-lt : tailAt guardBits R d < 2 ^ alignedBits (F .f)
+  tail-lt = subst (λ (k : ℕ). tailAt guardBits R d < 2 ^ k) (aligned-width F) (tail-short guardBits guards (precision F) R hR d)
+
+  pub sum-lt : headAt guardBits L + tailAt guardBits R d < 2 ^ sumBits (F .f)
+  sum-lt = subst (λ (k : ℕ). headAt guardBits L + tailAt guardBits R d < 2 ^ k) (sum-width (F .f)) (add-lt-pow (alignedBits (F .f)) head-lt tail-lt)
+
+  pub sum-held : Held F (L * 2 ^ u + R * 2 ^ v) (headAt guardBits L + tailAt guardBits R d) u
+  sum-held = record { stands = sym (sum-stands guardBits guards L R u v d units); exact-or-long = go u refl }
     where
-      go : (n : ℕ) → u ≡ n → (4 * (L * 2 ^ u + R * 2 ^ v) % 2 ^ u ≡ 0) ⊎ (2 ^ (F .f + 2) ≤ 8 * L + withSticky (4 * R) d)
-      go zero e = inl (ap (λ (n : ℕ). 4 * (L * 2 ^ u + R * 2 ^ v) % 2 ^ n) e ∙ mod-one (4 * (L * 2 ^ u + R * 2 ^ v)))
+      go : (n : ℕ) → u ≡ n → (guarded (L * 2 ^ u + R * 2 ^ v) % 2 ^ u ≡ 0) ⊎ (2 ^ smallBits (F .f) ≤ headAt guardBits L + tailAt guardBits R d)
+      go zero e = inl (ap (λ (n : ℕ). guarded (L * 2 ^ u + R * 2 ^ v) % 2 ^ n) e ∙ mod-one (guarded (L * 2 ^ u + R * 2 ^ v)))
       go (suc n) e =
-          let p = pow-add 2 (F .f) 2 in
+          let p = pow-add 2 (F .f) (guardBits - 1) in
           let h = normal (omega arith) in
           inr (omega arith)
 
-  -- ---- the difference, r being not the larger
+  -- r being not the larger
   module _ (le : R * 2 ^ v ≤ L * 2 ^ u) where
-    below : 4 * R ≤ 4 * L * 2 ^ d
-    below =
-        let h : R ≤ L * 2 ^ d = le-of-mul-le-mul-right (subst (λ (n : ℕ). R * 2 ^ v ≤ n) (scaled L) le) (pow-pos v) in
-        omega (arith, mul-assoc 4 L (2 ^ d))
-
-    pub tail-le : withSticky (4 * R) d ≤ 8 * L
-    tail-le = let h = with-sticky-le (4 * L) (4 * R) d below in omega arith
-
-    whole : 4 * (L * 2 ^ u - R * 2 ^ v) ≡ (4 * L * 2 ^ d - 4 * R) * 2 ^ v
-    whole =
-        let a = mul-sub-right (4 * L * 2 ^ d) (4 * R) (2 ^ v) in
-        let b = scaled L in
-        let c = ap (λ (n : ℕ). n * 2 ^ v) (mul-assoc 4 L (2 ^ d)) ∙ mul-assoc 4 (L * 2 ^ d) (2 ^ v) in
-        let e = mul-assoc 4 R (2 ^ v) in
-        omega arith
-
-    pub difference-stands : withSticky (4 * (L * 2 ^ u - R * 2 ^ v)) u ≡ 8 * L - withSticky (4 * R) d
-    difference-stands =
-        ap₂ withSticky whole (sym units) ∙ with-sticky-scale (4 * L * 2 ^ d - 4 * R) d v ∙ with-sticky-sub (4 * L) (4 * R) d below
-        ∙ ap (λ (n : ℕ). n - withSticky (4 * R) d) (omega arith)
-
-    -- a gap of two at most drops nothing
-    near-exact : d ≤ 2 → 4 * (L * 2 ^ u - R * 2 ^ v) % 2 ^ u ≡ 0
-    near-exact h =
-        ap₂ (λ (m n : ℕ). m % 2 ^ n) whole (sym units) ∙ mod-scale (4 * L * 2 ^ d - 4 * R) d v
-        ∙ ap (λ (n : ℕ). n * 2 ^ v)
-        (ap (λ (n : ℕ). (4 * L * 2 ^ d - n) % 2 ^ d) four ∙ ap (λ (n : ℕ). n % 2 ^ d) (sym (mul-sub-right (4 * L) (R * 2 ^ (2 - d)) (2 ^ d)))
-        ∙ mul-mod-left (4 * L - R * 2 ^ (2 - d)) (2 ^ d))
-        ∙ native.Mathlib.Nat.zero-mul (2 ^ v)
-      where
-        back : 2 - d + d ≡ 2
-        back = omega arith
-
-        four : 4 * R ≡ R * 2 ^ (2 - d) * 2 ^ d
-        four =
-            mul-comm 4 R ∙ ap (λ (n : ℕ). R * 2 ^ n) (sym back) ∙ ap (λ (n : ℕ). R * n) (pow-add 2 (2 - d) d)
-            ∙ sym (mul-assoc R (2 ^ (2 - d)) (2 ^ d))
-
-    -- a larger gap leaves the difference long
-    far-long : 2 < d → 2 ^ (F .f + 2) ≤ 8 * L - withSticky (4 * R) d
+    -- a gap of as many places as there are guard bits leaves the difference long
+    far-long : guardBits ≤ d → 2 ^ smallBits (F .f) ≤ headAt guardBits L - tailAt guardBits R d
     far-long h =
         let n = normal (omega arith) in
         let p = pow-add 2 (F .f) 1 in
-        let q = pow-add 2 (F .f) 2 in
-        let m = mul-le-mul-left (2 ^ F .f) (pow-mono {i = 3} {j = d} h) in
-        let z = div-lt-iff-lt-mul {k = 2 ^ d} {x = 4 * R} {y = 2 ^ F .f} (pow-pos d) .1 (omega arith) in
-        let b = with-sticky-bounds (4 * R) d in
+        let q = pow-add 2 (F .f) (guardBits - 1) in
+        let m = mul-le-mul-left (2 ^ F .f) (pow-mono {i = guardBits} {j = d} h) in
+        let z = div-lt-iff-lt-mul {k = 2 ^ d} {x = guarded R} {y = 2 ^ F .f} (pow-pos d) .1 (omega arith) in
+        let b = with-sticky-bounds (guarded R) d in
         omega arith
 
-    pub difference-held : Held F (L * 2 ^ u - R * 2 ^ v) (8 * L - withSticky (4 * R) d) u
-    difference-held = record { stands = sym difference-stands; exact-or-long = go (decLt 2 d) }
+    pub difference-held : Held F (L * 2 ^ u - R * 2 ^ v) (headAt guardBits L - tailAt guardBits R d) u
+    difference-held = record { stands = sym (difference-stands guardBits guards L R u v d units le); exact-or-long = go (decLt d guardBits) }
       where
-        go : Dec (2 < d) → (4 * (L * 2 ^ u - R * 2 ^ v) % 2 ^ u ≡ 0) ⊎ (2 ^ (F .f + 2) ≤ 8 * L - withSticky (4 * R) d)
-        go (yes h) = inr (far-long h)
-        go (no h) = inl (near-exact (omega arith))
-
-  -- the operands are equal exactly when eight times l's significand is the tail
-  pub equal-tail : L * 2 ^ u ≡ R * 2 ^ v ↔ (8 * L ≡ withSticky (4 * R) d)
-  equal-tail = (
-    λ e.
-        let h : R ≡ L * 2 ^ d = eq-of-mul-eq-mul-right (2 ^ v) (pow-pos v) R (L * 2 ^ d) (sym e ∙ scaled L) in
-        let q : 4 * R ≡ 4 * L * 2 ^ d = omega (arith, mul-assoc 4 L (2 ^ d)) in
-        let t = eqb-true (withSticky (4 * R) d) (2 * (4 * L)) (with-sticky-equal (4 * L) (4 * R) d ∙ eq-eqb (4 * R) (4 * L * 2 ^ d) q) in
-        omega arith,
-    λ e.
-        let o : withSticky (4 * R) d ≡ 2 * (4 * L) = omega arith in
-        let q = eqb-true (4 * R) (4 * L * 2 ^ d) (sym (with-sticky-equal (4 * L) (4 * R) d) ∙ eq-eqb (withSticky (4 * R) d) (2 * (4 * L)) o) in
-        let h : R ≡ L * 2 ^ d = omega (arith, mul-assoc 4 L (2 ^ d)) in
-        scaled L ∙ ap (λ (n : ℕ). n * 2 ^ v) (sym h),
-  )
+        go : Dec (d < guardBits) → (guarded (L * 2 ^ u - R * 2 ^ v) % 2 ^ u ≡ 0) ⊎ (2 ^ smallBits (F .f) ≤ headAt guardBits L - tailAt guardBits R d)
+        go (yes h) = inl (near-exact guardBits guards L R u v d units le h)
+        go (no h) = inr (far-long (omega arith))

@@ -1,5 +1,5 @@
--- A magnitude X that is held as x, in eighths of its unit with a sticky bit: x tells how many digits X has, and x shifted so that three
--- bits stand below the last kept one (four after a carry) rounds as X does. Assumes nothing.
+-- A magnitude X that is held as x, with the guard bits below its unit, the last of them sticky: x tells how many digits X has, and x shifted
+-- so that the guard bits stand below the last kept one (one more after a carry) rounds as X does. Assumes nothing.
 use mathlib.Core.Path.{_≡_, refl, sym, ap, ap₂, _∙_, subst}
 use mathlib.Core.Logic.{⊎-elim}
 use Prim.Native.Nat.{ℕ, zero, suc, _+_, _-_, _*_, _/_, _%_, _^_, _≤_, _<_}
@@ -15,7 +15,8 @@ use lib.Pow.{pow-pos, pow-add}
 use Rattle.format.specs.declared.Format.{Format}
 use Rattle.rounding.specs.declared.Direction.{Direction}
 use Rattle.rounding.specs.Rounding.{roundOff, dropped}
-use Rattle.rounding.specs.Sticky.{sticky, withSticky, Held, keptPart}
+use Rattle.rounding.specs.Sticky.{sticky, withSticky, guarded, Held, keptPart}
+use Rattle.rounding.specs.Width.{guardBits, smallBits, sumBits, mostRounded}
 use Rattle.rounding.proofs.Size.{size-between, size-least, size-top, size-scale}
 use Rattle.rounding.proofs.Sticky.{with-sticky-exact, with-sticky-bounds}
 use Rattle.rounding.proofs.RoundOff.{round-off-scale, round-off-sticky}
@@ -41,86 +42,86 @@ digits-of Z u pos =
     omega arith
 
 module _ (F : Format) (X x u : ℕ) (pos : 0 < X) (held : Held F X x u) where
-  quotient-pos : 0 < 4 * X / 2 ^ u
+  quotient-pos : 0 < guarded X / 2 ^ u
   quotient-pos = ⊎-elim exact long (held .exact-or-long)
     where
-      exact : 4 * X % 2 ^ u ≡ 0 → 0 < 4 * X / 2 ^ u
-      exact e = go (ℕ-discrete (4 * X / 2 ^ u) 0)
+      exact : guarded X % 2 ^ u ≡ 0 → 0 < guarded X / 2 ^ u
+      exact e = go (ℕ-discrete (guarded X / 2 ^ u) 0)
         where
-          go : Dec (4 * X / 2 ^ u ≡ 0) → 0 < 4 * X / 2 ^ u
+          go : Dec (guarded X / 2 ^ u ≡ 0) → 0 < guarded X / 2 ^ u
           go (yes z) =
-              let w = div-add-mod' (4 * X) (2 ^ u) in
+              let w = div-add-mod' (guarded X) (2 ^ u) in
               let z′ = ap (λ (n : ℕ). n * 2 ^ u) z in
               absurd (omega (arith, native.Mathlib.Nat.zero-mul (2 ^ u)))
           go (no z) = omega arith
 
-      long : 2 ^ (F .f + 2) ≤ x → 0 < 4 * X / 2 ^ u
+      long : 2 ^ smallBits (F .f) ≤ x → 0 < guarded X / 2 ^ u
       long h =
-          let b = with-sticky-bounds (4 * X) u in
-          let p = pow-add 2 (F .f) 2 in
+          let b = with-sticky-bounds (guarded X) u in
+          let p = pow-add 2 (F .f) (guardBits - 1) in
           let o = pow-pos (F .f) in
           omega (arith, held .stands)
 
-  pub held-size : size x + u ≡ size X + 3
+  pub held-size : size x + u ≡ size X + guardBits
   held-size =
-      let a = digits-of (4 * X) u quotient-pos in
-      let b = ap size (mul-comm 4 X) ∙ size-scale X 2 pos in
+      let a = digits-of (guarded X) u quotient-pos in
+      let b = ap size (mul-comm (2 ^ (guardBits - 1)) X) ∙ size-scale X (guardBits - 1) pos in
       let c = ap size (held .stands) in
       omega arith
 
-  -- x has p + 4 bits: four stand below the last kept one
-  pub held-carry : (d : Direction) → dropped F X ≡ suc u → roundOff d x 4 ≡ roundOff d X (dropped F X)
+  -- after a carry one bit more than the guard bits stands below the last kept one
+  pub held-carry : (d : Direction) → dropped F X ≡ suc u → roundOff d x mostRounded ≡ roundOff d X (dropped F X)
   held-carry d k =
-      ap (λ (n : ℕ). roundOff d n 4) (held .stands) ∙ round-off-sticky d (4 * X) u 2
-      ∙ ap₂ (roundOff d) (mul-comm 4 X) (omega arith)
-      ∙ round-off-scale d X (suc u) 2 ∙ ap (roundOff d X) (sym k)
+      ap (λ (n : ℕ). roundOff d n mostRounded) (held .stands) ∙ round-off-sticky d (guarded X) u (guardBits - 1)
+      ∙ ap₂ (roundOff d) (mul-comm (2 ^ (guardBits - 1)) X) (omega arith)
+      ∙ round-off-scale d X (suc u) (guardBits - 1) ∙ ap (roundOff d X) (sym k)
 
-  -- shifted up by u - k, three stand below the last kept one
-  pub held-kept : (d : Direction) → dropped F X ≤ u → roundOff d (x * 2 ^ (u - dropped F X)) 3 ≡ roundOff d X (dropped F X)
+  -- shifted up by u - k, the guard bits stand below it
+  pub held-kept : (d : Direction) → dropped F X ≤ u → roundOff d (x * 2 ^ (u - dropped F X)) guardBits ≡ roundOff d X (dropped F X)
   held-kept d le = ⊎-elim exact long (held .exact-or-long)
     where
       k : ℕ
       k = dropped F X
 
-      exact : 4 * X % 2 ^ u ≡ 0 → roundOff d (x * 2 ^ (u - k)) 3 ≡ roundOff d X k
+      exact : guarded X % 2 ^ u ≡ 0 → roundOff d (x * 2 ^ (u - k)) guardBits ≡ roundOff d X k
       exact e =
-          sym (round-off-scale d (x * 2 ^ (u - k)) 3 k)
+          sym (round-off-scale d (x * 2 ^ (u - k)) guardBits k)
           ∙ ap₂ (roundOff d)
           (mul-assoc x (2 ^ (u - k)) (2 ^ k) ∙ ap (λ (n : ℕ). x * n) (sym (pow-add 2 (u - k) k) ∙ ap (λ (n : ℕ). 2 ^ n) back)
-          ∙ ap (λ (n : ℕ). n * 2 ^ u) (held .stands) ∙ with-sticky-exact (4 * X) u e ∙ eight)
-          (native.Mathlib.Nat.add-comm 3 k)
-          ∙ round-off-scale d X k 3
+          ∙ ap (λ (n : ℕ). n * 2 ^ u) (held .stands) ∙ with-sticky-exact (guarded X) u e ∙ whole)
+          (native.Mathlib.Nat.add-comm guardBits k)
+          ∙ round-off-scale d X k guardBits
         where
           back : u - k + k ≡ u
           back = omega arith
 
-          eight : 2 * (4 * X) ≡ X * 2 ^ 3
-          eight = omega arith
+          whole : 2 * guarded X ≡ X * 2 ^ guardBits
+          whole = omega arith
 
-      long : 2 ^ (F .f + 2) ≤ x → roundOff d (x * 2 ^ (u - k)) 3 ≡ roundOff d X k
+      long : 2 ^ smallBits (F .f) ≤ x → roundOff d (x * 2 ^ (u - k)) guardBits ≡ roundOff d X k
       long h = go (u - k) refl
         where
           near : u ≤ k + 1
-          near = omega (arith, held-size, size-least x (F .f + 2) h)
+          near = omega (arith, held-size, size-least x (smallBits (F .f)) h)
 
-          go : (z : ℕ) → u - k ≡ z → roundOff d (x * 2 ^ z) 3 ≡ roundOff d X k
+          go : (z : ℕ) → u - k ≡ z → roundOff d (x * 2 ^ z) guardBits ≡ roundOff d X k
           go zero e =
-              ap (λ (n : ℕ). roundOff d n 3) (native.Mathlib.Nat.mul-one x ∙ held .stands) ∙ round-off-sticky d (4 * X) u 1
-              ∙ ap₂ (roundOff d) (mul-comm 4 X) (omega arith) ∙ round-off-scale d X k 2
+              ap (λ (n : ℕ). roundOff d n guardBits) (native.Mathlib.Nat.mul-one x ∙ held .stands) ∙ round-off-sticky d (guarded X) u (guardBits - 2)
+              ∙ ap₂ (roundOff d) (mul-comm (2 ^ (guardBits - 1)) X) (omega arith) ∙ round-off-scale d X k (guardBits - 1)
           go (suc zero) e =
-              round-off-scale d x 2 1 ∙ ap (λ (n : ℕ). roundOff d n 2) (held .stands) ∙ round-off-sticky d (4 * X) u 0
-              ∙ ap₂ (roundOff d) (mul-comm 4 X) (omega arith) ∙ round-off-scale d X k 2
+              round-off-scale d x (guardBits - 1) 1 ∙ ap (λ (n : ℕ). roundOff d n (guardBits - 1)) (held .stands) ∙ round-off-sticky d (guarded X) u (guardBits - 1 - 2)
+              ∙ ap₂ (roundOff d) (mul-comm (2 ^ (guardBits - 1)) X) (omega arith) ∙ round-off-scale d X k (guardBits - 1)
           go (suc (suc z)) e = absurd (omega (arith, near))
 
   -- for the bits that x tells to be dropped
-  pub held-part : (d : Direction) → x < 2 ^ (F .f + 5) → keptPart d x u (dropped F X) ≡ roundOff d X (dropped F X)
+  pub held-part : (d : Direction) → x < 2 ^ sumBits (F .f) → keptPart d x u (dropped F X) ≡ roundOff d X (dropped F X)
   unfolding keptPart
   held-part d below = go (decLt u (dropped F X))
     where
-      most : size x ≤ F .f + 5
-      most = size-le x (F .f + 5) below
+      most : size x ≤ sumBits (F .f)
+      most = size-le x (sumBits (F .f)) below
 
-      go : Dec (u < dropped F X) → cond (ltb u (dropped F X)) (roundOff d x 4) (roundOff d (x * 2 ^ (u - dropped F X)) 3) ≡ roundOff d X (dropped F X)
+      go : Dec (u < dropped F X) → cond (ltb u (dropped F X)) (roundOff d x mostRounded) (roundOff d (x * 2 ^ (u - dropped F X)) guardBits) ≡ roundOff d X (dropped F X)
       go (yes h) = rw (lt-ltb u (dropped F X) h) (held-carry d (omega (arith, held-size, most)))
       go (no h) = rw (le-ltb u (dropped F X) (omega arith)) (held-kept d (omega arith))
 
@@ -129,14 +130,14 @@ pub held-zero : (F : Format) (X u : ℕ) → Held F X 0 u → X ≡ 0
 unfolding withSticky
 held-zero F X u held = ⊎-elim exact long (held .exact-or-long)
   where
-    exact : 4 * X % 2 ^ u ≡ 0 → X ≡ 0
+    exact : guarded X % 2 ^ u ≡ 0 → X ≡ 0
     exact e =
-        let w = with-sticky-exact (4 * X) u e in
+        let w = with-sticky-exact (guarded X) u e in
         let z = ap (λ (n : ℕ). n * 2 ^ u) (held .stands) in
         omega (arith, native.Mathlib.Nat.zero-mul (2 ^ u))
 
-    long : 2 ^ (F .f + 2) ≤ 0 → X ≡ 0
-    long h = absurd (not-le-of-lt (pow-pos (F .f + 2)) h)
+    long : 2 ^ smallBits (F .f) ≤ 0 → X ≡ 0
+    long h = absurd (not-le-of-lt (pow-pos (smallBits (F .f))) h)
 
 pub held-pos : (F : Format) (X x u : ℕ) → Held F X x u → (x ≡ 0 → ⊥) → 0 < X
 unfolding withSticky

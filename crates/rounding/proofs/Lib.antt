@@ -1,4 +1,5 @@
 pub mod Size
+pub mod Widths
 pub mod Sticky
 pub mod RoundOff
 pub mod AddConstant

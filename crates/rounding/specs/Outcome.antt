@@ -1,6 +1,7 @@
 -- The word c that two aligned significands make (document 01, "The rounded result"). The larger operand's significand L is held as
--- H = 8 * L and the smaller one's, aligned to it, as T with guard, round and sticky bit (`Sticky`); what they make is held as x = H + T or
--- H - T. No exponent field is named: only the exponent u of the larger operand's unit, on which c's exponent depends. Assumes nothing.
+-- H, with the guard bits below it, and the smaller one's, aligned to it, as T with guard, round and sticky bit (`headAt` and `tailAt` of
+-- `Sticky`); what they make is held as x = H + T or H - T. No exponent field is named: only the exponent u of the larger operand's unit, on
+-- which c's exponent depends. Assumes nothing.
 use mathlib.Core.Bool.{Bool, true, false, cond}
 use Prim.Native.Nat.{ℕ, zero, suc, _+_, _-_, _*_, _^_}
 use lib.Dec.{ltb}

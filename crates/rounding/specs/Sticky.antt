@@ -19,9 +19,21 @@ sticky ρ = cond (eqb ρ 0) 0 1
 unfoldable pub withSticky : ℕ → ℕ → ℕ
 withSticky Z u = Z / 2 ^ u * 2 + sticky (Z % 2 ^ u)
 
+-- a significand with q - 1 bits below it: all of q but the sticky bit's
+abbrev pub guardedAt : ℕ → ℕ → ℕ
+guardedAt q m = 2 ^ (q - 1) * m
+
+-- the larger operand's significand, with q bits below its last one
+abbrev pub headAt : ℕ → ℕ → ℕ
+headAt q m = 2 ^ q * m
+
+-- the smaller operand's, moved down by d places: of q bits below the larger one's last bit the lowest is the sticky bit
+abbrev pub tailAt : ℕ → ℕ → ℕ → ℕ
+tailAt q m d = withSticky (guardedAt q m) d
+
 -- a significand with room for the guard and the round bit
 abbrev pub guarded : ℕ → ℕ
-guarded m = 2 ^ (guardBits - 1) * m
+guarded m = guardedAt guardBits m
 
 -- x stands for the magnitude X: X in units of 2^u steps, and the guard bits of a result with L's exponent. Either nothing was dropped, or x
 -- has as many bits as p and the guard and the round bit make.

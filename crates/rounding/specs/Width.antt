@@ -2,6 +2,7 @@
 -- and sticky bit. No definition of the promise cites this file. Assumes nothing.
 use Prim.Native.Nat.{ℕ, _+_, _-_}
 
+-- three or more: a difference that loses its top bit still has a round bit and the sticky bit below its last one
 abbrev pub guardBits : ℕ
 guardBits = 3
 
@@ -25,6 +26,10 @@ columnsOf f = f + (3 + guardBits)
 abbrev pub mostRounded : ℕ
 mostRounded = 1 + guardBits
 
--- a mask of so many bits can be moved up by them within a word of 64 bits
+-- a number of so many bits can be moved up by them within a word of 64 bits
 abbrev pub shortBits : ℕ
 shortBits = 64 - mostRounded
+
+-- a mask on aligned significands is one on so many bits, all of a word but the top one; a short number with the guard bits has no more
+abbrev pub maskBits : ℕ
+maskBits = 63

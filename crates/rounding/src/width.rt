@@ -12,3 +12,7 @@ pub const SUM: u64 = 2 + GUARD_BITS;
 pub const COLUMNS: u64 = 3 + GUARD_BITS;
 // The most bits that are rounded off: one more than the guard bits after a carry.
 pub const MOST_ROUNDED: u64 = 1 + GUARD_BITS;
+// A number of so many bits can be moved up by them within a word of 64 bits.
+pub const SHORT: u64 = 64 - MOST_ROUNDED;
+// A mask on aligned significands is one on so many bits, all of a word but the top one.
+pub const MASK_BITS: u64 = 63;

@@ -4,37 +4,24 @@
 use mathlib.Core.Logic.{_↔_}
 use mathlib.Core.Path.{_≡_, sym, ap, ap₂, _∙_, subst}
 use Prim.Native.Nat.{ℕ, _+_, _-_, _*_, _/_, _%_, _^_, _≤_, _<_}
-use native.Mathlib.Nat.{mod-lt, mod-one, div-one, div-eq-of-lt, mod-eq-of-lt, lt-of-lt-of-le, lt-of-le-of-lt}
+use native.Mathlib.Nat.{mod-lt, div-eq-of-lt, mod-eq-of-lt, lt-of-lt-of-le, lt-of-le-of-lt, mul-lt-mul-of-pos-right}
 use native.Mathlib.Decide.{ℕ-discrete}
 use native.Mathlib.Omega.{arith}
 use borrow.Author.Tests.{le-leb}
 use lib.Bits.{and-self}
-use lib.Pow.{pow-pos, pow-mono, pow-add, shr-le, split, high, low}
-use Rattle.bits.specs.Bit.{bit}
-use Rattle.bits.proofs.Laws.{bit-above}
+use lib.Pow.{pow-pos, pow-mono, pow-add, split, high, low}
 use Rattle.mask.specs.declared.Mask.{Mask}
 use Rattle.mask.specs.Mask.{WellFormed, Meets}
 use Rattle.mask.proofs.ByBits.{value-below}
 use Rattle.mask.proofs.Checks.{wellFormed-true}
-use Rattle.rounding.specs.Sticky.{sticky, withSticky}
-use Rattle.rounding.proofs.Sticky.{sticky-lt, with-sticky-bounds}
-use Rattle.significand.specs.Tail.{complement, least, greatest, alignedMask, tailMask}
-use Rattle.significand.proofs.Complements.{complement-bit}
-use Rattle.significand.proofs.Part.{Part, part-le, part-shr, part-mod, part-block, part-four, part-with-sticky}
+use Rattle.rounding.specs.Sticky.{sticky, withSticky, guardedAt, headAt, tailAt}
+use Rattle.rounding.specs.Width.{guardBits, shortBits, maskBits}
+use Rattle.rounding.proofs.Sticky.{sticky-lt}
+use Rattle.rounding.proofs.Widths.{guards, short-room}
+use Rattle.rounding.proofs.Align.{tail-none, tail-short}
+use Rattle.significand.specs.Tail.{least, greatest, spanned, formsMask, alignedMask, tailMask}
+use Rattle.significand.proofs.Part.{Part, part-le, part-shr, part-mod, part-block, part-scale, part-unscale, part-with-sticky}
 use Rattle.significand.proofs.Range.{greatest-lt, meets-range, spanned-formed, spanned-meets}
-
--- an aligned form has three bits more than the significand
-pub aligned-lt : (p r d : ℕ) → r < 2 ^ p → withSticky (4 * r) d < 2 ^ (p + 3)
-aligned-lt p r d h =
-    let b = with-sticky-bounds (4 * r) d in
-    let s = shr-le (4 * r) d in
-    let e = pow-add 2 p 3 in
-    omega arith
-
--- with no gap it is eight times the significand
-pub aligned-zero : (r : ℕ) → withSticky (4 * r) 0 ≡ 8 * r
-unfolding withSticky
-aligned-zero r = ap₂ (λ (q s : ℕ). q * 2 + sticky s) (div-one (4 * r)) (mod-one (4 * r)) ∙ omega arith
 
 -- ---- back from a number t between l and g with their sticky bits
 module _ (l g d t : ℕ) (lg : Part l g) (above : Part (withSticky l d) t) (under : Part t (withSticky g d)) where
@@ -85,87 +72,85 @@ module _ (l g d t : ℕ) (lg : Part l g) (above : Part (withSticky l d) t) (unde
         ap₂ (λ (q b : ℕ). q * 2 + sticky b) (high (t / 2) d (s .rest-lt)) (low (t / 2) d (s .rest-lt)) ∙ ap (λ (b : ℕ). t / 2 * 2 + b) (s .told) ∙ omega arith,
       )
 
--- a number between two multiples of four is one
-quarter : (l g x : ℕ) → Part (4 * l) x → Part x (4 * g) → (r : ℕ) × Part l r × Part r g × (4 * r ≡ x)
-quarter l g x above under =
-    let none = part-le (x % 4) (4 * g % 4) (part-mod 2 x (4 * g) under) in (
-      x / 4,
-      subst (λ (n : ℕ). Part n (x / 4)) (omega arith) (part-shr 2 (4 * l) x above),
-      subst (λ (n : ℕ). Part (x / 4) n) (omega arith) (part-shr 2 x (4 * g) under),
-      omega arith,
-    )
-
--- ---- the mask on the aligned forms of the significands of p bits that meet m
-module _ (p : ℕ) (m : Mask) (d : ℕ) (hp : p ≤ 60) (w : WellFormed p m) where
+-- ---- the mask on n bits of the aligned forms of the significands of p bits that meet m, with q bits below the larger operand's last one
+module _ (n q p : ℕ) (m : Mask) (d : ℕ) (some : 0 < q) (room : p + q ≤ n) (w : WellFormed p m) where
   least-part : Part (least m) (greatest p m)
   least-part = meets-range p m w (least m) (value-below p m w) .0 (w .inside) .1
 
+  -- aligning keeps parts, and p bits become p + q
+  aligned-part : (x y : ℕ) → Part x y → Part (tailAt q x d) (tailAt q y d)
+  aligned-part x y h = part-with-sticky (guardedAt q x) (guardedAt q y) d (part-scale (q - 1) x y h)
+
+  aligned-lt : (r : ℕ) → r < 2 ^ p → tailAt q r d < 2 ^ n
+  aligned-lt r h = lt-of-lt-of-le (tail-short q some p r h d) (pow-mono room)
+
   -- the aligned forms of the least and of the greatest
-  pub ends-part : Part (withSticky (4 * least m) d) (withSticky (4 * greatest p m) d)
-  ends-part = part-with-sticky (4 * least m) (4 * greatest p m) d (part-four (least m) (greatest p m) least-part)
+  pub ends-part : Part (tailAt q (least m) d) (tailAt q (greatest p m) d)
+  ends-part = aligned-part (least m) (greatest p m) least-part
 
-  pub ends-lt : withSticky (4 * greatest p m) d < 2 ^ 63
-  ends-lt = lt-of-lt-of-le (aligned-lt p (greatest p m) d (greatest-lt p m w)) (pow-mono {i = p + 3} {j = 63} (omega arith))
+  pub ends-lt : tailAt q (greatest p m) d < 2 ^ n
+  ends-lt = aligned-lt (greatest p m) (greatest-lt p m w)
 
-  pub tail-aligned : tailMask p m d ≡ alignedMask p m d
-  unfolding tailMask
-  tail-aligned = simp (le-leb p 60 hp, wellFormed-true p m .1 w)
+  pub forms-formed : WellFormed n (formsMask n q p m d)
+  forms-formed = spanned-formed n (tailAt q (least m) d) (tailAt q (greatest p m) d) ends-part ends-lt
 
-  pub tail-formed : WellFormed 63 (tailMask p m d)
-  tail-formed = rw tail-aligned (spanned-formed 63 (withSticky (4 * least m) d) (withSticky (4 * greatest p m) d) ends-part ends-lt)
+  forms-meets : (t : ℕ) → t < 2 ^ n → Meets t (formsMask n q p m d) ↔ (Part (tailAt q (least m) d) t × Part t (tailAt q (greatest p m) d))
+  forms-meets t h = spanned-meets n (tailAt q (least m) d) (tailAt q (greatest p m) d) ends-part ends-lt t h
 
-  tail-meets : (t : ℕ) → t < 2 ^ 63 → Meets t (tailMask p m d) ↔ (Part (withSticky (4 * least m) d) t × Part t (withSticky (4 * greatest p m) d))
-  tail-meets t h = rw tail-aligned (spanned-meets 63 (withSticky (4 * least m) d) (withSticky (4 * greatest p m) d) ends-part ends-lt t h)
+  -- each aligned form meets the mask
+  pub forms-sound : (r : ℕ) → r < 2 ^ p → Meets r m → Meets (tailAt q r d) (formsMask n q p m d)
+  forms-sound r h met =
+      let range = meets-range p m w r h .0 met in
+      forms-meets (tailAt q r d) (aligned-lt r h) .1 (aligned-part (least m) r (range .0), aligned-part r (greatest p m) (range .1))
 
-  -- each aligned form meets the mask, and stands below bit p + 3
-  pub tail-sound : (r : ℕ) → r < 2 ^ p → Meets r m → Meets (withSticky (4 * r) d) (tailMask p m d) × (withSticky (4 * r) d < 2 ^ (p + 3))
-  tail-sound r h met =
-      let b = aligned-lt p r d h in
-      let range = meets-range p m w r h .0 met in (
-        tail-meets (withSticky (4 * r) d) (lt-of-lt-of-le b (pow-mono {i = p + 3} {j = 63} (omega arith))) .1 (
-          part-with-sticky (4 * least m) (4 * r) d (part-four (least m) r (range .0)),
-          part-with-sticky (4 * r) (4 * greatest p m) d (part-four r (greatest p m) (range .1)),
-        ),
-        b,
-      )
-
-  -- and each number of 63 bits that meets the mask is an aligned form
-  pub tail-complete : (t : ℕ) → t < 2 ^ 63 → Meets t (tailMask p m d) → (r : ℕ) × (r < 2 ^ p) × Meets r m × (withSticky (4 * r) d ≡ t)
-  tail-complete t h met =
-      let range = tail-meets t h .0 met in
-      let x = with-sticky-back (4 * least m) (4 * greatest p m) d t (part-four (least m) (greatest p m) least-part) (range .0) (range .1) in
-      let r = quarter (least m) (greatest p m) (x .0) (x .1) (x .2) in
+  -- and each number of n bits that meets the mask is an aligned form
+  pub forms-complete : (t : ℕ) → t < 2 ^ n → Meets t (formsMask n q p m d) → (r : ℕ) × (r < 2 ^ p) × Meets r m × (tailAt q r d ≡ t)
+  forms-complete t h met =
+      let range = forms-meets t h .0 met in
+      let x = with-sticky-back (guardedAt q (least m)) (guardedAt q (greatest p m)) d t (part-scale (q - 1) (least m) (greatest p m) least-part) (range .0) (range .1) in
+      let r = part-unscale (q - 1) (least m) (greatest p m) (x .0) (x .1) (x .2) in
       let b = lt-of-le-of-lt (part-le (r .0) (greatest p m) (r .2)) (greatest-lt p m w) in
-      (r .0, b, meets-range p m w (r .0) b .1 (r .1, r .2), ap (λ (n : ℕ). withSticky n d) (r .3) ∙ x .3)
+      (r .0, b, meets-range p m w (r .0) b .1 (r .1, r .2), ap (λ (k : ℕ). withSticky k d) (r .3) ∙ x .3)
 
-  -- the bits from p + 3 to 62 are fixed to 0
-  pub tail-above : (i : ℕ) → p + 3 ≤ i → i < 63 → (bit (tailMask p m d .care) i ≡ 1) × (bit (tailMask p m d .value) i ≡ 0)
-  tail-above i h l =
-      let g = lt-of-lt-of-le (aligned-lt p (greatest p m) d (greatest-lt p m w)) (pow-mono {i = p + 3} {j = i} h) in
-      let le = part-le (withSticky (4 * least m) d) (withSticky (4 * greatest p m) d) ends-part in
-      let free = bit-above {x = withSticky (4 * greatest p m) d - withSticky (4 * least m) d} i (omega arith) in
-      rw tail-aligned (
-        omega (arith, complement-bit 63 (withSticky (4 * greatest p m) d - withSticky (4 * least m) d) i (omega (arith, ends-lt)) l),
-        bit-above i (lt-of-le-of-lt le g),
-      )
+  -- so such a number has p + q bits
+  pub forms-below : (t : ℕ) → t < 2 ^ n → Meets t (formsMask n q p m d) → t < 2 ^ (p + q)
+  forms-below t h met = let r = forms-complete t h met in subst (λ (k : ℕ). k < 2 ^ (p + q)) (r .3) (tail-short q some p (r .0) (r .1) d)
 
-  -- so a number of 63 bits that meets the mask has none of them
-  pub tail-below : (t : ℕ) → t < 2 ^ 63 → Meets t (tailMask p m d) → t < 2 ^ (p + 3)
-  tail-below t h met = let r = tail-complete t h met in subst (λ (n : ℕ). n < 2 ^ (p + 3)) (r .3) (aligned-lt p (r .0) d (r .1))
-
--- ---- a gap of p + 2 places or more drops the whole significand: which one does not matter
+-- a gap of p + q - 1 places or more drops the whole significand: which one does not matter
 far-sticky : (x d : ℕ) → x < 2 ^ d → withSticky x d ≡ sticky x
 unfolding withSticky
 far-sticky x d h = ap₂ (λ (q r : ℕ). q * 2 + sticky r) (div-eq-of-lt h) (mod-eq-of-lt h) ∙ omega arith
 
-pub tail-far : (p : ℕ) (m : Mask) (d e : ℕ) → p ≤ 60 → WellFormed p m → p + 2 ≤ d → p + 2 ≤ e → tailMask p m d ≡ tailMask p m e
-tail-far p m d e hp w hd he =
-    tail-aligned p m d hp w
-    ∙ ap₂ (λ (l g : ℕ). record { care = complement 63 (g - l); value = l }) (same (least m) (value-below p m w)) (same (greatest p m) (greatest-lt p m w))
-    ∙ sym (tail-aligned p m e hp w)
+pub forms-far : (n q p : ℕ) (m : Mask) (d e : ℕ) → WellFormed p m → p + (q - 1) ≤ d → p + (q - 1) ≤ e → formsMask n q p m d ≡ formsMask n q p m e
+forms-far n q p m d e w hd he = ap₂ (spanned n) (same (least m) (value-below p m w)) (same (greatest p m) (greatest-lt p m w))
   where
-    below : (x k : ℕ) → x < 2 ^ p → p + 2 ≤ k → 4 * x < 2 ^ k
-    below x k h l = let q = pow-add 2 p 2 in lt-of-lt-of-le (omega arith) (pow-mono {i = p + 2} {j = k} l)
+    below : (x k : ℕ) → x < 2 ^ p → p + (q - 1) ≤ k → guardedAt q x < 2 ^ k
+    below x k h l =
+        let a = pow-add 2 p (q - 1) in
+        let b = mul-lt-mul-of-pos-right h (pow-pos (q - 1)) in
+        lt-of-lt-of-le (omega arith) (pow-mono {i = p + (q - 1)} {j = k} l)
 
-    same : (x : ℕ) → x < 2 ^ p → withSticky (4 * x) d ≡ withSticky (4 * x) e
-    same x h = far-sticky (4 * x) d (below x d h hd) ∙ sym (far-sticky (4 * x) e (below x e h he))
+    same : (x : ℕ) → x < 2 ^ p → tailAt q x d ≡ tailAt q x e
+    same x h = far-sticky (guardedAt q x) d (below x d h hd) ∙ sym (far-sticky (guardedAt q x) e (below x e h he))
+
+-- ---- with the guard bits
+pub aligned-zero : (r : ℕ) → tailAt guardBits r 0 ≡ headAt guardBits r
+aligned-zero r = tail-none guardBits guards r
+
+module _ (p : ℕ) (m : Mask) (d : ℕ) (hp : p ≤ shortBits) (w : WellFormed p m) where
+  pub tail-aligned : tailMask p m d ≡ alignedMask p m d
+  unfolding tailMask
+  tail-aligned = simp (le-leb p shortBits hp, wellFormed-true p m .1 w)
+
+  pub tail-sound : (r : ℕ) → r < 2 ^ p → Meets r m → Meets (tailAt guardBits r d) (tailMask p m d) × (tailAt guardBits r d < 2 ^ (p + guardBits))
+  tail-sound r h met =
+      (rw tail-aligned (forms-sound maskBits guardBits p m d guards (short-room p hp) w r h met), tail-short guardBits guards p r h d)
+
+  pub tail-complete : (t : ℕ) → t < 2 ^ maskBits → Meets t (tailMask p m d) → (r : ℕ) × (r < 2 ^ p) × Meets r m × (tailAt guardBits r d ≡ t)
+  tail-complete t h met = forms-complete maskBits guardBits p m d guards (short-room p hp) w t h (rw tail-aligned at met)
+
+  pub tail-below : (t : ℕ) → t < 2 ^ maskBits → Meets t (tailMask p m d) → t < 2 ^ (p + guardBits)
+  tail-below t h met = forms-below maskBits guardBits p m d guards (short-room p hp) w t h (rw tail-aligned at met)
+
+pub tail-far : (p : ℕ) (m : Mask) (d e : ℕ) → p ≤ shortBits → WellFormed p m → p + (guardBits - 1) ≤ d → p + (guardBits - 1) ≤ e → tailMask p m d ≡ tailMask p m e
+tail-far p m d e hp w hd he = tail-aligned p m d hp w ∙ forms-far maskBits guardBits p m d e w hd he ∙ sym (tail-aligned p m e hp w)

@@ -1,13 +1,14 @@
 -- The mask on the aligned forms of all the significands that meet a mask. An aligned form is R "counted in L's unit" (document 01, "The
--- carry row") with two more bits and then the sticky bit. A bit of the significand that rises from 0 to 1 makes no bit of the aligned
--- form fall, not the sticky bit either; so what is fixed is what the aligned forms of the least and of the greatest significand agree in.
--- Assumes nothing.
+-- carry row") with some bits more, the last of them the sticky bit. A bit of the significand that rises from 0 to 1 makes no bit of the
+-- aligned form fall, not the sticky bit either; so what is fixed is what the aligned forms of the least and of the greatest significand
+-- agree in. Assumes nothing.
 use mathlib.Core.Bool.{_&&_}
-use Prim.Native.Nat.{ℕ, _+_, _-_, _*_, _^_}
+use Prim.Native.Nat.{ℕ, _+_, _-_, _^_}
 use lib.Dec.{leb}
 use Rattle.mask.specs.declared.Mask.{Mask}
 use Rattle.mask.specs.Mask.{wellFormed, pickMask}
-use Rattle.rounding.specs.Sticky.{withSticky}
+use Rattle.rounding.specs.Sticky.{tailAt}
+use Rattle.rounding.specs.Width.{guardBits, shortBits, maskBits}
 
 -- the k bits that x has not
 abbrev pub complement : ℕ → ℕ → ℕ
@@ -25,11 +26,15 @@ greatest k m = m .value + complement k (m .care)
 abbrev pub spanned : ℕ → ℕ → ℕ → Mask
 spanned k l g = record { care = complement k (g - l); value = l }
 
--- the mask on the aligned forms, for a gap of d places, of the significands of p bits that meet m; it is one on 63 bits, and so fixes
--- the bits from p + 3 on to 0
-abbrev pub alignedMask : ℕ → Mask → ℕ → Mask
-alignedMask p m d = spanned 63 (withSticky (4 * least m) d) (withSticky (4 * greatest p m) d)
+-- the mask on n bits of the aligned forms, for a gap of d places and with q bits below the larger operand's last one, of the significands of
+-- p bits that meet m; a number of n bits that meets it has p + q at most
+abbrev pub formsMask : ℕ → ℕ → ℕ → Mask → ℕ → Mask
+formsMask n q p m d = spanned n (tailAt q (least m) d) (tailAt q (greatest p m) d)
 
--- that mask, and m as it is where p is above 60 or m is not well formed for p bits
+-- the same with the guard bits
+abbrev pub alignedMask : ℕ → Mask → ℕ → Mask
+alignedMask p m d = formsMask maskBits guardBits p m d
+
+-- that mask, and m as it is where a significand of p bits has no room for the guard bits or m is not well formed for p bits
 unfoldable pub tailMask : ℕ → Mask → ℕ → Mask
-tailMask p m d = pickMask (leb p 60 && wellFormed p m) (alignedMask p m d) m
+tailMask p m d = pickMask (leb p shortBits && wellFormed p m) (alignedMask p m d) m

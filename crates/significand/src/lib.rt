@@ -5,11 +5,14 @@ use mask::Mask;
 use mask::fix;
 use mask::mask_cause;
 use rounding::alignment::aligned;
+use rounding::width::MASK_BITS;
+use rounding::width::SHORT;
 use std::num::wrapping_add_u64;
 use word::Biased;
 ghost use mathlib.Core.Path.{_≡_};
 ghost use Prim.Native.Nat.{_%_, _≤_, _<_, _^_};
 ghost use Rattle.mask.specs.Mask.{WellFormed};
+ghost use Rattle.rounding.specs.Width.{shortBits, maskBits};
 ghost use Rattle.significand.specs.Significand.{significandMask};
 ghost use Rattle.significand.specs.Tail.{complement, greatest, spanned, alignedMask, tailMask};
 
@@ -42,30 +45,30 @@ pub fn greatest(k: u64, m: Mask) -> u64
     wrapping_add_u64(m.value, complement(k, m.care))
 }
 
-// The mask on 63 bits from its least number and its greatest.
+// The mask from its least number and its greatest.
 fn spanned(l: u64, g: u64) -> Mask
-    requires { ⌜ (l ≤ g) × (g < 2 ^ 63) ⌝ }
-    ensures { λ r. ⌜ r ≡ spanned 63 l g ⌝ }
+    requires { ⌜ (l ≤ g) × (g < 2 ^ maskBits) ⌝ }
+    ensures { λ r. ⌜ r ≡ spanned maskBits l g ⌝ }
 {
     Mask {
-        care: complement(63, g - l),
+        care: complement(MASK_BITS, g - l),
         value: l,
     }
 }
 
 // The mask on the aligned forms of the significands of p bits that meet m.
 fn aligned_mask(p: u64, m: Mask, gap: u64) -> Mask
-    requires { ⌜ (p ≤ 60) × WellFormed p m ⌝ }
+    requires { ⌜ (p ≤ shortBits) × WellFormed p m ⌝ }
     ensures { λ r. ⌜ r ≡ alignedMask p m gap ⌝ }
 {
     spanned(aligned(m.value, gap), aligned(greatest(p, m), gap))
 }
 
-// That mask; m as it is where p is above 60 or m is not well formed for p bits.
+// That mask; m as it is where p bits leave no room for the guard bits or m is not well formed for p bits.
 pub fn tail_mask(p: u64, m: Mask, gap: u64) -> Mask
     ensures { λ r. ⌜ r ≡ tailMask p m gap ⌝ }
 {
-    if p <= 60 {
+    if p <= SHORT {
         if mask_cause(p, m) == 0 {
             return aligned_mask(p, m, gap);
         }

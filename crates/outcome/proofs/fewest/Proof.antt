@@ -1,6 +1,7 @@
 -- `outcome::fewest` meets its contract: the mask of the larger significand refuses that its top bit is 0. Assumes nothing.
 use mathlib.Core.Bool.{false}
 use Prim.Native.Nat.{_+_}
+use Rattle.rounding.specs.Width.{guardBits}
 use Rattle.outcome.proofs.Range.{high-tested, refused-none, made-like, made-unlike}
 use borrow.Author.Needs.{needs}
 use Rattle.outcome.proofs.fewest.Statement.{statement}
@@ -28,7 +29,7 @@ returns-2 c =
     let h = c .before .before .before .high in
     let m = c .before .before .meets in
     λ x made. made-like (a .f) (a .aligned) x made (c .if2 .taken)
-    (refused-none (a .f + 3) (made .H) (a .aligned .head) (made .head-meets) (high-tested 0 (a .f + 3) (a .aligned .head) (h .result) (m .result) false (h .ensures) (m .ensures) (c .before .if1 .left)))
+    (refused-none (a .f + guardBits) (made .H) (a .aligned .head) (made .head-meets) (high-tested 0 (a .f + guardBits) (a .aligned .head) (h .result) (m .result) false (h .ensures) (m .ensures) (c .before .if1 .left)))
 
 small-requires : tie.Need-small-requires
 small-requires c κs = search needs
@@ -43,7 +44,7 @@ returns-3 c =
     let h = c .before .before .before .before .before .high in
     let m = c .before .before .before .before .meets in
     λ x made. made-unlike (a .f) (a .aligned) x made (c .before .before .if2 .left)
-    (refused-none (a .f + 3) (made .H) (a .aligned .head) (made .head-meets) (high-tested 0 (a .f + 3) (a .aligned .head) (h .result) (m .result) false (h .ensures) (m .ensures) (c .before .before .before .if1 .left)))
+    (refused-none (a .f + guardBits) (made .H) (a .aligned .head) (made .head-meets) (high-tested 0 (a .f + guardBits) (a .aligned .head) (h .result) (m .result) false (h .ensures) (m .ensures) (c .before .before .before .if1 .left)))
     (c .before .small .ensures (c .if3 .taken) (made .T) (made .tail-lt) (made .tail-meets))
 
 returns-4 : tie.Need-returns-4

@@ -1,9 +1,10 @@
 -- `outcome::small` meets its contract: the quotient is below 4, and the mask refuses 1, 2 and 3. Assumes nothing.
-use mathlib.Core.Path.{_≡_, subst}
+use mathlib.Core.Path.{subst}
 use mathlib.Core.Bool.{false, false≢true}
-use Prim.Native.Nat.{ℕ, _+_, _^_, _<_}
-use native.Mathlib.Omega.{arith}
+use Prim.Native.Nat.{ℕ, _^_, _<_}
 use borrow.Author.Tests.{not-true}
+use Rattle.rounding.specs.Width.{smallBits}
+use Rattle.rounding.proofs.Widths.{small-width}
 use Rattle.outcome.proofs.Range.{high-tested, refused-some}
 use borrow.Author.Needs.{needs}
 use Rattle.outcome.proofs.small.Statement.{statement}
@@ -34,12 +35,11 @@ returns-3 : tie.Need-returns-3
 returns-3 c =
     let a = c .before .before .before .before .before .before .args in
     let h = c .before .before .before .before .before .high in
-    let four : a .f + 4 ≡ 2 + (a .f + 2) = omega arith in
-    λ e n below met. refused-some (a .f + 2) n (a .m) met
-    (high-tested 1 (a .f + 2) (a .m) (h .result) (c .before .before .before .before .meets .result) false (h .ensures) (c .before .before .before .before .meets .ensures) (c .before .before .before .if1 .left))
-    (high-tested 2 (a .f + 2) (a .m) (h .result) (c .before .before .meets2 .result) false (h .ensures) (c .before .before .meets2 .ensures) (c .before .if2 .left))
-    (high-tested 3 (a .f + 2) (a .m) (h .result) (c .meets3 .result) false (h .ensures) (c .meets3 .ensures) (not-true (c .meets3 .result) e))
-    (subst (λ (k : ℕ). n < 2 ^ k) four below)
+    λ e n below met. refused-some (smallBits (a .f)) n (a .m) met
+    (high-tested 1 (smallBits (a .f)) (a .m) (h .result) (c .before .before .before .before .meets .result) false (h .ensures) (c .before .before .before .before .meets .ensures) (c .before .before .before .if1 .left))
+    (high-tested 2 (smallBits (a .f)) (a .m) (h .result) (c .before .before .meets2 .result) false (h .ensures) (c .before .before .meets2 .ensures) (c .before .if2 .left))
+    (high-tested 3 (smallBits (a .f)) (a .m) (h .result) (c .meets3 .result) false (h .ensures) (c .meets3 .ensures) (not-true (c .meets3 .result) e))
+    (subst (λ (k : ℕ). n < 2 ^ k) (small-width (a .f)) below)
 
 pub small-spec : {M : Type 1} → statement M
 small-spec =

@@ -12,11 +12,11 @@ use Rattle.word.specs.declared.Finite as record-of
 use Rattle.word.specs.declared.Unit as exponent
 use Rattle.word.specs.Word.{unitOf, signed}
 use Rattle.word.specs.Operand.{magnitude, Canonical}
-use Rattle.rounding.specs.Sticky.{withSticky, guarded, Held, Roundable}
-use Rattle.rounding.specs.Width.{sumBits}
+use Rattle.rounding.specs.Sticky.{headAt, tailAt, Held, Roundable}
+use Rattle.rounding.specs.Width.{guardBits, sumBits, shortBits}
 use Rattle.format.proofs.Room.{significand-room}
 use Rattle.word.proofs.Canonical.{gap-le}
-use Rattle.rounding.proofs.Sticky.{with-sticky-none}
+use Rattle.rounding.proofs.Widths.{guards}
 use Rattle.rounding.proofs.Align as align
 use Rattle.rounding.proofs.Rounded.{cancelled-lt}
 use Rattle.adder.proofs.FiniteSum.{sum-like, sum-unlike, sum-cancelled}
@@ -36,14 +36,14 @@ record Aligned (F : Format) (l r : record-of.Finite) (u : exponent.Unit) (h t : 
 
 module _ (F : Format) (l r : record-of.Finite) (ok : Supported F) (cl : Canonical F l) (cr : Canonical F r) (le : magnitude r ≤ magnitude l)
     (u v : exponent.Unit) (eu : u ≡ unitOf (l .exponent)) (ev : v ≡ unitOf (r .exponent)) where
-  short : (x : record-of.Finite) → Canonical F x → x .significand < 2 ^ 60
-  short x c = lt-of-lt-of-le (c .significand-lt) (pow-mono {i = precision F} {j = 60} (omega (arith, significand-room F ok)))
+  short : (x : record-of.Finite) → Canonical F x → x .significand < 2 ^ shortBits
+  short x c = lt-of-lt-of-le (c .significand-lt) (pow-mono {i = precision F} {j = shortBits} (omega (arith, significand-room F ok)))
 
   gap : v .0 ≤ u .0
   gap = gap-le F l r cl cr le u v eu ev
 
-  module _ (h t : ℕ) (eh : l .significand < 2 ^ 60 → h ≡ withSticky (guarded (l .significand)) 0)
-      (et : r .significand < 2 ^ 60 → t ≡ withSticky (guarded (r .significand)) (u .0 - v .0)) where
+  module _ (h t : ℕ) (eh : l .significand < 2 ^ shortBits → h ≡ tailAt guardBits (l .significand) 0)
+      (et : r .significand < 2 ^ shortBits → t ≡ tailAt guardBits (r .significand) (u .0 - v .0)) where
     up : u .0 ≡ l .exponent .0 - 1
     up = ap (λ (n : exponent.Unit). n .0) eu
 
@@ -53,10 +53,10 @@ module _ (F : Format) (l r : record-of.Finite) (ok : Supported F) (cl : Canonica
     normal : 0 < u .0 → 2 ^ F .f ≤ l .significand
     normal p = cl .normal (omega (arith, up))
 
-    head : h ≡ 8 * l .significand
-    head = eh (short l cl) ∙ with-sticky-none (guarded (l .significand)) ∙ omega arith
+    head : h ≡ headAt guardBits (l .significand)
+    head = eh (short l cl) ∙ align.tail-none guardBits guards (l .significand)
 
-    tail : t ≡ withSticky (guarded (r .significand)) (u .0 - v .0)
+    tail : t ≡ tailAt guardBits (r .significand) (u .0 - v .0)
     tail = et (short r cr)
 
     exact-l : l .significand * 2 ^ u .0 ≡ magnitude l
@@ -78,10 +78,10 @@ module _ (F : Format) (l r : record-of.Finite) (ok : Supported F) (cl : Canonica
           sum-lt = below;
           sum-fits = lt-of-lt-of-le below (pow-mono {i = sumBits (F .f)} {j = 64} (omega (arith, significand-room F ok)));
           sum-held = rw (head, tail, ← exact-l, ← exact-r) (align.sum-held F L R (u .0) (v .0) (u .0 - v .0) units (cl .significand-lt) (cr .significand-lt) normal);
-          tail-le = rw (head, tail) (align.tail-le F L R (u .0) (v .0) (u .0 - v .0) units (cl .significand-lt) (cr .significand-lt) normal not-above);
+          tail-le = rw (head, tail) (align.tail-ordered guardBits guards L R (u .0) (v .0) (u .0 - v .0) units .1 not-above);
           difference-held = rw (head, tail, ← exact-l, ← exact-r)
               (align.difference-held F L R (u .0) (v .0) (u .0 - v .0) units (cl .significand-lt) (cr .significand-lt) normal not-above);
-          equal = rw (head, tail, ← exact-l, ← exact-r) (align.equal-tail F L R (u .0) (v .0) (u .0 - v .0) units (cl .significand-lt) (cr .significand-lt) normal);
+          equal = rw (head, tail, ← exact-l, ← exact-r) (align.equal-tail guardBits guards L R (u .0) (v .0) (u .0 - v .0) units);
         }
 
 unit-of-requires : tie.Need-unit-of-requires

@@ -11,7 +11,7 @@ use lib.Pow.{pow-add, pow-mono, shr-le}
 use Rattle.mask.specs.declared.Mask.{Mask}
 use Rattle.mask.specs.Mask.{high}
 use Rattle.word.specs.declared.Unit as exponent
-use Rattle.rounding.specs.Width.{columnsOf, shortBits}
+use Rattle.rounding.specs.Width.{guardBits, columnsOf, shortBits}
 use Rattle.outcome.specs.Question.{topped}
 use Rattle.outcome.proofs.Counted.{counted-asked, counted-refused}
 use borrow.Author.Needs.{needs}
@@ -64,7 +64,7 @@ returns-2 c =
     let up = c .before .before .minus in
     let top = c .before .before .before .before .before .topped in
     λ formed. counted-refused (a .f) (a .direction) (a .unit) (a .quotient) (a .fractions .fraction) (s .pre .5) (s .pre .6) (a .aligned) (a .count) (a .fractions .possible) (s .pre .2) (s .pre .3)
-    (top .result) (up .result) (top .ensures) (up .ensures ∙ ap (λ (n : exponent.Unit). a .unit .0 - (n .0 + 3)) (k .ensures))
+    (top .result) (up .result) (top .ensures) (up .ensures ∙ ap (λ (n : exponent.Unit). a .unit .0 - (n .0 + guardBits)) (k .ensures))
     (λ z. c .if2 .taken (c .before .low .ensures ∙ z))
 
 add-digits : tie.Need-add-digits
@@ -97,10 +97,10 @@ returns-3 c =
     let up = c .before .before .before .before .before .before .minus in
     let top = c .before .before .before .before .before .before .before .before .before .topped in
     λ formed. counted-asked (a .f) (a .direction) (a .unit) (a .quotient) (a .fractions .fraction) (s .pre .5) (s .pre .6) (a .aligned) (a .count) (a .fractions .possible) (s .pre .2) (s .pre .3)
-    (top .result) (up .result) (top .ensures) (up .ensures ∙ ap (λ (n : exponent.Unit). a .unit .0 - (n .0 + 3)) (k .ensures))
+    (top .result) (up .result) (top .ensures) (up .ensures ∙ ap (λ (n : exponent.Unit). a .unit .0 - (n .0 + guardBits)) (k .ensures))
     (c .before .before .minus2 .result) (c .before .before .before .digits .result) (c .before .high .result) (c .rounds .result)
     (not-false (a .fractions .possible) (c .before .before .before .before .before .before .before .before .before .before .if1 .left))
-    (c .before .before .minus2 .ensures ∙ ap (λ (n : exponent.Unit). n .0 + 3 - a .unit .0) (k .ensures))
+    (c .before .before .minus2 .ensures ∙ ap (λ (n : exponent.Unit). n .0 + guardBits - a .unit .0) (k .ensures))
     (sym (c .before .before .before .before .before .low .ensures) ∙ c .before .before .before .before .if2 .left)
     (c .before .before .before .digits .ensures) (c .before .high .ensures) (c .rounds .ensures formed)
 

@@ -3,7 +3,7 @@ use mathlib.Core.Path.{refl, ap, ap₂, _∙_}
 use Prim.Native.Nat.{ℕ, _+_, _*_}
 use native.Mathlib.Omega.{arith}
 use lib.Pow.{shr-le}
-use Rattle.rounding.specs.Sticky.{withSticky, sticky}
+use Rattle.rounding.specs.Sticky.{withSticky, guarded, sticky}
 use Rattle.rounding.proofs.Sticky.{sticky-lt}
 use borrow.Author.Needs.{needs}
 use Rattle.rounding.proofs.alignment.aligned.Statement.{statement}
@@ -19,7 +19,7 @@ high-requires : tie.Need-high-requires
 high-requires c κs = search needs
 
 mul-result : tie.Need-mul-result
-mul-result c = let s = c .before .before in omega (arith, c .high .ensures, shr-le (4 * s .args .significand) (s .args .gap), c .before .if1 .left)
+mul-result c = let s = c .before .before in omega (arith, c .high .ensures, shr-le (guarded (s .args .significand)) (s .args .gap), c .before .if1 .left)
 
 low-requires : tie.Need-low-requires
 low-requires c κs = search needs
@@ -31,7 +31,7 @@ add-result : tie.Need-add-result
 add-result c =
     let h = c .before .before in
     let s = h .before .before in
-    omega (arith, h .high .ensures, shr-le (4 * s .args .significand) (s .args .gap), h .before .if1 .left, c .sticky .ensures, sticky-lt (c .before .low .result))
+    omega (arith, h .high .ensures, shr-le (guarded (s .args .significand)) (s .args .gap), h .before .if1 .left, c .sticky .ensures, sticky-lt (c .before .low .result))
 
 returns-2 : tie.Need-returns-2
 unfolding withSticky

@@ -6,6 +6,7 @@ use native.Mathlib.Omega.{arith}
 use borrow.Author.Tests.{lt-ltb, le-ltb}
 use Rattle.rounding.specs.Rounding.{roundOff}
 use Rattle.rounding.specs.Sticky.{keptPart}
+use Rattle.rounding.specs.Width.{guardBits, mostRounded}
 use Rattle.rounding.proofs.RoundOff.{round-off-le}
 use borrow.Author.Needs.{needs}
 use Rattle.rounding.proofs.round.kept_part.Statement.{statement}
@@ -24,7 +25,7 @@ returns : tie.Need-returns
 unfolding keptPart
 returns c =
     let s = c .before .before in
-    (rw (lt-ltb _ _ (c .before .if1 .taken)) (c .round-off .ensures), omega (arith, c .round-off .ensures, round-off-le (s .args .direction) (s .args .x) 4))
+    (rw (lt-ltb _ _ (c .before .if1 .taken)) (c .round-off .ensures), omega (arith, c .round-off .ensures, round-off-le (s .args .direction) (s .args .x) mostRounded))
 
 returns-2 : tie.Need-returns-2
 unfolding keptPart
@@ -32,8 +33,8 @@ returns-2 c =
     let s = c .before .before in
     let y = s .args .x * 2 ^ (s .args .u .0 - s .args .k) in
     let e : y % 2 ^ 64 ≡ y = mod-eq-of-lt (omega (arith, s .pre .2)) in
-    let r = c .round-off2 .ensures ∙ ap (λ (n : ℕ). roundOff (s .args .direction) n 3) e in
-    (rw (le-ltb _ _ (c .before .if1 .left)) r, omega (arith, r, round-off-le (s .args .direction) y 3, s .pre .2))
+    let r = c .round-off2 .ensures ∙ ap (λ (n : ℕ). roundOff (s .args .direction) n guardBits) e in
+    (rw (le-ltb _ _ (c .before .if1 .left)) r, omega (arith, r, round-off-le (s .args .direction) y guardBits, s .pre .2))
 
 pub kept-part-spec : {M : Type 1} → statement M
 kept-part-spec =

@@ -10,6 +10,7 @@ use Rattle.format.specs.declared.Format.{Format}
 use Rattle.format.specs.Format.{Supported}
 use Rattle.rounding.specs.Rounding.{dropped, magnitudeWord}
 use Rattle.rounding.specs.Sticky.{keptPart}
+use Rattle.rounding.specs.Width.{alignedBits, sumBits}
 use Rattle.format.proofs.Room.{significand-room}
 use Rattle.word.proofs.Bounds.{place-power, exponent-place}
 use Rattle.rounding.proofs.Held.{held-size, held-part}
@@ -17,9 +18,9 @@ use borrow.Author.Needs.{needs}
 use Rattle.rounding.proofs.round.magnitude_word.Statement.{statement}
 use Rattle.rounding.proofs.round.magnitude_word.Tie as tie
 
-module _ (F : Format) (ok : Supported F) (x u k : ℕ) (hu : u < 2 ^ F .w) (hx : x < 2 ^ (F .f + 5)) (hk : k ≡ size x + u - (F .f + 4)) where
-  digits : size x ≤ F .f + 5
-  digits = size-le x (F .f + 5) hx
+module _ (F : Format) (ok : Supported F) (x u k : ℕ) (hu : u < 2 ^ F .w) (hx : x < 2 ^ sumBits (F .f)) (hk : k ≡ size x + u - alignedBits (F .f)) where
+  digits : size x ≤ sumBits (F .f)
+  digits = size-le x (sumBits (F .f)) hx
 
   -- the exponent part of the word
   upper : (p : ℕ) → p ≡ 2 ^ F .f % 2 ^ 64 → k * p ≤ 2 ^ 63 + 2 ^ 62
@@ -53,7 +54,7 @@ kept-part-requires c κs =
     let s = c .before .before in
     let a = s .args in
     let room = significand-room (a .format) (s .pre .0) in
-    let b = pow-mono {i = a .format .f + 5} {j = 61} (omega arith) in
+    let b = pow-mono {i = sumBits (a .format .f)} {j = 61} (omega arith) in
     (omega (arith, b, s .pre .2), omega (arith, c .before .dropped .ensures), shifted (a .format) (s .pre .0) (a .x) (a .u .0) (c .before .dropped .result) (s .pre .1) (s .pre .2) (c .before .dropped .ensures))
 
 add-result : tie.Need-add-result
