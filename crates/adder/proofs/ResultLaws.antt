@@ -1,11 +1,10 @@
 -- Laws of the rounded result: it is a word of the format, adding does not depend on the order of a and b, and subtracting is adding b with
 -- its sign turned. Assumes nothing.
-use mathlib.Core.Path.{_≡_, refl, sym, ap, _∙_}
+use mathlib.Core.Path.{_≡_}
 use mathlib.Core.Bool.{Bool, true, false, cond}
 use Prim.Native.Nat.{ℕ, _+_, _-_, _^_, _<_}
 use native.Mathlib.Decide.{decLt, ℕ-discrete}
 use native.Mathlib.Omega.{arith}
-use borrow.Author.Tests.{eq-eqb, ne-eqb}
 use lib.Dec.{eqb}
 use lib.Pow.{pow-pos, pow-lt, pow-add}
 use Rattle.format.specs.declared.Format.{Format}
@@ -18,10 +17,10 @@ use Rattle.word.specs.Word.{infinityWord, effective}
 use Rattle.adder.specs.Result.{nan, infinity, finiteSum, infiniteSum, kindSum, result}
 use Rattle.rounding.specs.Rounding.{cancelledSign}
 use Rattle.word.proofs.Bounds.{infinity-lt}
-use Rattle.word.proofs.Fields.{signed-lt, effective-lt, effective-add}
+use Rattle.word.proofs.Fields.{signed-lt}
 use Rattle.rounding.proofs.Rounded.{cancelled-lt, rounded-lt}
 use Rattle.word.proofs.Canonical.{operand-sound}
-use Rattle.adder.proofs.FiniteSum.{sum-like, sum-unlike, sum-unlike-second, sum-cancelled, finite-sum-comm}
+use Rattle.adder.proofs.FiniteSum.{sum-like, sum-unlike, sum-unlike-second, sum-cancelled}
 
 module _ (F : Format) (ok : Supported F) where
   nan-lt : nan F < 2 ^ wordBits F
@@ -68,37 +67,3 @@ module _ (F : Format) (ok : Supported F) where
       kind-sum-lt mode (operandOf F a) (operandOf F (effective F operation b)) (operand-sound F a) (operand-sound F (effective F operation b))
 
 -- ---- order and operation
-
-infinite-sum-comm : (F : Format) (s t : ℕ) → infiniteSum F s (Infinite t) ≡ infiniteSum F t (Infinite s)
-unfolding infiniteSum
-infinite-sum-comm F s t = go (ℕ-discrete s t)
-  where
-    go : Dec (s ≡ t) → cond (eqb s t) (infinity F s) (nan F) ≡ cond (eqb t s) (infinity F t) (nan F)
-    go (yes e) = rw (eq-eqb s t e, eq-eqb t s (sym e)) (ap (infinity F) e)
-    go (no e) = rw (ne-eqb s t e, ne-eqb t s (λ q. e (sym q)))
-
-kind-sum-comm : (F : Format) (mode : ℕ) (x y : kind.Operand) → kindSum F mode x y ≡ kindSum F mode y x
-unfolding kindSum infiniteSum
-kind-sum-comm F mode Nan Nan = refl
-kind-sum-comm F mode Nan (Infinite t) = refl
-kind-sum-comm F mode Nan (Finite y) = refl
-kind-sum-comm F mode (Infinite s) Nan = refl
-kind-sum-comm F mode (Infinite s) (Infinite t) = infinite-sum-comm F s t
-kind-sum-comm F mode (Infinite s) (Finite y) = refl
-kind-sum-comm F mode (Finite x) Nan = refl
-kind-sum-comm F mode (Finite x) (Infinite t) = refl
-kind-sum-comm F mode (Finite x) (Finite y) = finite-sum-comm F mode x y
-
--- adding: the order of a and b does not matter
-pub result-comm : (F : Format) (mode a b : ℕ) → a < 2 ^ wordBits F → b < 2 ^ wordBits F → result F 0 mode a b ≡ result F 0 mode b a
-unfolding result
-result-comm F mode a b ha hb =
-    ap (λ (n : ℕ). kindSum F mode (operandOf F a) (operandOf F n)) (effective-add F b hb)
-    ∙ kind-sum-comm F mode (operandOf F a) (operandOf F b)
-    ∙ ap (λ (n : ℕ). kindSum F mode (operandOf F b) (operandOf F n)) (sym (effective-add F a ha))
-
--- an operation is adding the effective b
-pub result-effective : (F : Format) (operation mode a b : ℕ) → result F operation mode a b ≡ result F 0 mode a (effective F operation b)
-unfolding result
-result-effective F operation mode a b =
-    ap (λ (n : ℕ). kindSum F mode (operandOf F a) (operandOf F n)) (sym (effective-add F (effective F operation b) (effective-lt F operation b)))

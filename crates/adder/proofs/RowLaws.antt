@@ -1,6 +1,6 @@
 -- Laws of the carry row: its bit i is the carry at position i, it has p bits, it does not depend on the order of the operands, and the row
 -- of an operation is that of adding the effective b. Assumes nothing.
-use mathlib.Core.Path.{_≡_, refl, sym, ap, _∙_}
+use mathlib.Core.Path.{_≡_, sym, ap, _∙_}
 use mathlib.Core.Bool.{Bool, true, false, cond}
 use Prim.Native.Nat.{ℕ, zero, suc, _+_, _*_, _^_, _<_}
 use native.Mathlib.Nat.{add-comm, le-antisymm}
@@ -11,17 +11,14 @@ use lib.Dec.{ltb, eqb}
 use Rattle.bits.specs.Bit.{bit}
 use Rattle.bits.proofs.Laws.{top-bit, low-bit}
 use Rattle.format.specs.declared.Format.{Format}
-use Rattle.format.specs.Format.{precision, wordBits}
+use Rattle.format.specs.Format.{precision}
 use Rattle.word.specs.declared.Finite as record-of
-use Rattle.word.specs.declared.Operand as kind
-use Rattle.word.specs.declared.Operand.the-variants.{Finite, Infinite, Nan}
-use Rattle.adder.specs.declared.Row.the-variants.{Carries}
-use Rattle.word.specs.Word.{unitOf, effective}
-use Rattle.word.specs.Operand.{operandOf, magnitude, Canonical, Sound}
-use Rattle.adder.specs.Row.{carryAt, gather, orderedRow, finiteRow, kindRow, rowOf}
-use Rattle.word.proofs.Canonical.{unit-le, operand-sound}
+use Rattle.word.specs.declared.Operand.the-variants.{Finite}
+use Rattle.word.specs.Word.{unitOf}
+use Rattle.word.specs.Operand.{magnitude, Canonical}
+use Rattle.adder.specs.Row.{carryAt, gather, orderedRow, finiteRow}
+use Rattle.word.proofs.Canonical.{unit-le}
 use Rattle.adder.proofs.RowBit.{gather-lt}
-use Rattle.word.proofs.Fields.{effective-lt, effective-add}
 
 -- the gathered number has the test at i as its bit i
 pub gather-bit : (n : ℕ) (at : ℕ → Bool) (i : ℕ) → i < n → bit (gather n at) i ≡ cond (at i) 1 0
@@ -81,27 +78,3 @@ finite-row-comm F x y cx cy = go (decLt (magnitude x) (magnitude y)) (decLt (mag
     go (no l) (no g) =
         rw (le-ltb (magnitude x) (magnitude y) (omega arith), le-ltb (magnitude y) (magnitude x) (omega arith))
         (equal-row F x y cx cy (omega arith))
-
-kind-row-comm : (F : Format) (x y : kind.Operand) → Sound F x → Sound F y → kindRow F x y ≡ kindRow F y x
-unfolding kindRow
-kind-row-comm F Nan Nan hx hy = refl
-kind-row-comm F Nan (Infinite t) hx hy = refl
-kind-row-comm F Nan (Finite y) hx hy = refl
-kind-row-comm F (Infinite s) Nan hx hy = refl
-kind-row-comm F (Infinite s) (Infinite t) hx hy = refl
-kind-row-comm F (Infinite s) (Finite y) hx hy = refl
-kind-row-comm F (Finite x) Nan hx hy = refl
-kind-row-comm F (Finite x) (Infinite t) hx hy = refl
-kind-row-comm F (Finite x) (Finite y) hx hy = ap Carries (finite-row-comm F x y hx hy)
-
-pub row-comm : (F : Format) (a b : ℕ) → a < 2 ^ wordBits F → b < 2 ^ wordBits F → rowOf F 0 a b ≡ rowOf F 0 b a
-unfolding rowOf
-row-comm F a b ha hb =
-    ap (λ (n : ℕ). kindRow F (operandOf F a) (operandOf F n)) (effective-add F b hb)
-    ∙ kind-row-comm F (operandOf F a) (operandOf F b) (operand-sound F a) (operand-sound F b)
-    ∙ ap (λ (n : ℕ). kindRow F (operandOf F b) (operandOf F n)) (sym (effective-add F a ha))
-
-pub row-effective : (F : Format) (operation a b : ℕ) → rowOf F operation a b ≡ rowOf F 0 a (effective F operation b)
-unfolding rowOf
-row-effective F operation a b =
-    ap (λ (n : ℕ). kindRow F (operandOf F a) (operandOf F n)) (sym (effective-add F (effective F operation b) (effective-lt F operation b)))

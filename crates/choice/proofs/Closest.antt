@@ -1,6 +1,6 @@
 -- The choice of one number: the member whose exclusive-or with r is smallest is found by fixing the bits from the top, each to that of
 -- r where a member is left. Two members compare by the first bit, from the top, in which they differ. Assumes nothing.
-use mathlib.Core.Path.{_≡_, sym, ap, ap₂, _∙_}
+use mathlib.Core.Path.{_≡_, sym, ap, _∙_}
 use mathlib.Core.Logic.{_⊎_, inl, inr}
 use Prim.Native.Nat.{ℕ, suc, _+_, _*_, _/_, _^_, _≤_, _<_}
 use native.Mathlib.Nat.{div-one, lt-of-le-of-lt, lt-of-lt-of-le}
@@ -98,11 +98,6 @@ module _ (P : ℕ → Type 0) where
   closest-done agree r x m = record { member = m; least = λ y n. inl (sym (div-one y) ∙ agree y x n m ∙ div-one x) }
 
   module _ (k v : ℕ) (agree : AgreeFrom P (suc k)) where
-    -- one bit more is fixed
-    pub agree-fixed : AgreeFrom (λ y. P y × (bit y k ≡ v)) k
-    agree-fixed x y m n =
-        shr-suc x k ∙ ap₂ (λ (u b : ℕ). u * 2 + b) (agree x y (m .0) (n .0)) (m .1 ∙ sym (n .1)) ∙ sym (shr-suc y k)
-
     -- bit k fixed to v, which is the bit of r, or the only one that a member has
     pub closest-step : (r x : ℕ) → Closest (λ y. P y × (bit y k ≡ v)) r x → ((v ≡ bit r k) ⊎ ((y : ℕ) → P y → bit y k ≡ v)) → Closest P r x
     closest-step r x c kept = record { member = c .member .0; least = λ y m. go y m kept (ℕ-discrete (bit y k) v) }

@@ -1,6 +1,6 @@
 -- The choice of a pair is the choice of its first number, and then of its second with the first fixed. Assumes nothing.
 use mathlib.Core.Path.{_≡_, sym, subst}
-use mathlib.Core.Logic.{_⊎_, inl, inr, _↔_}
+use mathlib.Core.Logic.{_⊎_, inl, inr}
 use Prim.Native.Nat.{ℕ, _<_}
 use native.Mathlib.Omega.{arith}
 use lib.Bits.{bitXor}
@@ -32,9 +32,6 @@ module _ (P : ℕ → ℕ → Type 0) where
         go : (y′ : ℕ) → Farther r x x ((y′ ≡ y) ⊎ (bitXor y s < bitXor y′ s)) → (y′ ≡ y) ⊎ (bitXor y s < bitXor y′ s)
         go y′ (inl l) = absurd (omega arith)
         go y′ (inr e) = e .1
-
-    pub closest-pair : ClosestPair P r s x y ↔ (Closest First r x × Closest (P x) s y)
-    closest-pair = (λ c. (first-of c, second-of c), λ c. pair-of (c .0) (c .1))
 
   pub pair-unique : (r s x y x′ y′ : ℕ) → ClosestPair P r s x y → ClosestPair P r s x′ y′ → (x ≡ x′) × (y ≡ y′)
   pair-unique r s x y x′ y′ c c′ =

@@ -1,5 +1,6 @@
 -- Significands that are aligned alike: the pair of exponent fields that stands for a class has the masks of every pair of the class, since
--- a gap of p + 2 places or more drops the whole smaller significand. With a gap of 2 places or more the sum has f + 3 digits at least.
+-- a far gap drops the whole smaller significand. With a gap of 2 places or more the sum has one digit less than the larger operand at the
+-- least.
 -- Assumes nothing.
 use mathlib.Core.Logic.{_⊎_, inl, inr}
 use mathlib.Core.Path.{_≡_, refl, sym, ap, ap₂, _∙_, subst}
@@ -19,6 +20,8 @@ use Rattle.mask.specs.declared.Mask.{Mask}
 use Rattle.mask.specs.Mask.{Meets, WellFormed}
 use Rattle.word.specs.declared.Biased.{Biased}
 use Rattle.word.specs.Word.{unitOf, significand}
+use Rattle.rounding.specs.Sticky.{guarded}
+use Rattle.rounding.specs.Width.{guardBits, alignedBits, smallBits, shortBits, maskBits}
 use Rattle.rounding.proofs.Sticky.{with-sticky-bounds}
 use Rattle.significand.specs.Significand.{topBit, significandMask}
 use Rattle.significand.specs.Tail.{tailMask}
@@ -67,7 +70,7 @@ significand-normal f zero t h = absurd (omega arith)
 significand-normal f (suc e) t h = refl
 
 module _ (F : Format) (ok : Supported F) (m : Mask) (formed : WellFormed (F .f) m) where
-  p-most : precision F ≤ 60
+  p-most : precision F ≤ shortBits
   p-most = omega (arith, significand-room F ok)
 
   f-most : F .f < 64
@@ -111,33 +114,34 @@ aligned-same F ok carries x y fx fy some h l =
     (ap (λ (k : Mask). tailMask (precision F) k 0) (head-same F ok (x .fraction) fx (x .exponent) (topField (F .f)) some (omega arith)))
     (tail-same F ok (y .fraction) fy (x .exponent .0) (y .exponent .0) h l)
 
--- ---- with a gap of 2 places or more the sum has f + 3 digits at least
+-- ---- with a gap of 2 places or more the sum has one digit less than the larger operand at the least
 module _ (F : Format) (ok : Supported F) (m : Mask) (formed : WellFormed (F .f) m) where
-  short : (n : ℕ) → n < 2 ^ (F .f + 4) → n < 2 ^ 63
-  short n h = lt-of-lt-of-le h (pow-mono {i = F .f + 4} {j = 63} (omega (arith, significand-room F ok)))
+  short : (n : ℕ) → n < 2 ^ alignedBits (F .f) → n < 2 ^ maskBits
+  short n h = lt-of-lt-of-le h (pow-mono {i = alignedBits (F .f)} {j = maskBits} (omega (arith, significand-room F ok)))
 
-  head-least : (e : Biased) → 1 ≤ e .0 → (H : ℕ) → H < 2 ^ (F .f + 4) → Meets H (tailMask (precision F) (significandMask (F .f) m e) 0) → 2 ^ (F .f + 3) ≤ H
+  head-least : (e : Biased) → 1 ≤ e .0 → (H : ℕ) → H < 2 ^ alignedBits (F .f) → Meets H (tailMask (precision F) (significandMask (F .f) m e) 0) → 2 ^ farGap (F .f) ≤ H
   head-least e some H l met =
       let r = tail-complete (precision F) (significandMask (F .f) m e) 0 (p-most F ok m formed) (significand-formed (F .f) m (f-most F ok m formed) formed e) H (short H l) met in
       let t = significand-meets (F .f) m (f-most F ok m formed) formed e (r .0) .0 (r .2, r .1) in
-      let p = pow-add 2 (F .f) 3 in
+      let p = pow-add 2 (F .f) guardBits in
       omega (arith, aligned-zero (r .0), r .3, t .3, significand-normal (F .f) (e .0) (t .0) some)
 
-  tail-most : (g : Biased) (d T : ℕ) → 2 ≤ d → T < 2 ^ (F .f + 4) → Meets T (tailMask (precision F) (significandMask (F .f) m g) d) → T < 2 ^ (F .f + 2)
+  tail-most : (g : Biased) (d T : ℕ) → 2 ≤ d → T < 2 ^ alignedBits (F .f) → Meets T (tailMask (precision F) (significandMask (F .f) m g) d) → T < 2 ^ smallBits (F .f)
   tail-most g d T far l met =
       let r = tail-complete (precision F) (significandMask (F .f) m g) d (p-most F ok m formed) (significand-formed (F .f) m (f-most F ok m formed) formed g) T (short T l) met in
-      let q = pow-mono {i = 2} {j = d} far in
-      let w = native.Mathlib.Nat.mul-le-mul-left (2 ^ precision F) q in
-      let h = div-lt-iff-lt-mul {k = 2 ^ d} {x = 4 * r .0} {y = 2 ^ precision F} (pow-pos d) .1 (omega (arith, r .1)) in
-      let p = pow-add 2 (precision F) 1 in
-      let e : precision F + 1 ≡ F .f + 2 = omega arith in
-      subst (λ (k : ℕ). T < 2 ^ k) e (omega (arith, with-sticky-bounds (4 * r .0) d, r .3))
+      let half = F .f + (guardBits - 2) in
+      let w = native.Mathlib.Nat.mul-le-mul-left (2 ^ half) (pow-mono {i = 2} {j = d} far) in
+      let a = pow-add 2 (F .f) (guardBits - 2) in
+      let b = pow-add 2 (F .f) 1 in
+      let c = pow-add 2 (F .f) (guardBits - 1) in
+      let h = div-lt-iff-lt-mul {k = 2 ^ d} {x = guarded (r .0)} {y = 2 ^ half} (pow-pos d) .1 (omega (arith, r .1)) in
+      omega (arith, with-sticky-bounds (guarded (r .0)) d, r .3)
 
 pub made-long : (F : Format) → Supported F → (carries : Mask) (x y : Side) (n : ℕ) → WellFormed (F .f) (x .fraction) → WellFormed (F .f) (y .fraction)
-    → 1 ≤ x .exponent .0 → 2 ≤ gapOf x y → Made (F .f) (alignedOf F carries x y) n → F .f + 3 ≤ size n
+    → 1 ≤ x .exponent .0 → 2 ≤ gapOf x y → Made (F .f) (alignedOf F carries x y) n → farGap (F .f) ≤ size n
 made-long F ok carries x y n fx fy some far made = go (eqb (x .sign) (y .sign)) refl
   where
-    go : (like : Bool) → eqb (x .sign) (y .sign) ≡ like → F .f + 3 ≤ size n
+    go : (like : Bool) → eqb (x .sign) (y .sign) ≡ like → farGap (F .f) ≤ size n
     go true e =
         let h = made-like (F .f) (alignedOf F carries x y) n made e (head-least F ok (x .fraction) fx (x .exponent) some (made .H) (made .head-lt) (made .head-meets)) in
         omega arith

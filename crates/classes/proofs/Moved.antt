@@ -22,7 +22,7 @@ use Rattle.rounding.proofs.Rounded.{cancelled-lt}
 use Rattle.rounding.proofs.Size.{size-zero}
 use Rattle.rounding.specs.Width.{alignedBits, sumBits}
 use Rattle.rounding.specs.Outcome.{roundedUnit, keptOf, boundedHeld, zeroSign, outcome}
-use Rattle.outcome.specs.Question.{wordOf}
+use Rattle.outcome.specs.Question.{wordOrOverflow}
 use Rattle.classes.specs.Class.{farGap, classUnit, fieldAt, mostField, Wide}
 use Rattle.outcome.proofs.Topped.{size-none}
 use Rattle.outcome.proofs.Kept.{kept-shifted, quotient-high}
@@ -49,7 +49,7 @@ kept-moved f d x u n digits most large =
     ∙ sym (kept-shifted f d x (classUnit f) n digits most)
 
 -- the word of an exponent field within the format
-word-within : (F : Format) (d : Direction) (s : ℕ) (e : Biased) (t : ℕ) → e .0 < allOnes F → wordOf F d s e t ≡ signed F s (e .0 * 2 ^ F .f + t)
+word-within : (F : Format) (d : Direction) (s : ℕ) (e : Biased) (t : ℕ) → e .0 < allOnes F → wordOrOverflow F d s e t ≡ signed F s (e .0 * 2 ^ F .f + t)
 word-within F d s e t h = rw (lt-ltb (e .0) (allOnes F) h)
 
 module _ (F : Format) (mode : ℕ) (like : Bool) (s : ℕ) (u : exponent.Unit) (sign-lt : s < 2) (wide : Wide F) where
@@ -100,17 +100,17 @@ module _ (F : Format) (mode : ℕ) (like : Bool) (s : ℕ) (u : exponent.Unit) (
           there : Biased
           there = fieldOf (roundedUnit f (suc n) (classUnit f)) q
 
-          held : signed F s (boundedHeld F d (suc x) u) ≡ wordOf F d s here t
-          held = held-word F d s (suc x) u ∙ ap₂ (λ (m k : ℕ). wordOf F d s (fieldOf (roundedUnit f m u) k) t) digits e
+          held : signed F s (boundedHeld F d (suc x) u) ≡ wordOrOverflow F d s here t
+          held = held-word F d s (suc x) u ∙ ap₂ (λ (m k : ℕ). wordOrOverflow F d s (fieldOf (roundedUnit f m u) k) t) digits e
 
           same : keptOf f d (suc x) (classUnit f) ≡ keptOf f d (suc x) u
           same = sym (kept-moved f d (suc x) u n digits most large)
 
-          moved : signed F s (boundedHeld F d (suc x) (classUnit f)) ≡ wordOf F d s there t
+          moved : signed F s (boundedHeld F d (suc x) (classUnit f)) ≡ wordOrOverflow F d s there t
           moved =
               held-word F d s (suc x) (classUnit f)
-              ∙ ap₂ (λ (m k : ℕ). wordOf F d s (fieldOf (roundedUnit f m (classUnit f)) (k / 2 ^ f)) (k % 2 ^ f)) digits same
-              ∙ ap (λ (k : ℕ). wordOf F d s (fieldOf (roundedUnit f (suc n) (classUnit f)) k) t) e
+              ∙ ap₂ (λ (m k : ℕ). wordOrOverflow F d s (fieldOf (roundedUnit f m (classUnit f)) (k / 2 ^ f)) (k % 2 ^ f)) digits same
+              ∙ ap (λ (k : ℕ). wordOrOverflow F d s (fieldOf (roundedUnit f (suc n) (classUnit f)) k) t) e
 
           at : there .0 ≡ n + q
           at = omega arith
@@ -133,7 +133,7 @@ module _ (F : Format) (mode : ℕ) (like : Bool) (s : ℕ) (u : exponent.Unit) (
             there = moved ∙ word-within F d s there t (omega arith) ∙ ap (λ (k : ℕ). signed F s (k * 2 ^ f + t)) at;
           }
           fits (no h) =
-              let past : wordOf F d s here t ≡ signed F s (overflowWord F d) = rw (le-ltb (here .0) (allOnes F) (omega arith)) in
+              let past : wordOrOverflow F d s here t ≡ signed F s (overflowWord F d) = rw (le-ltb (here .0) (allOnes F) (omega arith)) in
               ⊎-elim (λ l. absurd (omega arith)) (λ never. absurd (never (held ∙ past))) within
 
   pub moved : (x : ℕ) → size x ≤ sumBits (F .f) → (x ≡ 0) ⊎ (alignedBits (F .f) ≤ size x + u .0)

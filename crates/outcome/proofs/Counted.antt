@@ -29,7 +29,7 @@ use Rattle.outcome.specs.declared.sought.Fractions as fractions-of
 use Rattle.rounding.specs.Width.{alignedBits, sumBits, columnsOf}
 use Rattle.rounding.specs.Outcome.{roundedUnit, keptOf, boundedHeld, zeroSign, outcome}
 use Rattle.outcome.specs.Outcome.{Made, Making}
-use Rattle.outcome.specs.Question.{topped, OfDigits, wordOf, Seeks}
+use Rattle.outcome.specs.Question.{topped, OfDigits, wordOrOverflow, Seeks}
 use Rattle.outcome.proofs.Topped.{topped-meets, size-none, anything}
 use Rattle.outcome.proofs.Kept.{roundedBits, addedZeros, kept-shifted, kept-lt, quotient-low, quotient-high}
 use Rattle.outcome.proofs.Fields.{held-word}
@@ -109,13 +109,13 @@ quotient-asked F d s u A c count q e so r ee seeks asks =
     ))
     asks
   where
-    fields : (n : ℕ) → Meets (wordOf F d s e (keptOf (F .f) d n u % 2 ^ F .f)) c ↔ ((so .possible ≡ true) × Meets (keptOf (F .f) d n u % 2 ^ F .f) (so .fraction))
+    fields : (n : ℕ) → Meets (wordOrOverflow F d s e (keptOf (F .f) d n u % 2 ^ F .f)) c ↔ ((so .possible ≡ true) × Meets (keptOf (F .f) d n u % 2 ^ F .f) (so .fraction))
     fields n = seeks .meets (keptOf (F .f) d n u % 2 ^ F .f) (mod-lt (keptOf (F .f) d n u) (pow-pos (F .f)))
 
-    word : (n : ℕ) → size n ≡ count → keptOf (F .f) d n u / 2 ^ F .f ≡ q → signed F s (boundedHeld F d n u) ≡ wordOf F d s e (keptOf (F .f) d n u % 2 ^ F .f)
+    word : (n : ℕ) → size n ≡ count → keptOf (F .f) d n u / 2 ^ F .f ≡ q → signed F s (boundedHeld F d n u) ≡ wordOrOverflow F d s e (keptOf (F .f) d n u % 2 ^ F .f)
     word n es eq =
         held-word F d s n u
-        ∙ ap (λ (k : Biased). wordOf F d s k (keptOf (F .f) d n u % 2 ^ F .f)) (ap₂ (λ (m k : ℕ). fieldOf (roundedUnit (F .f) m u) k) es eq ∙ sym ee)
+        ∙ ap (λ (k : Biased). wordOrOverflow F d s k (keptOf (F .f) d n u % 2 ^ F .f)) (ap₂ (λ (m k : ℕ). fieldOf (roundedUnit (F .f) m u) k) es eq ∙ sym ee)
 
 -- the two quotients
 module _ (f : ℕ) (d : Direction) (u : exponent.Unit) (least : ℕ) where

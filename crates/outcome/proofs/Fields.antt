@@ -25,7 +25,7 @@ use Rattle.word.specs.declared.Unit as exponent
 use Rattle.word.specs.Word.{fieldOf, allOnes, signed, infinityWord}
 use Rattle.rounding.specs.Rounding.{overflowWord}
 use Rattle.rounding.specs.Outcome.{roundedUnit, keptOf, heldWord, boundedHeld}
-use Rattle.outcome.specs.Question.{wordOf, Seeks}
+use Rattle.outcome.specs.Question.{wordOrOverflow, Seeks}
 use Rattle.outcome.proofs.Topped.{anything}
 
 -- k and a part Y make the exponent field k + Y / 2^f and the fraction Y % 2^f
@@ -36,7 +36,7 @@ apart f k Y =
     omega arith
 
 pub held-word : (F : Format) (d : Direction) (s x : ℕ) (u : exponent.Unit)
-    → signed F s (boundedHeld F d x u) ≡ wordOf F d s (fieldOf (roundedUnit (F .f) (size x) u) (keptOf (F .f) d x u / 2 ^ F .f)) (keptOf (F .f) d x u % 2 ^ F .f)
+    → signed F s (boundedHeld F d x u) ≡ wordOrOverflow F d s (fieldOf (roundedUnit (F .f) (size x) u) (keptOf (F .f) d x u / 2 ^ F .f)) (keptOf (F .f) d x u % 2 ^ F .f)
 unfolding boundedHeld
 held-word F d s x u = ap (signed F s) (go (decLt e (allOnes F)))
   where
@@ -72,13 +72,13 @@ held-word F d s x u = ap (signed F s) (go (decLt e (allOnes F)))
 -- a word within the format, and one past it
 module _ (F : Format) (d : Direction) (s : ℕ) (e : Biased) (t : ℕ) (c : Mask) where
   pub within-meets : e .0 < allOnes F → t < 2 ^ F .f
-      → Meets (wordOf F d s e t) c ↔ (Meets (s * 2 ^ F .w + e .0) (mask.high (F .f) c) × Meets t (mask.low (F .f) c))
+      → Meets (wordOrOverflow F d s e t) c ↔ (Meets (s * 2 ^ F .w + e .0) (mask.high (F .f) c) × Meets t (mask.low (F .f) c))
   within-meets h l = (
     (λ met. let p = parts .0 (rw word at met) in (p .1, p .0)),
     λ p. rw word (parts .1 (p .1, p .0)),
   )
     where
-      word : wordOf F d s e t ≡ (s * 2 ^ F .w + e .0) * 2 ^ F .f + t
+      word : wordOrOverflow F d s e t ≡ (s * 2 ^ F .w + e .0) * 2 ^ F .f + t
       word =
           let p = pow-add 2 (F .w) (F .f) in
           let a = mul-assoc s (2 ^ F .w) (2 ^ F .f) in
@@ -89,7 +89,7 @@ module _ (F : Format) (d : Direction) (s : ℕ) (e : Biased) (t : ℕ) (c : Mask
       parts : Meets ((s * 2 ^ F .w + e .0) * 2 ^ F .f + t) c ↔ (Meets t (mask.low (F .f) c) × Meets (s * 2 ^ F .w + e .0) (mask.high (F .f) c))
       parts = rw (low (s * 2 ^ F .w + e .0) (F .f) l, high (s * 2 ^ F .w + e .0) (F .f) l) at (meets-parts (F .f) ((s * 2 ^ F .w + e .0) * 2 ^ F .f + t) c)
 
-  pub past-word : allOnes F ≤ e .0 → wordOf F d s e t ≡ signed F s (overflowWord F d)
+  pub past-word : allOnes F ≤ e .0 → wordOrOverflow F d s e t ≡ signed F s (overflowWord F d)
   past-word h = rw (le-ltb (e .0) (allOnes F) h)
 
 -- what is sought of the fraction

@@ -26,11 +26,11 @@ pub record OfDigits (n N : ℕ) (m : Mask) : Type 0 where
   pub meets : (x : ℕ) → x < 2 ^ n → Meets x m ↔ (size x ≡ N)
 
 -- the word of the sign s, the exponent field e and the fraction t; past the largest finite number what the direction gives
-abbrev pub wordOf : Format → way.Direction → ℕ → Biased → ℕ → ℕ
-wordOf F d s e t = signed F s (cond (ltb (e .0) (allOnes F)) (e .0 * 2 ^ F .f + t) (overflowWord F d))
+abbrev pub wordOrOverflow : Format → way.Direction → ℕ → Biased → ℕ → ℕ
+wordOrOverflow F d s e t = signed F s (cond (ltb (e .0) (allOnes F)) (e .0 * 2 ^ F .f + t) (overflowWord F d))
 
 -- r tells which fractions make a word that meets the mask c, with the exponent field e
 pub record Seeks (F : Format) (d : way.Direction) (s : ℕ) (c : Mask) (e : Biased) (r : fractions-of.Fractions) : Type 0 where
   pub care-lt : r .fraction .care < 2 ^ F .f
   pub value-lt : r .fraction .value < 2 ^ F .f
-  pub meets : (t : ℕ) → t < 2 ^ F .f → Meets (wordOf F d s e t) c ↔ ((r .possible ≡ true) × Meets t (r .fraction))
+  pub meets : (t : ℕ) → t < 2 ^ F .f → Meets (wordOrOverflow F d s e t) c ↔ ((r .possible ≡ true) × Meets t (r .fraction))

@@ -128,12 +128,6 @@ write-more s at k x h =
     ∙ put-put s at bs (b ∷ []) (omega arith)
     ∙ ap (put s at) (sym (number-suc k x))
 
-pub put-numbers : (s : List ℕ) (at j k x y : ℕ) → at + (j + k) ≤ length s
-    → put (put s at (littleEndian j x)) (at + j) (littleEndian k y) ≡ put s at (littleEndian j x ++ littleEndian k y)
-put-numbers s at j k x y h =
-    ap (λ (n : ℕ). put (put s at (littleEndian j x)) (at + n) (littleEndian k y)) (sym (length-number j x))
-    ∙ put-put s at (littleEndian j x) (littleEndian k y) (rw (length-number j x, length-number k y) h)
-
 -- bytes that find room are put, and others are not
 pub put-room : (s : List ℕ) (at : ℕ) (bs : List ℕ) → at + length bs ≤ length s → putWithin s at bs ≡ put s at bs
 unfolding putWithin

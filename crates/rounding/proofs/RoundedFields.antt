@@ -1,26 +1,24 @@
 -- The fields of a rounded word from the exact magnitude X. With k dropped bits and Y the kept part rounded, the exponent field is k and the
 -- quotient of Y by 2^f, the fraction is the rest: a quotient of 0 is a subnormal number, 1 a normal one, and 2 a normal one after the
--- rounding carried. Past the largest finite number the direction gives them. Assumes nothing.
+-- rounding carried. Assumes nothing.
 use mathlib.Core.Path.{_≡_, ap, _∙_, subst}
 use mathlib.Core.Logic.{_↔_}
-use Prim.Native.Nat.{ℕ, _+_, _-_, _*_, _/_, _%_, _^_, _≤_, _<_}
-use native.Mathlib.Nat.{mul-add-div-right, mul-add-mod-self-right, le-div-iff-mul-le, div-lt-iff-lt-mul, div-eq-of-lt, div-eq-of-eq-mul-left, lt-of-lt-of-le, lt-trans}
+use Prim.Native.Nat.{ℕ, _+_, _-_, _/_, _%_, _^_, _≤_, _<_}
+use native.Mathlib.Nat.{le-div-iff-mul-le, div-lt-iff-lt-mul, div-eq-of-lt, lt-of-lt-of-le, lt-trans}
 use native.Mathlib.Decide.{ℕ-discrete}
 use native.Mathlib.Omega.{arith}
 use lib.Ieee.{size}
 use lib.Ieee.Digits.{size-lt, size-le, size-reaches}
-use lib.Arith.{mul-pred}
-use lib.Pow.{pow-pos, pow-mono, pow-add, ones-lt}
+use lib.Pow.{pow-pos, pow-mono, pow-add}
 use Rattle.format.specs.declared.Format.{Format}
 use Rattle.format.specs.Format.{Supported, precision}
 use Rattle.rounding.specs.declared.Direction.{Direction}
-use Rattle.rounding.specs.declared.Direction.the-variants.{Nearest, TowardZero, Away}
-use Rattle.word.specs.Word.{fraction, biased, sign, allOnes, signed, infinityWord}
-use Rattle.rounding.specs.Rounding.{direction, roundOff, dropped, magnitudeWord, overflowWord, boundedWord, rounded}
-use Rattle.word.proofs.Bounds.{four-exponents, infinity-lt}
+use Rattle.word.specs.Word.{fraction, biased, sign, signed, infinityWord}
+use Rattle.rounding.specs.Rounding.{direction, roundOff, dropped, magnitudeWord, boundedWord, rounded}
+use Rattle.word.proofs.Bounds.{infinity-lt}
 use Rattle.rounding.proofs.RoundOff.{increment-le, round-off-none}
-use Rattle.rounding.proofs.Rounded.{bounded-within, bounded-past, bounded-lt}
-use Rattle.word.proofs.Fields.{signed-sign, signed-biased, signed-fraction, together-biased, together-fraction}
+use Rattle.rounding.proofs.Rounded.{bounded-within, bounded-lt}
+use Rattle.word.proofs.Fields.{signed-sign, signed-biased, signed-fraction}
 
 -- nothing is dropped of a number of p bits at most
 pub dropped-none : (F : Format) (X : ℕ) → dropped F X ≡ 0 ↔ (X < 2 ^ precision F)
@@ -55,13 +53,6 @@ module _ (F : Format) (d : Direction) (X : ℕ) where
       go (yes e) = let h = dropped-none F X .0 e in omega (arith, kept-exact e)
       go (no e) = kept-normal (omega arith) .1
 
-  -- the quotient of the kept part is 2 at most
-  pub kept-quotient : roundOff d X (dropped F X) / 2 ^ F .f ≤ 2
-  kept-quotient =
-      let pos = pow-pos (F .f) in
-      let h = div-lt-iff-lt-mul {k = 2 ^ F .f} {x = roundOff d X (dropped F X)} {y = 3} pos .1 (omega (arith, kept-le, pow-add 2 (F .f) 1)) in
-      omega arith
-
   -- it is 0 for a subnormal number, of which nothing is dropped
   pub kept-subnormal : roundOff d X (dropped F X) / 2 ^ F .f ≡ 0 ↔ (X < 2 ^ F .f)
   kept-subnormal = (λ e. go (ℕ-discrete (dropped F X) 0) e, back)
@@ -84,52 +75,6 @@ module _ (F : Format) (d : Direction) (X : ℕ) where
       let h = kept-subnormal .0 e in
       dropped-none F X .1 (omega (arith, pow-add 2 (F .f) 1))
 
-  -- and 2 where the rounding carried into the next exponent
-  pub kept-carried : roundOff d X (dropped F X) / 2 ^ F .f ≡ 2 ↔ (roundOff d X (dropped F X) ≡ 2 ^ precision F)
-  kept-carried = (
-    λ e.
-        let h = le-div-iff-mul-le {k = 2 ^ F .f} {x = 2} {y = roundOff d X (dropped F X)} (pow-pos (F .f)) .0 (omega arith) in
-        omega (arith, kept-le, pow-add 2 (F .f) 1),
-    λ e. div-eq-of-eq-mul-left (pow-pos (F .f)) (omega (arith, pow-add 2 (F .f) 1)),
-  )
-
-  pub magnitude-quotient : magnitudeWord F d X / 2 ^ F .f ≡ dropped F X + roundOff d X (dropped F X) / 2 ^ F .f
-  unfolding magnitudeWord
-  magnitude-quotient = mul-add-div-right (pow-pos (F .f)) (dropped F X) (roundOff d X (dropped F X))
-
-  pub magnitude-remainder : magnitudeWord F d X % 2 ^ F .f ≡ roundOff d X (dropped F X) % 2 ^ F .f
-  unfolding magnitudeWord
-  magnitude-remainder = mul-add-mod-self-right (dropped F X) (2 ^ F .f) (roundOff d X (dropped F X))
-
--- the exponent field and the fraction of a word past the largest finite number
-abbrev pub Overflowed : Format → Direction → ℕ → Type 0
-Overflowed F Nearest c = (biased F c .0 ≡ allOnes F) × (fraction F c ≡ 0)
-Overflowed F TowardZero c = (biased F c .0 ≡ allOnes F - 1) × (fraction F c ≡ 2 ^ F .f - 1)
-Overflowed F Away c = (biased F c .0 ≡ allOnes F) × (fraction F c ≡ 0)
-
-module _ (F : Format) (ok : Supported F) (s : ℕ) (hs : s < 2) where
-  ones-pos : 0 < allOnes F
-  ones-pos = let h = four-exponents F ok in omega arith
-
-  infinite : (biased F (signed F s (infinityWord F)) .0 ≡ allOnes F) × (fraction F (signed F s (infinityWord F)) ≡ 0)
-  infinite =
-      let e : infinityWord F ≡ allOnes F * 2 ^ F .f + 0 = omega arith in
-      let l : allOnes F < 2 ^ F .w = omega (arith, pow-pos (F .w)) in (
-        ap (λ (m : ℕ). biased F (signed F s m) .0) e ∙ together-biased F s (allOnes F) 0 hs l (pow-pos (F .f)),
-        ap (λ (m : ℕ). fraction F (signed F s m)) e ∙ together-fraction F s (allOnes F) 0 hs l (pow-pos (F .f)),
-      )
-
-  overflowed : (d : Direction) → Overflowed F d (signed F s (overflowWord F d))
-  unfolding overflowWord
-  overflowed Nearest = infinite
-  overflowed TowardZero =
-      let e : infinityWord F - 1 ≡ (allOnes F - 1) * 2 ^ F .f + (2 ^ F .f - 1) = mul-pred ones-pos (pow-pos (F .f)) in
-      let l : allOnes F - 1 < 2 ^ F .w = omega (arith, pow-pos (F .w)) in (
-        ap (λ (m : ℕ). biased F (signed F s m) .0) e ∙ together-biased F s (allOnes F - 1) (2 ^ F .f - 1) hs l (ones-lt (F .f)),
-        ap (λ (m : ℕ). fraction F (signed F s m)) e ∙ together-fraction F s (allOnes F - 1) (2 ^ F .f - 1) hs l (ones-lt (F .f)),
-      )
-  overflowed Away = infinite
-
 module _ (F : Format) (ok : Supported F) (mode s X : ℕ) (hs : s < 2) where
   -- the sign is the exact result's
   pub rounded-sign : sign F (rounded F mode s X) ≡ s
@@ -148,12 +93,3 @@ module _ (F : Format) (ok : Supported F) (mode s X : ℕ) (hs : s < 2) where
 
     pub rounded-word-fraction : fraction F (rounded F mode s X) ≡ magnitudeWord F (direction mode s) X % 2 ^ F .f
     rounded-word-fraction = ap (fraction F) rounded-within ∙ signed-fraction F s (magnitudeWord F (direction mode s) X) hs word-lt
-
-    pub rounded-biased : biased F (rounded F mode s X) .0 ≡ dropped F X + roundOff (direction mode s) X (dropped F X) / 2 ^ F .f
-    rounded-biased = rounded-word-biased ∙ magnitude-quotient F (direction mode s) X
-
-    pub rounded-fraction : fraction F (rounded F mode s X) ≡ roundOff (direction mode s) X (dropped F X) % 2 ^ F .f
-    rounded-fraction = rounded-word-fraction ∙ magnitude-remainder F (direction mode s) X
-
-  pub rounded-overflowed : infinityWord F ≤ magnitudeWord F (direction mode s) X → Overflowed F (direction mode s) (rounded F mode s X)
-  rounded-overflowed past = rw (bounded-past F (direction mode s) X past) (overflowed F ok s hs (direction mode s))

@@ -21,7 +21,7 @@ use Rattle.rounding.proofs.Widths.{guards, short-room}
 use Rattle.rounding.proofs.Align.{tail-none, tail-short}
 use Rattle.significand.specs.Tail.{least, greatest, spanned, formsMask, alignedMask, tailMask}
 use Rattle.significand.proofs.Part.{Part, part-le, part-shr, part-mod, part-block, part-scale, part-unscale, part-with-sticky}
-use Rattle.significand.proofs.Range.{greatest-lt, meets-range, spanned-formed, spanned-meets}
+use Rattle.significand.proofs.Range.{greatest-lt, meets-range, spanned-meets}
 
 -- ---- back from a number t between l and g with their sticky bits
 module _ (l g d t : ℕ) (lg : Part l g) (above : Part (withSticky l d) t) (under : Part t (withSticky g d)) where
@@ -90,9 +90,6 @@ module _ (n q p : ℕ) (m : Mask) (d : ℕ) (some : 0 < q) (room : p + q ≤ n) 
 
   pub ends-lt : tailAt q (greatest p m) d < 2 ^ n
   ends-lt = aligned-lt (greatest p m) (greatest-lt p m w)
-
-  pub forms-formed : WellFormed n (formsMask n q p m d)
-  forms-formed = spanned-formed n (tailAt q (least m) d) (tailAt q (greatest p m) d) ends-part ends-lt
 
   forms-meets : (t : ℕ) → t < 2 ^ n → Meets t (formsMask n q p m d) ↔ (Part (tailAt q (least m) d) t × Part t (tailAt q (greatest p m) d))
   forms-meets t h = spanned-meets n (tailAt q (least m) d) (tailAt q (greatest p m) d) ends-part ends-lt t h

@@ -96,9 +96,6 @@ module _ (F : Format) (operation b : ℕ) where
       ap (fraction F) effective-signed ∙ signed-fraction F ((sign F b + operation) % 2) (b % 2 ^ (F .w + F .f)) sign-lt low-lt
       ∙ mod-mod-pow b (F .w) (F .f)
 
-  pub effective-lt : effective F operation b < 2 ^ wordBits F
-  effective-lt = mod-lt (b + operation * 2 ^ (F .w + F .f)) (pow-pos (wordBits F))
-
 -- adding leaves b as it is
 pub effective-add : (F : Format) (b : ℕ) → b < 2 ^ wordBits F → effective F 0 b ≡ b
 effective-add F b h = ap (λ (n : ℕ). (b + n) % 2 ^ wordBits F) (zero-mul (2 ^ (F .w + F .f))) ∙ ap (λ (n : ℕ). n % 2 ^ wordBits F) (add-zero b) ∙ mod-eq-of-lt h

@@ -18,11 +18,11 @@ ghost use Rattle.word.specs.Word.{significand, effective};
 ghost use Rattle.word.specs.Operand.{operandOf};
 
 // The significand of a biased exponent and a fraction.
-fn significand(f: u64, exponent: u64, fraction: u64) -> u64
+fn significand(f: u64, exponent: Biased, fraction: u64) -> u64
     requires { ⌜ (f < 63) × (fraction < 2 ^ f) ⌝ }
-    ensures { λ r. ⌜ r ≡ significand f exponent fraction ⌝ }
+    ensures { λ r. ⌜ r ≡ significand f (exponent .0) fraction ⌝ }
 {
-    if exponent == 0 {
+    if exponent.0 == 0 {
         fraction
     } else {
         power(f) + fraction
@@ -47,7 +47,7 @@ fn operand_of(format: Format, x: u64) -> Operand
         Operand::Finite(Finite {
             sign,
             exponent: Biased(exponent),
-            significand: significand(format.f, exponent, fraction),
+            significand: significand(format.f, Biased(exponent), fraction),
         })
     }
 }

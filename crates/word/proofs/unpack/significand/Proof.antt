@@ -19,17 +19,17 @@ power-requires c κs = search needs
 
 add-result : tie.Need-add-result
 add-result c =
-    let s = c .before .before in
+    let s = c .before .before .before in
     omega (arith, c .power .ensures ∙ power-exact (s .args .f) (omega arith), s .pre .1, pow-mono {i = s .args .f} {j = 62} (omega arith))
 
 returns : tie.Need-returns
 unfolding significand
-returns c = sym (ap (λ (n : ℕ). significand (c .before .args .f) n (c .before .args .fraction)) (c .if1 .taken))
+returns c = let a = c .before .before .args in sym (ap (λ (n : ℕ). significand (a .f) n (a .fraction)) (c .if1 .taken))
 
 returns-2 : tie.Need-returns-2
 returns-2 c =
-    let s = c .before .before in
-    ap (λ (n : ℕ). n + s .args .fraction) (c .power .ensures ∙ power-exact (s .args .f) (omega arith)) ∙ sym (normal (s .args .f) (s .args .exponent) (s .args .fraction) (c .before .if1 .left))
+    let s = c .before .before .before in
+    ap (λ (n : ℕ). n + s .args .fraction) (c .power .ensures ∙ power-exact (s .args .f) (omega arith)) ∙ sym (normal (s .args .f) (s .args .exponent .0) (s .args .fraction) (c .before .if1 .left))
 
 pub significand-spec : {M : Type 1} → statement M
 significand-spec = tie.close (tie.spec power-requires add-result returns returns-2)
