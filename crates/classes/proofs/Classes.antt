@@ -30,11 +30,10 @@ use Rattle.outcome.proofs.Topped.{size-none}
 use Rattle.outcome.proofs.Range.{made-most}
 use Rattle.special.specs.Asked.{fieldIs, PairFits}
 use Rattle.pair.specs.declared.Side.{Side}
-use Rattle.pair.specs.Pair.{FiniteSide, significandsOf, gapOf, alignedOf, Larger, Sums, SomeSigns, FinitePair}
+use Rattle.pair.specs.Pair.{FiniteSide, significandsOf, gapOf, alignedOf, Larger, Sums, SomeSigns}
 use Rattle.pair.proofs.Finites.{pair-finite}
 use Rattle.classes.specs.declared.Class.{Class}
-use Rattle.classes.specs.Class.{InOrder, farGap, classUnit, topField, lowField, fieldAt, mostField, leastField, atField, withExponent, asking, onlyField, ClassAdmits, NeverPast, Classed}
-use Rattle.classes.specs.Kept.{smallerMask}
+use Rattle.classes.specs.Class.{InOrder, farGap, classUnit, topField, lowField, fieldAt, mostField, leastField, atField, withExponent, asking, onlyField, ClassAdmits, NeverPast, Classed, smallerMask}
 use Rattle.classes.proofs.Order.{Sides, sideWith, sides-of}
 use Rattle.classes.proofs.ClassMasks.{past-never, asking-meets, own-meets, anyField, asking-less}
 use Rattle.classes.proofs.Moved.{Moved, moved}

@@ -3,4 +3,3 @@ pub mod ClassMasks
 pub mod Moved
 pub mod Aligning
 pub mod Classes
-pub mod Keeping

@@ -1,15 +1,11 @@
 -- Two exponent fields by size: what holds of a's field and b's holds of the larger one and the smaller in their order, and back. So the laws
 -- of classes are stated over the side with the larger field and the other one, once for both orders. Assumes nothing.
-use mathlib.Core.Bool.{cond}
 use mathlib.Core.Logic.{_↔_, inl, inr}
-use mathlib.Core.Path.{_≡_}
 use Prim.Native.Nat.{ℕ, zero, suc, _≤_, _<_}
 use native.Mathlib.Decide.{decLe}
 use native.Mathlib.Omega.{arith}
 use borrow.Author.Tests.{le-leb, lt-leb}
-use lib.Dec.{leb}
 use Rattle.format.specs.declared.Format.{Format}
-use Rattle.format.specs.Format.{Supported}
 use Rattle.mask.specs.declared.Mask.{Mask}
 use Rattle.mask.specs.Mask.{Meets, WellFormed}
 use Rattle.job.specs.declared.Wanted.{Wanted}
@@ -19,14 +15,10 @@ use Rattle.job.specs.Job.{Valid}
 use Rattle.job.specs.Role.{withWanted}
 use Rattle.word.specs.declared.Biased.{Biased}
 use Rattle.word.specs.Word.{allOnes}
-use Rattle.word.specs.Masks.{exponentMask}
-use Rattle.special.specs.Asked.{PairFits}
 use Rattle.pair.specs.declared.Side.{Side}
-use Rattle.pair.specs.Pair.{FiniteSide, Sums, sideA, sideB, SomeSigns, FinitePair}
-use Rattle.pair.proofs.Finites.{finite-a, finite-b, pair-finite}
-use Rattle.classes.specs.declared.Fields.{Fields}
-use Rattle.classes.specs.Class.{fieldsOf, InOrder, FiniteFields, atField}
-use Rattle.classes.specs.Kept.{smallerMask, Asked}
+use Rattle.pair.specs.Pair.{Sums, sideA, sideB, SomeSigns, FinitePair}
+use Rattle.pair.proofs.Finites.{finite-a, finite-b}
+use Rattle.classes.specs.Class.{fieldsOf, InOrder, FiniteFields, smallerMask, Asked}
 
 -- ---- the fields of a pair
 module _ (ea eb : Biased) where

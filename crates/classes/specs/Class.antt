@@ -11,11 +11,12 @@ use Rattle.mask.specs.declared.Mask.{Mask}
 use Rattle.mask.specs.Mask.{Meets}
 use Rattle.job.specs.declared.Job.{Job}
 use Rattle.job.specs.declared.Role.the-variants.{C}
+use Rattle.job.specs.Job.{Valid}
 use Rattle.job.specs.Role.{withWanted, withMask}
 use Rattle.word.specs.declared.Biased.{Biased}
 use Rattle.word.specs.declared.Unit as exponent
 use Rattle.word.specs.Word.{unitOf, fieldOf, allOnes}
-use Rattle.word.specs.Masks.{signMask, fractionMask}
+use Rattle.word.specs.Masks.{signMask, exponentMask, fractionMask}
 use Rattle.rounding.specs.Width.{guardBits}
 use Rattle.special.specs.Asked.{fieldIs}
 use Rattle.pair.specs.declared.Side.{Side}
@@ -39,6 +40,17 @@ pub record FiniteFields (F : Format) (p : Fields) : Type 0 where
   pub order-lt : p .order < 2
   pub ordered : p .smaller .0 ≤ p .larger .0
   pub finite : p .larger .0 < allOnes F
+
+-- a valid job, and two exponent fields that meet their masks
+pub record Asked (j : Job) (ea eb : Biased) : Type 0 where
+  pub valid : Valid j
+  pub a-exponent : Meets (ea .0) (exponentMask (j .setting .format) (j .a .mask))
+  pub b-exponent : Meets (eb .0) (exponentMask (j .setting .format) (j .b .mask))
+
+-- the mask on the exponent field of the operand with the smaller one
+abbrev pub smallerMask : Job → ℕ → Mask
+smallerMask j zero = exponentMask (j .setting .format) (j .b .mask)
+smallerMask j (suc o) = exponentMask (j .setting .format) (j .a .mask)
 
 -- ---- the pair that stands for a class
 
@@ -117,6 +129,12 @@ pub record ClassIn (f : ℕ) (k : Class) : Type 0 where
 -- a format with fields enough: c's greatest one there is finite, and so is the one after the next
 abbrev pub Wide : Format → Type 0
 Wide F = mostField (F .f) + 3 ≤ allOnes F
+
+-- a valid job, and a class whose pair its format has
+pub record ClassFor (j : Job) (k : Class) : Type 0 where
+  pub valid : Valid j
+  pub wide : Wide (j .setting .format)
+  pub class-in : ClassIn (j .setting .format .f) k
 
 -- no word past the largest finite number meets c: those have the fraction 0 or all ones
 pub record NeverPast (F : Format) (c : Mask) : Type 0 where

@@ -1,40 +1,35 @@
-// Whether a pair of exponent fields admits a case, with the answers kept that pairs share: pairs whose significands are aligned alike form
-// a class, and those with a far gap and the same larger field have one answer.
-use bits::power;
-use far::far_open;
-use far::keep_refused;
+// Classes of pairs of exponent fields: pairs whose significands are aligned alike have one answer, and one of them stands for all.
+use bits::minus;
 use format::Format;
-use format::format_cause;
 use job::Job;
-use known::class_may;
+use job::Role;
+use job::words::with_mask;
+use job::words::with_wanted;
 use mask::Mask;
-use mask::meets;
-use pair::finite::finite_fields;
-use pair::pair_admits;
-use representative::class_of;
-use representative::fields_of;
-use representative::most_field;
-use representative::top_field;
+use pair::finite::finite_admits;
+use rounding::width::GUARD_BITS;
+use std::num::wrapping_add_u64;
 use word::Biased;
+use word::Unit;
+use word::exponent::field_of;
 use word::exponent::unit_of;
 use word::masks::fraction_mask;
-
-mod far;
-mod known;
-mod representative;
-
-ghost use mathlib.Core.Bool.{true, false};
+use word::masks::sign_mask;
+use word::pack::word_of;
+ghost use mathlib.Core.Bool.{true};
 ghost use mathlib.Core.Logic.{_↔_};
 ghost use mathlib.Core.Path.{_≡_};
-ghost use Prim.Native.Nat.{_^_, _≤_, _<_};
-ghost use Rattle.format.specs.Format.{Supported};
-ghost use Rattle.job.specs.Job.{Valid};
-ghost use Rattle.special.specs.Asked.{InRange, PairFits};
-ghost use Rattle.classes.specs.Class.{InOrder, FiniteFields, NeverPast, Normal};
-ghost use Rattle.classes.specs.Kept.{Kept, ClassEnd, Asked};
+ghost use Prim.Native.Nat.{_<_};
+ghost use Rattle.format.specs.Format.{Supported, wordBits};
+ghost use Rattle.mask.specs.Mask.{WellFormed};
+ghost use Rattle.classes.specs.Class.{fieldsOf, lowField, classOf, withExponent, asking, ClassFor, ClassAdmits};
 
-// The places of the table that a pass over the exponent fields keeps; its words are 0 in the beginning.
-pub const PLACES: usize = 128;
+// Beyond the fraction's bits: the gap from which on an aligned significand is its sticky bit alone.
+pub const FAR_GAP: u64 = GUARD_BITS;
+// The larger field of the pair that stands for a class.
+pub const TOP_FIELD: u64 = FAR_GAP + 1;
+// c's greatest exponent field there.
+pub const MOST_FIELD: u64 = TOP_FIELD + 2;
 
 // Two exponent fields by size; the order is 0 where a has the larger one, else 1.
 pub struct Fields {
@@ -49,80 +44,76 @@ pub struct Class {
     pub low: Biased,
 }
 
-// Whether each sum of a pair is 0 or has digits enough for a normal number, by its unit or by its gap.
-fn normal(f: u64, fields: Fields) -> bool
-    requires { ⌜ (f < 64) × (fields .smaller .0 ≤ fields .larger .0) × (fields .larger .0 < 2 ^ 16) ⌝ }
-    ensures { λ r. ⌜ (r ≡ true → Normal f (fields .larger) (fields .smaller)) ⌝ }
+// Two exponent fields by size.
+pub fn fields_of(ea: Biased, eb: Biased) -> Fields
+    ensures { λ r. ⌜ r ≡ fieldsOf ea eb ⌝ }
 {
-    if top_field(f).0 <= fields.larger.0 {
-        return true;
+    if eb.0 <= ea.0 {
+        Fields {
+            order: 0,
+            larger: ea,
+            smaller: eb,
+        }
+    } else {
+        Fields {
+            order: 1,
+            larger: eb,
+            smaller: ea,
+        }
     }
-    if fields.smaller.0 == 0 {
-        return false;
-    }
-    fields.smaller.0 + 2 <= fields.larger.0
 }
 
-// Whether a pair may admit a case, as far as the table tells or comes to tell.
-fn may_admit(job: Job, fields: Fields, end: Biased, table: &mut [u64; PLACES]) -> bool
-    requires { ⌜ Supported (job .setting .format) × FiniteFields (job .setting .format) fields ⌝ }
-    ensures { λ r. ⌜ (Valid job → ClassEnd job end → Kept job (now (table .entry))
-        → Kept job (now (table .exit)) × (r ≡ false → InOrder (PairFits job) (fields .order) (fields .larger) (fields .smaller) → ⊥)) ⌝ }
+// The smaller field of the pair that stands for the class of two fields: as far below the larger one, but at most by the far gap; 0 for 0.
+fn low_field(f: u64, larger: Biased, smaller: Biased) -> Biased
+    ensures { λ r. ⌜ (f < 64 → r ≡ lowField f larger smaller) ⌝ }
 {
-    if !normal(job.setting.format.f, fields) {
-        return true;
+    if smaller.0 == 0 {
+        return Biased(0);
     }
-    if end.0 <= fields.larger.0 {
-        return far_open(job, fields, table);
-    }
-    let class = class_of(job.setting.format.f, fields);
-    class_may(job, class, unit_of(fields.larger), table)
+    let gap = minus(unit_of(larger).0, unit_of(smaller).0);
+    field_of(Unit(minus(wrapping_add_u64(f, FAR_GAP), gap)), 1)
 }
 
-// Whether a case whose operands have these exponent fields fits; false in a format that is not supported and for a field that it does not
-// have. The table spares questions whose answer is no, and keeps what is found. For a job with a malformed mask, fields that do not meet
-// their masks, another end than `class_end` gives or another table than one that this function kept, the answer and the table are free.
-pub fn admits(job: Job, ea: Biased, eb: Biased, end: Biased, table: &mut [u64; PLACES]) -> bool
-    ensures in_range { λ r. ⌜ (r ≡ true → InRange (job .setting .format) ea eb) ⌝ }
-    ensures exact { λ r. ⌜ (Asked job ea eb → ClassEnd job end → Kept job (now (table .entry)) → Kept job (now (table .exit)) × ((r ≡ true) ↔ PairFits job ea eb)) ⌝ }
+// The class of a pair; free where f is 64 or more.
+pub fn class_of(f: u64, fields: Fields) -> Class
+    ensures { λ r. ⌜ (f < 64 → r ≡ classOf f fields) ⌝ }
 {
-    if !finite_fields(job.setting.format, ea, eb) {
-        return pair_admits(job, ea, eb);
+    let low = low_field(f, fields.larger, fields.smaller);
+    Class {
+        order: fields.order,
+        low,
     }
-    let fields = fields_of(ea, eb);
-    if !may_admit(job, fields, end, table) {
-        return false;
-    }
-    if pair_admits(job, ea, eb) {
-        return true;
-    }
-    keep_refused(job, fields, table);
-    false
 }
 
-// Whether no word past the largest finite number meets c's mask: those have the fraction 0 or all ones, whatever the significands.
-fn never_past(format: Format, c: Mask) -> bool
-    requires { ⌜ Supported format ⌝ }
-    ensures { λ r. ⌜ (r ≡ true → NeverPast format c) ⌝ }
+// The mask c with another mask on its exponent field.
+fn with_exponent(format: Format, c: Mask, n: Mask) -> Mask
+    ensures { λ r. ⌜ (Supported format → WellFormed (wordBits format) c → WellFormed (format .w) n → r ≡ withExponent format c n) ⌝ }
 {
+    let sign = sign_mask(format, c);
     let fraction = fraction_mask(format, c);
-    !(meets(fraction, 0) | meets(fraction, power(format.f) - 1))
+    let care = word_of(format, sign.care, n.care, fraction.care);
+    let value = word_of(format, sign.value, n.value, fraction.value);
+    Mask { care, value }
 }
 
-// One past the largest exponent field of the pairs that their classes answer for; 0 in a format that is not supported.
-pub fn class_end(job: Job) -> Biased
-    ensures { λ r. ⌜ (Valid job → ClassEnd job r) × ((Supported (job .setting .format) → ⊥) → r .0 ≡ 0) ⌝ }
+// The job that asks for another mask of c's exponent field.
+fn asking(job: Job, n: Mask) -> Job
+    ensures { λ r. ⌜ (Supported (job .setting .format) → WellFormed (wordBits (job .setting .format)) (job .c .mask) → WellFormed (job .setting .format .w) n → r ≡ asking job n) ⌝ }
 {
-    let format = job.setting.format;
-    if format_cause(format) != 0 {
-        return Biased(0);
+    let wanted = with_mask(job.c, with_exponent(job.setting.format, job.c.mask, n));
+    with_wanted(job, Role::C, wanted)
+}
+
+// Whether the pair that stands for a class admits a case, where n is asked of c's exponent field. For a job with a malformed mask, a class
+// that its format does not have and a malformed n the answer is free: a job is tested once, where the generator is asked.
+pub fn class_admits(job: Job, class: Class, n: Mask) -> bool
+    ensures { λ r. ⌜ (ClassFor job class → WellFormed (job .setting .format .w) n → (r ≡ true) ↔ ClassAdmits job class n) ⌝ }
+{
+    let asked = asking(job, n);
+    let top = Biased(wrapping_add_u64(job.setting.format.f, TOP_FIELD));
+    if class.order == 0 {
+        finite_admits(asked, top, class.low)
+    } else {
+        finite_admits(asked, class.low, top)
     }
-    let ones = power(format.w) - 1;
-    if ones < most_field(format.f) + 3 {
-        return Biased(0);
-    }
-    if never_past(format, job.c.mask) {
-        return Biased(ones);
-    }
-    Biased(ones - 2)
 }

@@ -18,7 +18,7 @@ use Rattle.job.specs.Job.{Valid}
 use Rattle.word.specs.declared.Biased.{Biased}
 use Rattle.word.specs.Word.{biased}
 use Rattle.special.specs.Asked.{InRange, PairFits}
-use Rattle.classes.specs.Kept.{Asked}
+use Rattle.classes.specs.Class.{Asked}
 use Rattle.word.specs.Masks.{exponentMask}
 use Rattle.search.specs.Left.{Left}
 use Rattle.search.specs.Walk.{FirstField}

@@ -15,7 +15,7 @@ use Rattle.word.specs.declared.Biased.{Biased}
 use Rattle.special.specs.Asked.{PairFits}
 use Rattle.pair.specs.Signs.{signsLeft}
 use Rattle.search.specs.declared.Pass.{Pass}
-use Rattle.classes.specs.Kept.{ClassEnd}
+use Rattle.answers.specs.Kept.{ClassEnd}
 use Rattle.search.specs.Left.{Left, Ready}
 
 -- a case is left, and the word's bits from position k on are fixed

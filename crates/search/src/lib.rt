@@ -1,9 +1,9 @@
 // The masked search: whether a case is left, and the operands of the one that two random words choose.
 mod walk;
 
+use answers::PLACES;
+use answers::class_end;
 use bits::power;
-use classes::PLACES;
-use classes::class_end;
 use format::format_cause;
 use job::Job;
 use job::Role;
@@ -23,7 +23,7 @@ ghost use Rattle.job.specs.Job.{Valid};
 ghost use Rattle.mask.specs.Mask.{Meets};
 ghost use Rattle.word.specs.Masks.{exponentMask};
 ghost use Rattle.special.specs.Asked.{PairFits};
-ghost use Rattle.classes.specs.Kept.{Kept};
+ghost use Rattle.answers.specs.Kept.{Kept};
 ghost use Rattle.search.specs.Walk.{NoneBelow, FirstField, PassOf, PartnersFrom};
 ghost use Rattle.search.specs.Choice.{Chosen};
 ghost use Rattle.search.specs.declared.Choice.the-variants.{Nothing};
@@ -73,7 +73,7 @@ fn left_at(job: Job, pass: Pass, ea: Biased, eb: Biased, table: &mut [u64; PLACE
     if !meets(pass.b, eb.0) {
         return false;
     }
-    classes::admits(job, ea, eb, pass.end, table)
+    answers::admits(job, ea, eb, pass.end, table)
 }
 
 // The first exponent field of b that is tried with one of a: past the last where a's does not meet its mask, that of infinities and NaNs

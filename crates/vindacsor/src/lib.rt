@@ -1,11 +1,9 @@
 // The functions for callers in C and Rust, on numbers and byte slices alone. Each returns the number of the refusal, 0 for none, and puts
 // the numbers of its answer into `out`, eight bytes each, low byte first. On a refusal nothing is written; 11 is a buffer too short.
-mod answer;
-mod reply;
-
 use adder::carry_row::carry_row;
 use adder::result::rounded_result;
-use answer::deliver;
+use delivery::answer::deliver;
+use delivery::reply;
 use format::Format;
 use mask::Mask;
 use mask::join;
@@ -17,8 +15,8 @@ ghost use Rattle.mask.specs.Join.{join};
 ghost use Rattle.adder.specs.Result.{resultReply};
 ghost use Rattle.adder.specs.Row.{rowReply};
 ghost use Rattle.records.specs.Record.{firstIn};
-ghost use Rattle.vindacsor.specs.Answer.{Delivered};
-ghost use Rattle.vindacsor.specs.Replies.{formatOf, maskFrom, masksOf, wordsOf, wholeJob, ofResult, ofRow, ofJoined, ofFirst, confirmation, Generated, WholeGenerated};
+ghost use Rattle.delivery.specs.Answer.{Delivered};
+ghost use Rattle.delivery.specs.Replies.{formatOf, maskFrom, masksOf, wordsOf, wholeJob, ofResult, ofRow, ofJoined, ofFirst, confirmation, Generated, WholeGenerated};
 
 // The mask of two numbers.
 fn mask_of(care: u64, value: u64) -> Mask

@@ -1,16 +1,16 @@
 -- `search::choose` meets its contract: its two walks end at the chosen pair, by `walks-choose`. Assumes nothing.
-use Rattle.search.proofs.Pairs.{past-none}
-use Rattle.search.proofs.Choosing.{all-open, end-none, walks-choose}
-use Rattle.search.specs.Left.{Ready}
-use Rattle.word.proofs.Bounds.{exponents}
-use Rattle.job.specs.declared.Role.the-variants.{A, B}
-use Rattle.job.specs.declared.Setting.{Setting}
-use Rattle.format.proofs.Room.{word-room}
-use Rattle.format.proofs.Laws.{supported-of, unsupported-of}
-use Rattle.format.specs.Format.{Supported, wordBits}
-use native.Mathlib.Omega.{arith}
 use mathlib.Core.Logic.{_↔_}
 use mathlib.Core.Path.{refl, sym, ap, _∙_, subst}
+use native.Mathlib.Omega.{arith}
+use Rattle.format.specs.Format.{Supported, wordBits}
+use Rattle.format.proofs.Laws.{supported-of, unsupported-of}
+use Rattle.format.proofs.Room.{word-room}
+use Rattle.job.specs.declared.Role.the-variants.{A, B}
+use Rattle.job.specs.declared.Setting.{Setting}
+use Rattle.word.proofs.Bounds.{exponents}
+use Rattle.search.specs.Left.{Ready}
+use Rattle.search.proofs.Choosing.{all-open, end-none, walks-choose}
+use Rattle.search.proofs.Pairs.{past-none}
 use borrow.Author.Needs.{needs}
 use Rattle.search.proofs.choose.Statement.{statement}
 use Rattle.search.proofs.choose.Tie as tie
@@ -40,7 +40,8 @@ follow-requires-2 : tie.Need-follow-requires-2
 follow-requires-2 c κs = subst (λ (S : Setting). Supported (S .format)) (sym (c .follow .ensures .0)) (supported-of (c .before .before .before .before .before .before .before .format-cause .ensures) (c .before .before .before .before .before .before .if1 .left))
 
 returns-2 : tie.Need-returns-2
-returns-2 c = let ok = supported-of (c .before .before .before .before .before .before .before .before .format-cause .ensures) (c .before .before .before .before .before .before .before .if1 .left) in
+returns-2 c =
+    let ok = supported-of (c .before .before .before .before .before .before .before .before .format-cause .ensures) (c .before .before .before .before .before .before .before .if1 .left) in
     let a = c .before .before .before .before .before .before .before .before .before .before .args in
     let one = c .before .follow in (
       λ n. absurd (n ok),
@@ -57,7 +58,8 @@ returns-2 c = let ok = supported-of (c .before .before .before .before .before .
     )
 
 returns-3 : tie.Need-returns-3
-returns-3 c = let ok = supported-of (c .before .before .before .before .before .format-cause .ensures) (c .before .before .before .before .if1 .left) in
+returns-3 c =
+    let ok = supported-of (c .before .before .before .before .before .format-cause .ensures) (c .before .before .before .before .if1 .left) in
     let job = c .before .before .before .before .before .before .before .args .job in (
       λ n. refl,
       λ valid ready. past-none job (c .before .before .before .first-field .result) (c .before .before .before .first-field .ensures valid (λ d e h. absurd (omega arith))) (omega (arith, exponents (job .setting .format) ok (c .before .before .power .ensures), c .if2 .left)) (ready .left),

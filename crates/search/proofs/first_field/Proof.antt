@@ -1,19 +1,19 @@
 -- `search::first_field` meets its contract: no pair before (ea, eb) admits a case, and the table has answers. The measures are the exponent
 -- fields still to come. Assumes nothing.
-use Rattle.search.proofs.Pairs.{pair-range, pair-left}
-use Rattle.search.specs.Walk.{NoneBelow}
-use Rattle.classes.proofs.Keeping.{kept-fresh}
-use Rattle.classes.specs.Kept.{Kept}
-use Rattle.special.specs.Asked.{fieldIs, PairFits}
-use Rattle.word.specs.Masks.{exponentMask}
-use Rattle.word.specs.declared.Biased.{Biased}
-use Rattle.job.specs.Job.{Valid}
-use Rattle.mask.specs.Mask.{Meets}
-use native.Mathlib.Omega.{arith}
-use native.Mathlib.Decide.{ℕ-discrete}
-use Prim.Native.Nat.{ℕ, _+_, _-_, _<_}
 use mathlib.Core.Bool.{false≢true}
 use mathlib.Core.Path.{_≡_, sym, ap, _∙_, subst}
+use Prim.Native.Nat.{ℕ, _+_, _-_, _<_}
+use native.Mathlib.Decide.{ℕ-discrete}
+use native.Mathlib.Omega.{arith}
+use Rattle.mask.specs.Mask.{Meets}
+use Rattle.job.specs.Job.{Valid}
+use Rattle.word.specs.declared.Biased.{Biased}
+use Rattle.word.specs.Masks.{exponentMask}
+use Rattle.special.specs.Asked.{fieldIs, PairFits}
+use Rattle.answers.specs.Kept.{Kept}
+use Rattle.answers.proofs.Keeping.{kept-fresh}
+use Rattle.search.specs.Walk.{NoneBelow}
+use Rattle.search.proofs.Pairs.{pair-range, pair-left}
 use borrow.Author.Needs.{needs}
 use Rattle.search.proofs.first_field.Statement.{statement}
 use Rattle.search.proofs.first_field.Tie as tie
@@ -50,7 +50,8 @@ first-partner-requires : tie.Need-first-partner-requires Inv-loop μ-loop Inv-pa
 first-partner-requires c κs = omega (arith, c .if1 .taken)
 
 loop-holds : tie.Need-loop-holds Inv-loop μ-loop Inv-pairs μ-pairs
-loop-holds c = let o = c .before .before .before in
+loop-holds c =
+    let o = c .before .before .before in
     let s = c .before .before .before .before .before in
     λ valid.
     let is = c .before .before .before .before .pass-of .ensures valid in
@@ -67,7 +68,8 @@ loop-less : tie.Need-loop-less Inv-loop μ-loop Inv-pairs μ-pairs
 loop-less c = omega (arith, c .before .before .before .before .if2 .taken)
 
 loop-again : tie.Need-loop-again Inv-loop μ-loop Inv-pairs μ-pairs
-loop-again c = let l = c .before .before .before .before .before .before in
+loop-again c =
+    let l = c .before .before .before .before .before .before in
     let o = c .before .before .before .before .before .before .before .before .before .before in
     let job = c .before .before .before .before .before .before .before .before .before .before .before .before .args .job in
     λ valid.
@@ -83,7 +85,8 @@ pairs-less : tie.Need-pairs-less Inv-loop μ-loop Inv-pairs μ-pairs
 pairs-less c = omega (arith, c .before .before .before .before .before .if1 .taken)
 
 pairs-again : tie.Need-pairs-again Inv-loop μ-loop Inv-pairs μ-pairs
-pairs-again c = let l = c .before .before .before in
+pairs-again c =
+    let l = c .before .before .before in
     let o = c .before .before .before .before .before .before .before in
     let job = c .before .before .before .before .before .before .before .before .before .args .job in (
       λ valid. l .loop .inv valid .0,
@@ -95,7 +98,8 @@ returns : tie.Need-returns Inv-loop μ-loop Inv-pairs μ-pairs
 returns c = λ valid none. record { none = c .before .before .pairs .inv .1 valid none; left = λ h. absurd (omega (arith, c .before .before .before .pass-of .ensures valid .past, c .if1 .left)) }
 
 returns-2 : tie.Need-returns-2 Inv-loop μ-loop Inv-pairs μ-pairs
-returns-2 c = let l = c .before .before .before .before .before in
+returns-2 c =
+    let l = c .before .before .before .before .before in
     let o = c .before .before .before .before .before .before .before .before .before in
     λ valid none.
     let inv = l .loop .inv valid in

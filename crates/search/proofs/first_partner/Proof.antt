@@ -1,15 +1,15 @@
 -- `search::first_partner` meets its contract: a pair whose exponent field of a does not meet its mask admits no case, by `pair-asked`, and
 -- where no signs are left for finite operands no pair of finite ones does, by `signs-none`. Assumes nothing.
-use Rattle.search.proofs.Pairs.{pair-asked, tested}
-use Rattle.search.specs.Walk.{PassOf, PartnersFrom}
-use Rattle.pair.proofs.LikeSigns.{signs-none}
-use Rattle.special.specs.Asked.{fieldIs}
-use Rattle.job.specs.Job.{Valid}
-use Rattle.job.specs.declared.Job.{Job}
-use borrow.Author.Tests.{not-true, not-false}
-use native.Mathlib.Omega.{arith}
 use mathlib.Core.Bool.{false≢true}
 use mathlib.Core.Path.{sym, _∙_}
+use native.Mathlib.Omega.{arith}
+use borrow.Author.Tests.{not-true, not-false}
+use Rattle.job.specs.declared.Job.{Job}
+use Rattle.job.specs.Job.{Valid}
+use Rattle.special.specs.Asked.{fieldIs}
+use Rattle.pair.proofs.LikeSigns.{signs-none}
+use Rattle.search.specs.Walk.{PassOf, PartnersFrom}
+use Rattle.search.proofs.Pairs.{pair-asked, tested}
 use borrow.Author.Needs.{needs}
 use Rattle.search.proofs.first_partner.Statement.{statement}
 use Rattle.search.proofs.first_partner.Tie as tie
@@ -27,7 +27,8 @@ meets-requires : tie.Need-meets-requires
 meets-requires c κs = search needs
 
 returns : tie.Need-returns
-returns c = let m = c .before .before in
+returns c =
+    let m = c .before .before in
     let a = c .before .before .before .args in
     λ job valid is. record {
       none = λ d h p. absurd (false≢true (sym (not-true (m .meets .result) (c .before .if1 .taken))
@@ -42,7 +43,8 @@ sub-ones : tie.Need-sub-ones
 sub-ones c = search needs
 
 returns-3 : tie.Need-returns-3
-returns-3 c = let a = c .before .before .before .before .before .before .args in
+returns-3 c =
+    let a = c .before .before .before .before .before .before .args in
     λ job valid is. record {
       none = λ d h p.
           signs-none job valid (a .ea) d (record { supported = valid .setting .format; a-finite = omega (arith, is .past, c .if3 .taken); b-finite = omega (arith, is .past) })

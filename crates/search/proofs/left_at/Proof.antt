@@ -1,8 +1,8 @@
 -- `search::left_at` meets its contract: a pair whose exponent field of b does not meet its mask admits no case, by `pair-asked`. Assumes nothing.
-use Rattle.search.proofs.Pairs.{pair-asked, tested}
-use borrow.Author.Tests.{not-true, not-false}
 use mathlib.Core.Bool.{false≢true}
 use mathlib.Core.Path.{sym, _∙_}
+use borrow.Author.Tests.{not-true, not-false}
+use Rattle.search.proofs.Pairs.{pair-asked, tested}
 use borrow.Author.Needs.{needs}
 use Rattle.search.proofs.left_at.Statement.{statement}
 use Rattle.search.proofs.left_at.Tie as tie
@@ -11,7 +11,8 @@ meets-requires : tie.Need-meets-requires
 meets-requires c κs = search needs
 
 returns : tie.Need-returns
-returns c = let a = c .before .before .args in
+returns c =
+    let a = c .before .before .args in
     λ valid is meets kept. (
       kept,
       (
@@ -26,7 +27,8 @@ admits-requires : tie.Need-admits-requires
 admits-requires c κs = search needs
 
 returns-2 : tie.Need-returns-2
-returns-2 c = let a = c .before .before .before .before .args in
+returns-2 c =
+    let a = c .before .before .before .before .args in
     λ valid is meets kept.
     c .admits .ensures .1 (record { valid = valid; a-exponent = meets; b-exponent = tested (a .job .setting .format) (a .job .b .mask) (a .eb .0) (is .b) (c .before .before .before .meets .ensures) .0 (not-false (c .before .before .before .meets .result) (c .before .before .if1 .left)) }) (is .end) kept
 

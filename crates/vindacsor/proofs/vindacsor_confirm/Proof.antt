@@ -1,8 +1,8 @@
 -- `vindacsor::vindacsor_confirm` meets its contract: the confirmation's answer is delivered. Assumes nothing.
 use mathlib.Core.Path.{ap, _∙_}
 use Rattle.records.specs.declared.First.{First}
-use Rattle.vindacsor.specs.Replies.{confirmation}
-use Rattle.vindacsor.proofs.Bytes.{delivered-as}
+use Rattle.delivery.specs.Replies.{confirmation}
+use Rattle.delivery.proofs.Bytes.{delivered-as}
 use borrow.Author.Needs.{needs}
 use Rattle.vindacsor.proofs.vindacsor_confirm.Statement.{statement}
 use Rattle.vindacsor.proofs.vindacsor_confirm.Tie as tie

@@ -1,8 +1,8 @@
 -- `vindacsor::vindacsor_generate` meets its contract: the generator's answer is delivered. Assumes nothing.
 use mathlib.Core.Path.{subst}
 use Rattle.records.specs.declared.First.{First}
-use Rattle.vindacsor.specs.Answer.{contentOf}
-use Rattle.vindacsor.specs.Replies.{OfRecord}
+use Rattle.delivery.specs.Answer.{contentOf}
+use Rattle.delivery.specs.Replies.{OfRecord}
 use borrow.Author.Needs.{needs}
 use Rattle.vindacsor.proofs.vindacsor_generate.Statement.{statement}
 use Rattle.vindacsor.proofs.vindacsor_generate.Tie as tie

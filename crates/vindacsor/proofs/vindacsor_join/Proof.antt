@@ -1,7 +1,7 @@
 -- `vindacsor::vindacsor_join` meets its contract: the reply's answer is delivered. Assumes nothing.
 use mathlib.Core.Path.{ap, _∙_}
-use Rattle.vindacsor.specs.Replies.{ofJoined}
-use Rattle.vindacsor.proofs.Bytes.{delivered-as}
+use Rattle.delivery.specs.Replies.{ofJoined}
+use Rattle.delivery.proofs.Bytes.{delivered-as}
 use borrow.Author.Needs.{needs}
 use Rattle.vindacsor.proofs.vindacsor_join.Statement.{statement}
 use Rattle.vindacsor.proofs.vindacsor_join.Tie as tie

@@ -1,7 +1,7 @@
 -- `vindacsor::vindacsor_row` meets its contract: the reply's answer is delivered. Assumes nothing.
 use mathlib.Core.Path.{ap, _∙_}
-use Rattle.vindacsor.specs.Replies.{ofRow}
-use Rattle.vindacsor.proofs.Bytes.{delivered-as}
+use Rattle.delivery.specs.Replies.{ofRow}
+use Rattle.delivery.proofs.Bytes.{delivered-as}
 use borrow.Author.Needs.{needs}
 use Rattle.vindacsor.proofs.vindacsor_row.Statement.{statement}
 use Rattle.vindacsor.proofs.vindacsor_row.Tie as tie

@@ -2,8 +2,8 @@
 use mathlib.Core.Path.{_≡_, subst}
 use Rattle.whole.specs.declared.Masks.{Masks}
 use Rattle.whole.specs.Reply.{Replied}
-use Rattle.vindacsor.specs.Replies.{maskFrom, masksOf, wordsOf, wholeJob}
-use Rattle.vindacsor.proofs.Bytes.{delivered-as}
+use Rattle.delivery.specs.Replies.{maskFrom, masksOf, wordsOf, wholeJob}
+use Rattle.delivery.proofs.Bytes.{delivered-as}
 use borrow.Author.Needs.{needs}
 use Rattle.vindacsor.proofs.vindacsor_whole.Statement.{statement}
 use Rattle.vindacsor.proofs.vindacsor_whole.Tie as tie

@@ -2,31 +2,31 @@
 -- them is passed over where it is fixed, or tried, and the end of the walk below is the end of this one, by `tried-end`
 -- and `other-end`. Assumes nothing.
 use mathlib.Core.Path.{refl, sym, _∙_, subst}
-use borrow.Author.Tests.{not-true}
-use borrow.Author.Needs.{needs}
+use Prim.Native.Nat.{ℕ, _-_, _<_}
 use native.Mathlib.Omega.{arith}
+use borrow.Author.Tests.{not-true}
+use borrow.Fn.Kinds.{In}
+use borrow.Fn.PlainCycle.{Measures, is, falls, and}
 use Rattle.bits.proofs.Laws.{bit-lt}
+use Rattle.bits.proofs.bit_at.Reads as bit-at-reads
+use Rattle.bits.proofs.power.Reads as power-reads
 use Rattle.format.specs.Format.{Supported}
 use Rattle.mask.specs.Mask.{fix}
+use Rattle.mask.proofs.free.Reads as free-reads
 use Rattle.job.specs.declared.Setting.{Setting}
 use Rattle.job.specs.Role.{wanted}
+use Rattle.job.proofs.words.fix_bit.Reads as fix-bit-reads
+use Rattle.job.proofs.words.wanted.Reads as wanted-reads
+use Rattle.word.proofs.Bounds.{exponents}
 use Rattle.search.specs.Walk.{OpenBits}
 use Rattle.search.proofs.Roles.{replaced-setting}
 use Rattle.search.proofs.Walking.{end-done, skipped-bit, tried-valid, tried-none, tried-started, tried-past, tried-end, other-started, other-end}
-use Prim.Native.Nat.{ℕ, _-_, _<_}
-use borrow.Fn.Kinds.{In}
-use borrow.Fn.PlainCycle.{Measures, is, falls, and}
-use Rattle.search.proofs.walk.follow.Reads as follow
-use Rattle.search.proofs.walk.follow.Kinds as follow-kinds
-use Rattle.search.proofs.walk.+follow.Lts-follow as follow-lts
-use Rattle.bits.proofs.bit_at.Reads as bit-at-reads
-use Rattle.mask.proofs.free.Reads as free-reads
 use Rattle.search.proofs.first_field.Reads as first-field-reads
-use Rattle.bits.proofs.power.Reads as power-reads
-use Rattle.word.proofs.Bounds.{exponents}
-use Rattle.job.proofs.words.fix_bit.Reads as fix-bit-reads
-use Rattle.job.proofs.words.wanted.Reads as wanted-reads
+use Rattle.search.proofs.walk.+follow.Lts-follow as follow-lts
 use Rattle.search.proofs.walk.+follow.{statement}
+use Rattle.search.proofs.walk.follow.Kinds as follow-kinds
+use Rattle.search.proofs.walk.follow.Reads as follow
+use borrow.Author.Needs.{needs}
 use Rattle.search.proofs.walk.+follow.Tie.{close}
 
 abbrev μ-follow : Measures 0 follow-kinds.ps ℕ

@@ -1,0 +1,160 @@
+// What is known of a class of pairs: the exponent fields of c that it refuses, a bit for each.
+use crate::PLACES;
+use bits::bit_at;
+use bits::minus;
+use bits::power;
+use classes::Class;
+use classes::FAR_GAP;
+use classes::MOST_FIELD;
+use classes::TOP_FIELD;
+use classes::class_admits;
+use job::Job;
+use mask::Mask;
+use mask::meets;
+use word::Biased;
+use word::Unit;
+use word::masks::exponent_mask;
+ghost use mathlib.Core.Bool.{false};
+ghost use mathlib.Core.Path.{_≡_};
+ghost use Prim.Native.Nat.{_^_, _≤_, _<_};
+ghost use Rattle.format.specs.Format.{Supported};
+ghost use Rattle.mask.specs.Mask.{Meets};
+ghost use Rattle.word.specs.Masks.{exponentMask};
+ghost use Rattle.classes.specs.Class.{fieldAt, mostField, leastField, ClassIn, ClassFor};
+ghost use Rattle.answers.specs.Kept.{placeOf, Never, Refuses, Kept, NoField};
+
+// The bit that answers for all of c's fields, and the bit that says that the class was asked.
+const CLOSED: u64 = 63;
+
+const ASKED: u64 = 62;
+
+// Whether a class may admit a case, and its word.
+pub struct Known {
+    pub possible: bool,
+    pub refused: u64,
+}
+
+// c's exponent field with a unit, where it is `field` with the unit of the pair that stands for all.
+fn field_at(f: u64, unit: Unit, field: Biased) -> Biased
+    requires { ⌜ (f < 64) × (unit .0 < 2 ^ 16) × (field .0 < 2 ^ 16) ⌝ }
+    ensures { λ r. ⌜ r ≡ fieldAt f unit field ⌝ }
+{
+    if field.0 == 0 {
+        return Biased(0);
+    }
+    Biased(minus(field.0 + unit.0, f + FAR_GAP))
+}
+
+// One field of c is asked about, unless its answer is known or c's mask does not let it through.
+fn try_field(job: Job, class: Class, unit: Unit, field: Biased, refused: u64) -> Known
+    requires { ⌜ Supported (job .setting .format) × (unit .0 < 2 ^ 16) × (field .0 ≤ mostField (job .setting .format .f)) ⌝ }
+    ensures { λ r. ⌜ (ClassFor job class → Refuses job class refused
+        → Refuses job class (r .refused) × (r .possible ≡ false → Meets (fieldAt (job .setting .format .f) unit field .0) (exponentMask (job .setting .format) (job .c .mask)) → Never job class field)) ⌝ }
+{
+    let same = Known {
+        possible: false,
+        refused,
+    };
+    let at = field.0;
+    if bit_at(refused, at) == 1 {
+        return same;
+    }
+    let format = job.setting.format;
+    if !meets(
+        exponent_mask(format, job.c.mask),
+        field_at(format.f, unit, field).0,
+    ) {
+        return same;
+    }
+    let only = Mask {
+        care: power(format.w) - 1,
+        value: at,
+    };
+    if class_admits(job, class, only) {
+        return Known {
+            possible: true,
+            refused,
+        };
+    }
+    Known {
+        possible: false,
+        refused: refused | (1 << at),
+    }
+}
+
+// The least field of c that a class can have.
+fn least_field(f: u64, class: Class) -> Biased
+    requires { ⌜ (f < 64) × ClassIn f class ⌝ }
+    ensures { λ r. ⌜ r ≡ leastField f class ⌝ }
+{
+    if class.low.0 + 2 <= f + TOP_FIELD {
+        Biased(f + FAR_GAP)
+    } else {
+        Biased(0)
+    }
+}
+
+// All fields of c that the class can have, the largest first, up to one that it may have.
+fn try_fields(job: Job, class: Class, unit: Unit, known: u64) -> Known
+    requires { ⌜ Supported (job .setting .format) × ClassIn (job .setting .format .f) class × (unit .0 < 2 ^ 16) ⌝ }
+    ensures { λ r. ⌜ (ClassFor job class → Refuses job class known → Refuses job class (r .refused) × (r .possible ≡ false → NoField job class unit)) ⌝ }
+{
+    let least = least_field(job.setting.format.f, class).0;
+    let mut refused = known;
+    let mut n = job.setting.format.f + MOST_FIELD + 1;
+    while least < n {
+        n -= 1;
+        let tried = try_field(job, class, unit, Biased(n), refused);
+        if tried.possible {
+            return tried;
+        }
+        refused = tried.refused;
+    }
+    Known {
+        possible: false,
+        refused,
+    }
+}
+
+// What is known of a class, with the question whether it admits anything at all put first.
+fn opened(job: Job, class: Class, known: u64) -> u64
+    requires { ⌜ Supported (job .setting .format) ⌝ }
+    ensures { λ r. ⌜ (ClassFor job class → Refuses job class known → Refuses job class r) ⌝ }
+{
+    if known != 0 {
+        return known;
+    }
+    let any = Mask { care: 0, value: 0 };
+    if class_admits(job, class, any) {
+        return 1 << ASKED;
+    }
+    1 << CLOSED
+}
+
+// The place of a class in the table.
+fn place_of(f: u64, class: Class) -> u64
+    requires { ⌜ (f < 64) × ClassIn f class ⌝ }
+    ensures { λ r. ⌜ r ≡ placeOf f class ⌝ }
+{
+    if class.order == 0 {
+        class.low.0
+    } else {
+        f + TOP_FIELD + 1 + class.low.0
+    }
+}
+
+// Whether a class may admit a case where the larger operand has this unit; what is found is kept.
+pub(crate) fn class_may(job: Job, class: Class, unit: Unit, table: &mut [u64; PLACES]) -> bool
+    requires { ⌜ Supported (job .setting .format) × ClassIn (job .setting .format .f) class × (unit .0 < 2 ^ 16) ⌝ }
+    ensures { λ r. ⌜ (ClassFor job class → Kept job (now (table .entry)) → Kept job (now (table .exit)) × (r ≡ false → NoField job class unit)) ⌝ }
+{
+    let at = place_of(job.setting.format.f, class) as usize;
+    let known = opened(job, class, table[at]);
+    if bit_at(known, CLOSED) == 1 {
+        table[at] = known;
+        return false;
+    }
+    let found = try_fields(job, class, unit, known);
+    table[at] = found.refused;
+    found.possible
+}

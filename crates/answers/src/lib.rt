@@ -1,0 +1,115 @@
+// Whether a pair of exponent fields admits a case, with the answers kept that pairs share: those of one class have one answer, and so have
+// those with a far gap and the same larger field.
+use bits::power;
+use classes::Fields;
+use classes::MOST_FIELD;
+use classes::TOP_FIELD;
+use classes::class_of;
+use classes::fields_of;
+use far::far_open;
+use far::keep_refused;
+use format::Format;
+use format::format_cause;
+use job::Job;
+use known::class_may;
+use mask::Mask;
+use mask::meets;
+use pair::finite::finite_fields;
+use pair::pair_admits;
+use word::Biased;
+use word::exponent::unit_of;
+use word::masks::fraction_mask;
+
+mod far;
+mod known;
+
+ghost use mathlib.Core.Bool.{true, false};
+ghost use mathlib.Core.Logic.{_↔_};
+ghost use mathlib.Core.Path.{_≡_};
+ghost use Prim.Native.Nat.{_^_, _≤_, _<_};
+ghost use Rattle.format.specs.Format.{Supported};
+ghost use Rattle.job.specs.Job.{Valid};
+ghost use Rattle.special.specs.Asked.{InRange, PairFits};
+ghost use Rattle.classes.specs.Class.{InOrder, FiniteFields, Asked, NeverPast, Normal};
+ghost use Rattle.answers.specs.Kept.{Kept, ClassEnd};
+
+// The places of the table that a pass over the exponent fields keeps; its words are 0 in the beginning.
+pub const PLACES: usize = 128;
+
+// Whether each sum of a pair is 0 or has digits enough for a normal number, by its unit or by its gap.
+fn normal(f: u64, fields: Fields) -> bool
+    requires { ⌜ (f < 64) × (fields .smaller .0 ≤ fields .larger .0) × (fields .larger .0 < 2 ^ 16) ⌝ }
+    ensures { λ r. ⌜ (r ≡ true → Normal f (fields .larger) (fields .smaller)) ⌝ }
+{
+    if f + TOP_FIELD <= fields.larger.0 {
+        return true;
+    }
+    if fields.smaller.0 == 0 {
+        return false;
+    }
+    fields.smaller.0 + 2 <= fields.larger.0
+}
+
+// Whether a pair may admit a case, as far as the table tells or comes to tell.
+fn may_admit(job: Job, fields: Fields, end: Biased, table: &mut [u64; PLACES]) -> bool
+    requires { ⌜ Supported (job .setting .format) × FiniteFields (job .setting .format) fields ⌝ }
+    ensures { λ r. ⌜ (Valid job → ClassEnd job end → Kept job (now (table .entry))
+        → Kept job (now (table .exit)) × (r ≡ false → InOrder (PairFits job) (fields .order) (fields .larger) (fields .smaller) → ⊥)) ⌝ }
+{
+    if !normal(job.setting.format.f, fields) {
+        return true;
+    }
+    if end.0 <= fields.larger.0 {
+        return far_open(job, fields, table);
+    }
+    let class = class_of(job.setting.format.f, fields);
+    class_may(job, class, unit_of(fields.larger), table)
+}
+
+// Whether a case whose operands have these exponent fields fits; false in a format that is not supported and for a field that it does not
+// have. The table spares questions whose answer is no, and keeps what is found. For a job with a malformed mask, fields that do not meet
+// their masks, another end than `class_end` gives or another table than one that this function kept, the answer and the table are free.
+pub fn admits(job: Job, ea: Biased, eb: Biased, end: Biased, table: &mut [u64; PLACES]) -> bool
+    ensures in_range { λ r. ⌜ (r ≡ true → InRange (job .setting .format) ea eb) ⌝ }
+    ensures exact { λ r. ⌜ (Asked job ea eb → ClassEnd job end → Kept job (now (table .entry)) → Kept job (now (table .exit)) × ((r ≡ true) ↔ PairFits job ea eb)) ⌝ }
+{
+    if !finite_fields(job.setting.format, ea, eb) {
+        return pair_admits(job, ea, eb);
+    }
+    let fields = fields_of(ea, eb);
+    if !may_admit(job, fields, end, table) {
+        return false;
+    }
+    if pair_admits(job, ea, eb) {
+        return true;
+    }
+    keep_refused(job, fields, table);
+    false
+}
+
+// Whether no word past the largest finite number meets c's mask: those have the fraction 0 or all ones, whatever the significands.
+fn never_past(format: Format, c: Mask) -> bool
+    requires { ⌜ Supported format ⌝ }
+    ensures { λ r. ⌜ (r ≡ true → NeverPast format c) ⌝ }
+{
+    let fraction = fraction_mask(format, c);
+    !(meets(fraction, 0) | meets(fraction, power(format.f) - 1))
+}
+
+// One past the largest exponent field of the pairs that their classes answer for; 0 in a format that is not supported.
+pub fn class_end(job: Job) -> Biased
+    ensures { λ r. ⌜ (Valid job → ClassEnd job r) × ((Supported (job .setting .format) → ⊥) → r .0 ≡ 0) ⌝ }
+{
+    let format = job.setting.format;
+    if format_cause(format) != 0 {
+        return Biased(0);
+    }
+    let ones = power(format.w) - 1;
+    if ones < format.f + MOST_FIELD + 3 {
+        return Biased(0);
+    }
+    if never_past(format, job.c.mask) {
+        return Biased(ones);
+    }
+    Biased(ones - 2)
+}

@@ -1,0 +1,80 @@
+-- `classes::class_admits` meets its contract: it asks about the pair that stands for the class. Assumes nothing.
+use mathlib.Core.Bool.{Bool, true}
+use mathlib.Core.Logic.{_↔_}
+use mathlib.Core.Path.{_≡_, refl, ap, _∙_, subst, subst₂}
+use Prim.Native.Nat.{_<_}
+use native.Mathlib.Nat.{mod-eq-of-lt}
+use native.Mathlib.Omega.{arith}
+use Rattle.format.proofs.Room.{significand-room}
+use Rattle.mask.specs.declared.Mask.{Mask}
+use Rattle.mask.specs.Mask.{WellFormed}
+use Rattle.job.specs.declared.Job.{Job}
+use Rattle.job.specs.declared.Role.the-variants.{C}
+use Rattle.job.specs.Job.{Valid}
+use Rattle.job.specs.Role.{withMask}
+use Rattle.job.proofs.Roles.{valid-with}
+use Rattle.word.specs.declared.Biased.{Biased}
+use Rattle.word.specs.Word.{allOnes}
+use Rattle.special.specs.Asked.{fieldIs}
+use Rattle.pair.specs.Pair.{SomeSigns, FinitePair}
+use Rattle.classes.specs.Class.{topField, withExponent, asking}
+use Rattle.classes.proofs.ClassMasks.{asking-formed}
+use borrow.Author.Needs.{needs}
+use Rattle.classes.proofs.class_admits.Statement.{statement}
+use Rattle.classes.proofs.class_admits.Tie as tie
+
+-- what the answer about the job that the code forms tells
+answered : (j t : Job) (n : Mask) (a b x y : Biased) (r : Bool) → Valid j → WellFormed (j .setting .format .w) n → t ≡ asking j n → a ≡ x → b ≡ y
+    → x .0 < allOnes (j .setting .format) → y .0 < allOnes (j .setting .format)
+    → (Valid t → FinitePair (t .setting .format) a b → (r ≡ true) ↔ SomeSigns t a b) → (r ≡ true) ↔ SomeSigns (asking j n) x y
+answered j t n a b x y r v wn et ea eb hx hy h =
+    subst₂ (λ (u w : Biased). Valid (asking j n) → FinitePair (j .setting .format) u w → (r ≡ true) ↔ SomeSigns (asking j n) u w) ea eb
+    (subst (λ (i : Job). Valid i → FinitePair (i .setting .format) a b → (r ≡ true) ↔ SomeSigns i a b) et h)
+    (valid-with C j (withMask (j .c) (withExponent (j .setting .format) (j .c .mask) n)) v (record { mask = asking-formed (j .setting .format) (j .c .mask) n (v .c .mask) wn }))
+    (record { supported = v .setting .format; a-finite = hx; b-finite = hy })
+
+asking-requires : tie.Need-asking-requires
+asking-requires c κs = search needs
+
+wrapping-add-u64-requires : tie.Need-wrapping-add-u64-requires
+wrapping-add-u64-requires c κs = search needs
+
+finite-admits-requires : tie.Need-finite-admits-requires
+finite-admits-requires c κs = search needs
+
+finite-admits-requires-2 : tie.Need-finite-admits-requires-2
+finite-admits-requires-2 c κs = search needs
+
+returns : tie.Need-returns
+returns c = λ p wn.
+    let a = c .before .before .before .before .before .args in
+    let t = c .before .before .before .before .asking in
+    let room = significand-room (a .job .setting .format) (p .valid .setting .format) in
+    let sum : c .before .before .before .wrapping-add-u64 .result ≡ topField (a .job .setting .format .f) .0 = c .before .before .before .wrapping-add-u64 .ensures ∙ mod-eq-of-lt (omega arith) ∙ omega arith in
+    let top = ap fieldIs sum in
+    rw (c .before .if1 .taken)
+    (answered (a .job) (t .result) (a .n) (fieldIs (c .before .before .before .wrapping-add-u64 .result)) (a .class .low) (topField (a .job .setting .format .f)) (a .class .low) (c .finite-admits .result) (p .valid) wn
+    (t .ensures (p .valid .setting .format) (p .valid .c .mask) wn) top refl (omega (arith, p .wide)) (omega (arith, p .wide, p .class-in .low-le)) (c .finite-admits .ensures .1))
+
+returns-2 : tie.Need-returns-2
+returns-2 c = λ p wn.
+    let a = c .before .before .before .before .before .args in
+    let t = c .before .before .before .before .asking in
+    let room = significand-room (a .job .setting .format) (p .valid .setting .format) in
+    let sum : c .before .before .before .wrapping-add-u64 .result ≡ topField (a .job .setting .format .f) .0 = c .before .before .before .wrapping-add-u64 .ensures ∙ mod-eq-of-lt (omega arith) ∙ omega arith in
+    let top = ap fieldIs sum in
+    let one : a .class .order ≡ 1 = omega (arith, c .before .if1 .left, p .class-in .order-lt) in
+    rw one
+    (answered (a .job) (t .result) (a .n) (a .class .low) (fieldIs (c .before .before .before .wrapping-add-u64 .result)) (a .class .low) (topField (a .job .setting .format .f)) (c .finite-admits2 .result) (p .valid) wn
+    (t .ensures (p .valid .setting .format) (p .valid .c .mask) wn) refl top (omega (arith, p .wide, p .class-in .low-le)) (omega (arith, p .wide)) (c .finite-admits2 .ensures .1))
+
+pub class-admits-spec : {M : Type 1} → statement M
+class-admits-spec =
+    tie.close
+    (tie.spec
+    asking-requires
+    wrapping-add-u64-requires
+    finite-admits-requires
+    finite-admits-requires-2
+    returns
+    returns-2)
