@@ -30,11 +30,11 @@ use Rattle.outcome.proofs.Topped.{size-none}
 use Rattle.outcome.proofs.Range.{made-most}
 use Rattle.special.specs.Asked.{fieldIs, PairFits}
 use Rattle.pair.specs.declared.Side.{Side}
-use Rattle.pair.specs.Pair.{FiniteSide, significandsOf, gapOf, alignedOf, Larger, Sums, SomeSigns}
+use Rattle.pair.specs.Pair.{FiniteSide, significandsOf, gapOf, alignedOf, Larger, Sums, sideA, sideB, SomeSigns}
 use Rattle.pair.proofs.Finites.{pair-finite}
 use Rattle.classes.specs.declared.Class.{Class}
 use Rattle.classes.specs.Class.{InOrder, farGap, classUnit, topField, lowField, fieldAt, mostField, leastField, atField, withExponent, asking, onlyField, ClassAdmits, NeverPast, Classed, smallerMask}
-use Rattle.classes.proofs.Order.{Sides, sideWith, sides-of}
+use Rattle.classes.proofs.Order.{Sides, sideWith, signs-of, sides-of}
 use Rattle.classes.proofs.ClassMasks.{past-never, asking-meets, own-meets, anyField, asking-less}
 use Rattle.classes.proofs.Moved.{Moved, moved}
 use Rattle.classes.proofs.Aligning.{low-le, low-two, low-same, gap-two, head-same, far, aligned-same, made-long}
@@ -252,17 +252,10 @@ module _ (j : Job) (k : Class) (i : Biased) (valid : Valid j) (l : i .0 ≤ allO
   )
 
   signs-less : (ea eb : Biased) → SomeSigns (asking j (onlyField (j .setting .format) i)) ea eb → SomeSigns (asking j anyField) ea eb
-  signs-less ea eb S = record {
-    sa = S .sa;
-    sb = S .sb;
-    sa-lt = S .sa-lt;
-    sb-lt = S .sb-lt;
-    posed = record {
-      a-sign = S .posed .a-sign;
-      b-sign = S .posed .b-sign;
-      sums = ⊎-elim (λ p. inl (larger-less (Rattle.pair.specs.Pair.sideA j (S .sa) ea) (Rattle.pair.specs.Pair.sideB j (S .sb) eb) p)) (λ p. inr (larger-less (Rattle.pair.specs.Pair.sideB j (S .sb) eb) (Rattle.pair.specs.Pair.sideA j (S .sa) ea) p)) (S .posed .sums);
-    };
-  }
+  signs-less ea eb S =
+      let a = sideA j (S .sa) ea in
+      let b = sideB j (S .sb) eb in
+      signs-of (asking j (onlyField (j .setting .format) i)) (asking j anyField .c) ea eb ea eb S (⊎-elim (λ p. inl (larger-less a b p)) (λ p. inr (larger-less b a p)) (S .posed .sums))
 
   pub class-less : ClassAdmits j k (onlyField (j .setting .format) i) → ClassAdmits j k anyField
   class-less = go (k .order)

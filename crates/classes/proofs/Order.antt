@@ -16,9 +16,9 @@ use Rattle.job.specs.Role.{withWanted}
 use Rattle.word.specs.declared.Biased.{Biased}
 use Rattle.word.specs.Word.{allOnes}
 use Rattle.pair.specs.declared.Side.{Side}
-use Rattle.pair.specs.Pair.{Sums, sideA, sideB, SomeSigns, FinitePair}
+use Rattle.pair.specs.Pair.{FiniteSide, Sums, sideA, sideB, SomeSigns, FinitePair}
 use Rattle.pair.proofs.Finites.{finite-a, finite-b}
-use Rattle.classes.specs.Class.{fieldsOf, InOrder, FiniteFields, smallerMask, Asked}
+use Rattle.classes.specs.Class.{fieldsOf, InOrder, FiniteFields, smallerMask, Asked, atField}
 
 -- ---- the fields of a pair
 module _ (ea eb : Biased) where
@@ -71,6 +71,16 @@ exchanged : (j : Job) (x y : Side) → Sums j x y → Sums j y x
 exchanged j x y (inl l) = inr l
 exchanged j x y (inr l) = inl l
 
+-- the same signs pose a case with other fields, or other conditions on c
+pub signs-of : (j : Job) (c : Wanted) (ea eb ga gb : Biased) (S : SomeSigns j ea eb) → Sums (withWanted C j c) (sideA j (S .sa) ga) (sideB j (S .sb) gb) → SomeSigns (withWanted C j c) ga gb
+signs-of j c ea eb ga gb S sums = record {
+  sa = S .sa;
+  sb = S .sb;
+  sa-lt = S .sa-lt;
+  sb-lt = S .sb-lt;
+  posed = record { a-sign = S .posed .a-sign; b-sign = S .posed .b-sign; sums = sums };
+}
+
 module _ (j : Job) (valid : Valid j) (E e : Biased) (E-lt : E .0 < allOnes (j .setting .format)) (e-lt : e .0 < allOnes (j .setting .format)) where
   abbrev F : Format
   F = j .setting .format
@@ -79,46 +89,27 @@ module _ (j : Job) (valid : Valid j) (E e : Biased) (E-lt : E .0 < allOnes (j .s
   in-range : (a b : Biased) → a .0 < allOnes F → b .0 < allOnes F → FinitePair F a b
   in-range a b ha hb = record { supported = valid .setting .format; a-finite = ha; b-finite = hb }
 
+  -- x has the larger field
+  sides : (o : ℕ) (x y : Side) → FiniteSide F x → FiniteSide F y → Sums j (atField x E) (atField y e)
+      → ((c : Wanted) (G g : Biased) → Sums (withWanted C j c) (atField x G) (atField y g) → InOrder (SomeSigns (withWanted C j c)) o G g) → Sides j o E e
+  sides o x y fx fy sums back = record {
+    s = x .sign;
+    t = y .sign;
+    m = x .fraction;
+    n = y .fraction;
+    s-lt = fx .sign-lt;
+    t-lt = fy .sign-lt;
+    m-formed = fx .formed;
+    n-formed = fy .formed;
+    sums = sums;
+    back = back;
+  }
+
   pub sides-of : (o : ℕ) → InOrder (SomeSigns j) o E e → Sides j o E e
   sides-of zero S =
-      let x = finite-a j valid E e (in-range E e E-lt e-lt) (S .sa) (S .sa-lt) in
-      let y = finite-b j valid E e (in-range E e E-lt e-lt) (S .sb) in
-      record {
-        s = S .sa;
-        t = sideB j (S .sb) e .sign;
-        m = sideA j (S .sa) E .fraction;
-        n = sideB j (S .sb) e .fraction;
-        s-lt = x .sign-lt;
-        t-lt = y .sign-lt;
-        m-formed = x .formed;
-        n-formed = y .formed;
-        sums = S .posed .sums;
-        back = λ c G g sums. record {
-          sa = S .sa;
-          sb = S .sb;
-          sa-lt = S .sa-lt;
-          sb-lt = S .sb-lt;
-          posed = record { a-sign = S .posed .a-sign; b-sign = S .posed .b-sign; sums = sums };
-        };
-      }
+      sides 0 (sideA j (S .sa) E) (sideB j (S .sb) e) (finite-a j valid E e (in-range E e E-lt e-lt) (S .sa) (S .sa-lt)) (finite-b j valid E e (in-range E e E-lt e-lt) (S .sb))
+      (S .posed .sums) (λ c G g sums. signs-of j c E e G g S sums)
   sides-of (suc o) S =
-      let x = finite-b j valid e E (in-range e E e-lt E-lt) (S .sb) in
-      let y = finite-a j valid e E (in-range e E e-lt E-lt) (S .sa) (S .sa-lt) in
-      record {
-        s = sideB j (S .sb) E .sign;
-        t = S .sa;
-        m = sideB j (S .sb) E .fraction;
-        n = sideA j (S .sa) e .fraction;
-        s-lt = x .sign-lt;
-        t-lt = y .sign-lt;
-        m-formed = x .formed;
-        n-formed = y .formed;
-        sums = exchanged j (sideA j (S .sa) e) (sideB j (S .sb) E) (S .posed .sums);
-        back = λ c G g sums. record {
-          sa = S .sa;
-          sb = S .sb;
-          sa-lt = S .sa-lt;
-          sb-lt = S .sb-lt;
-          posed = record { a-sign = S .posed .a-sign; b-sign = S .posed .b-sign; sums = exchanged (withWanted C j c) (sideB j (S .sb) G) (sideA j (S .sa) g) sums };
-        };
-      }
+      sides (suc o) (sideB j (S .sb) E) (sideA j (S .sa) e) (finite-b j valid e E (in-range e E e-lt E-lt) (S .sb)) (finite-a j valid e E (in-range e E e-lt E-lt) (S .sa) (S .sa-lt))
+      (exchanged j (sideA j (S .sa) e) (sideB j (S .sb) E) (S .posed .sums))
+      (λ c G g sums. signs-of j c e E g G S (exchanged (withWanted C j c) (sideB j (S .sb) G) (sideA j (S .sa) g) sums))
