@@ -217,20 +217,20 @@ module _ (w : Wires) (f g : Ways) (i : ℕ)
       λ b. ap₂ (λ (p q : Bool). p && q) (of-f c d b) (of-g e k b) in
       ap₂ (λ (p q : Bool). p || q) (at false) (at true) ∙ link-into w i c d e k
 
-  -- v is the row of the carries out d and k
-  abbrev Row : Bool → Bool → States → Type 0
-  Row d k v = (c e : Bool) → mem (stateWord v (state c e)) i ≡ linked (cond c (way f true d) (way f false d)) (cond e (way g true k) (way g false k)) i
+  -- v are the columns that lead to the carries out d and k
+  abbrev Leading : Bool → Bool → States → Type 0
+  Leading d k v = (c e : Bool) → mem (stateWord v (state c e)) i ≡ linked (cond c (way f true d) (way f false d)) (cond e (way g true k) (way g false k)) i
 
-  row-into : (v : States) (d k : Bool) → Row d k v → (s : ℕ) → s < 4 → mem (stateWord v s) i ≡ into (step w) i s (state d k)
-  row-into v d k row s h =
+  leading-into : (v : States) (d k : Bool) → Leading d k v → (s : ℕ) → s < 4 → mem (stateWord v s) i ≡ into (step w) i s (state d k)
+  leading-into v d k leads s h =
       let o = as-state s h in
       subst (λ (s : ℕ). mem (stateWord v s) i ≡ into (step w) i s (state d k)) (o .2)
-      (row (o .0) (o .1) ∙ ap₂ (λ (p q : Places). linked p q i) (way-cond f (o .0) d) (way-cond g (o .1) k) ∙ linked-into (o .0) d (o .1) k)
+      (leads (o .0) (o .1) ∙ ap₂ (λ (p q : Places). linked p q i) (way-cond f (o .0) d) (way-cond g (o .1) k) ∙ linked-into (o .0) d (o .1) k)
 
-  pub table-into : (v : Table) → Row false false (v .to0) → Row true false (v .to1) → Row false true (v .to2) → Row true true (v .to3)
+  pub table-into : (v : Table) → Leading false false (v .to0) → Leading true false (v .to1) → Leading false true (v .to2) → Leading true true (v .to3)
       → (s t : ℕ) → s < 4 → t < 4 → mem (stateWord (waysTo v t) s) i ≡ into (step w) i s t
-  table-into v r0 r1 r2 r3 s zero hs ht = row-into (v .to0) false false r0 s hs
-  table-into v r0 r1 r2 r3 s (suc zero) hs ht = row-into (v .to1) true false r1 s hs
-  table-into v r0 r1 r2 r3 s (suc (suc zero)) hs ht = row-into (v .to2) false true r2 s hs
-  table-into v r0 r1 r2 r3 s (suc (suc (suc zero))) hs ht = row-into (v .to3) true true r3 s hs
+  table-into v r0 r1 r2 r3 s zero hs ht = leading-into (v .to0) false false r0 s hs
+  table-into v r0 r1 r2 r3 s (suc zero) hs ht = leading-into (v .to1) true false r1 s hs
+  table-into v r0 r1 r2 r3 s (suc (suc zero)) hs ht = leading-into (v .to2) false true r2 s hs
+  table-into v r0 r1 r2 r3 s (suc (suc (suc zero))) hs ht = leading-into (v .to3) true true r3 s hs
   table-into v r0 r1 r2 r3 s (suc (suc (suc (suc t)))) hs ht = absurd (omega arith)

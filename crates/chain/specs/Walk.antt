@@ -49,7 +49,7 @@ step w i s p r = cond (ltb s 4 && fine w i s p r) (secondSum w i s p r / 2 * 2 +
 abbrev pub state : Bool → Bool → ℕ
 state c e = digit e * 2 + digit c
 
--- the word of a state, and the row of a state
+-- the word of a state, and the columns that lead to a state
 abbrev pub stateWord : States → ℕ → ℕ
 stateWord v zero = v .s0
 stateWord v (suc zero) = v .s1

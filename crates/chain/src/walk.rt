@@ -36,7 +36,7 @@ fn meet(a: Places, b: Places) -> u64
 }
 
 // The columns that lead to one state, from the places of the two adders at its carries out, by their carries in.
-fn row(f0: Places, f1: Places, g0: Places, g1: Places) -> States
+fn leading(f0: Places, f1: Places, g0: Places, g1: Places) -> States
     ensures { λ r. ⌜ ((i : ℕ) (c e : Bool) → mem (stateWord r (state c e)) i ≡ linked (cond c f1 f0) (cond e g1 g0) i) ⌝ }
 {
     States {
@@ -65,10 +65,10 @@ fn transitions(w: Wires) -> Table
     let f = adder(w.subtract, w.l, w.t, w.x, mask::high(w.carries, 1));
     let g = second(w.z, w.constant);
     Table {
-        to0: row(f.c00, f.c10, g.c00, g.c10),
-        to1: row(f.c01, f.c11, g.c00, g.c10),
-        to2: row(f.c00, f.c10, g.c01, g.c11),
-        to3: row(f.c01, f.c11, g.c01, g.c11),
+        to0: leading(f.c00, f.c10, g.c00, g.c10),
+        to1: leading(f.c01, f.c11, g.c00, g.c10),
+        to2: leading(f.c00, f.c10, g.c01, g.c11),
+        to3: leading(f.c01, f.c11, g.c01, g.c11),
     }
 }
 

@@ -1,16 +1,15 @@
-//! The writer of job records: the program `records_written`, as `rt check records_written` builds
-//! it, writes the records of pseudo-random jobs, and every byte of every buffer is held against
-//! the second implementation. The jobs are drawn here as `jobs.rt` of that program draws them.
+//! The writer of job records: the program `records_written` writes the records of pseudo-random
+//! jobs, and every byte of every buffer is held against the second implementation. Read here is the
+//! output that is stored beside the program, which `rt ci` holds the program to. The jobs are drawn here as `jobs.rt` of that program draws them.
 
-use compare::program::printed;
 use second::choice::Job;
 use second::fits::Conditions;
 use second::mask::Mask;
 use second::record::write;
 
-const PROGRAM: &str = concat!(
+const OUTPUT: &str = concat!(
     env!("CARGO_MANIFEST_DIR"),
-    "/../../target/bin/records_written"
+    "/../../crates/records_written/stdout"
 );
 const JOBS: usize = 400;
 const MODULUS: u64 = (1 << 31) - 1;
@@ -78,8 +77,7 @@ fn lines() -> Vec<String> {
 
 #[test]
 fn every_byte_is_alike() {
-    let came = printed(PROGRAM, &[]).expect("the program ends");
-    let came = String::from_utf8(came).expect("a text");
+    let came = std::fs::read_to_string(OUTPUT).expect("the stored output");
     let wanted = lines();
     assert_eq!(came.lines().count(), wanted.len());
     for (n, (came, wanted)) in came.lines().zip(&wanted).enumerate() {

@@ -1,4 +1,4 @@
--- `chain::walk::transitions` meets its contract: each row joins the ways of the two adders at one pair of carries out. Assumes nothing.
+-- `chain::walk::transitions` meets its contract: each set of leading columns joins the ways of the two adders at one pair of carries out. Assumes nothing.
 use mathlib.Core.Path.{ap, _∙_}
 use Rattle.mask.specs.declared.Mask.{Mask}
 use Rattle.chain.specs.Ways.{lets, wayOf}
@@ -16,17 +16,17 @@ adder-requires c κs = search needs
 second-requires : tie.Need-second-requires
 second-requires c κs = search needs
 
-row-requires : tie.Need-row-requires
-row-requires c κs = search needs
+leading-requires : tie.Need-leading-requires
+leading-requires c κs = search needs
 
-row-requires-2 : tie.Need-row-requires-2
-row-requires-2 c κs = search needs
+leading-requires-2 : tie.Need-leading-requires-2
+leading-requires-2 c κs = search needs
 
-row-requires-3 : tie.Need-row-requires-3
-row-requires-3 c κs = search needs
+leading-requires-3 : tie.Need-leading-requires-3
+leading-requires-3 c κs = search needs
 
-row-requires-4 : tie.Need-row-requires-4
-row-requires-4 c κs = search needs
+leading-requires-4 : tie.Need-leading-requires-4
+leading-requires-4 c κs = search needs
 
 returns : tie.Need-returns
 returns c i s t hi hs ht =
@@ -38,11 +38,11 @@ returns c i s t hi hs ht =
     at-adder .adder .ensures i cin cout b hi
     ∙ ap (λ (m : Mask). wayOf (w .subtract) (lets (w .l) i) (lets (w .t) i) (lets (w .x) i) (lets m i) cin cout b) (at-adder .before .high .ensures))
     (λ cin cout b. at-second .second .ensures i cin cout b hi)
-    (record { to0 = c .before .before .before .row .result; to1 = c .before .before .row2 .result; to2 = c .before .row3 .result; to3 = c .row4 .result })
-    (c .before .before .before .row .ensures i)
-    (c .before .before .row2 .ensures i)
-    (c .before .row3 .ensures i)
-    (c .row4 .ensures i)
+    (record { to0 = c .before .before .before .leading .result; to1 = c .before .before .leading2 .result; to2 = c .before .leading3 .result; to3 = c .leading4 .result })
+    (c .before .before .before .leading .ensures i)
+    (c .before .before .leading2 .ensures i)
+    (c .before .leading3 .ensures i)
+    (c .leading4 .ensures i)
     s
     t
     hs
@@ -55,8 +55,8 @@ transitions-spec =
     high-requires
     adder-requires
     second-requires
-    row-requires
-    row-requires-2
-    row-requires-3
-    row-requires-4
+    leading-requires
+    leading-requires-2
+    leading-requires-3
+    leading-requires-4
     returns)

@@ -1,8 +1,8 @@
--- `chain::walk::row` meets its contract. Assumes nothing.
+-- `chain::walk::leading` meets its contract. Assumes nothing.
 use mathlib.Core.Bool.{true, false}
 use borrow.Author.Needs.{needs}
-use Rattle.chain.proofs.walk.row.Statement.{statement}
-use Rattle.chain.proofs.walk.row.Tie as tie
+use Rattle.chain.proofs.walk.leading.Statement.{statement}
+use Rattle.chain.proofs.walk.leading.Tie as tie
 
 meet-requires : tie.Need-meet-requires
 meet-requires c κs = search needs
@@ -22,6 +22,6 @@ returns c i true false = c .before .before .meet2 .ensures i
 returns c i false true = c .before .meet3 .ensures i
 returns c i true true = c .meet4 .ensures i
 
-pub row-spec : {M : Type 1} → statement M
-row-spec =
+pub leading-spec : {M : Type 1} → statement M
+leading-spec =
     tie.close (tie.spec meet-requires meet-requires-2 meet-requires-3 meet-requires-4 returns)
