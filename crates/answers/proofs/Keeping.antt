@@ -26,7 +26,7 @@ use Rattle.word.specs.Word.{unitOf, allOnes}
 use Rattle.special.specs.Asked.{fieldIs, PairFits}
 use Rattle.classes.specs.declared.Fields.{Fields}
 use Rattle.classes.specs.declared.Class.{Class}
-use Rattle.classes.specs.Class.{InOrder, FiniteFields, topField, classOf, onlyField, ClassAdmits, ClassIn, Wide, NeverPast, Classed, smallerMask}
+use Rattle.classes.specs.Class.{InOrder, Ordered, FiniteFields, topField, classOf, onlyField, ClassAdmits, ClassIn, Wide, NeverPast, Classed, smallerMask}
 use Rattle.answers.specs.Kept.{places, placeOf, classPlaces, Never, closedBit, askedBit, Refuses, NoneFar, farFields, farPlace, FarPair, Kept, NoField, ClassEnd}
 use Rattle.classes.proofs.ClassMasks.{anyField}
 use Rattle.classes.proofs.Aligning.{low-le}
@@ -163,13 +163,12 @@ pub end-long : (j : Job) (ones : ℕ) → ones ≡ allOnes (j .setting .format) 
 end-long j ones is wide never E e l h = (record { wide = wide; normal = l; within = inr never }, omega arith)
 
 -- ---- a pair
-module _ (j : Job) (p : Fields) (fin : FiniteFields (j .setting .format) p) where
-  pub class-in : ClassIn (j .setting .format .f) (classOf (j .setting .format .f) p)
-  class-in = record { order-lt = fin .order-lt; low-le = low-le (j .setting .format .f) (unitOf (p .larger) .0 - unitOf (p .smaller) .0) (p .smaller .0) }
+pub class-in : (f : ℕ) (p : Fields) → Ordered p → ClassIn f (classOf f p)
+class-in f p h = record { order-lt = h .order-lt; low-le = low-le f (unitOf (p .larger) .0 - unitOf (p .smaller) .0) (p .smaller .0) }
 
-  -- a class that admits nothing there has no pair that does
-  pub pair-never : Valid j → Classed (j .setting .format) (j .c .mask) (p .larger) (p .smaller) → NoField j (classOf (j .setting .format .f) p) (unitOf (p .larger))
-      → InOrder (PairFits j) (p .order) (p .larger) (p .smaller) → ⊥
-  pair-never valid classed none P =
-      let r = class-reached j valid (p .order) (p .larger) (p .smaller) (fin .finite) (fin .ordered) P classed in
-      none (r .field) (r .least) (r .meets) (r .most) (r .holds)
+-- a class that admits nothing there has no pair that does
+pub pair-never : (j : Job) (p : Fields) → FiniteFields (j .setting .format) p → Valid j → Classed (j .setting .format) (j .c .mask) (p .larger) (p .smaller)
+    → NoField j (classOf (j .setting .format .f) p) (unitOf (p .larger)) → InOrder (PairFits j) (p .order) (p .larger) (p .smaller) → ⊥
+pair-never j p fin valid classed none P =
+    let r = class-reached j valid (p .order) (p .larger) (p .smaller) (fin .finite) (fin .ordered) P classed in
+    none (r .field) (r .least) (r .meets) (r .most) (r .holds)

@@ -6,6 +6,7 @@ use classes::Fields;
 use classes::TOP_FIELD;
 use format::Format;
 use job::Job;
+use pair::finite::finite_fields;
 ghost use mathlib.Core.Bool.{true, false};
 ghost use mathlib.Core.Logic.{_⊎_};
 ghost use mathlib.Core.Path.{_≡_};
@@ -14,7 +15,7 @@ ghost use Rattle.format.specs.Format.{Supported};
 ghost use Rattle.mask.specs.Mask.{Meets};
 ghost use Rattle.job.specs.Job.{Valid};
 ghost use Rattle.special.specs.Asked.{PairFits};
-ghost use Rattle.classes.specs.Class.{InOrder, FiniteFields, farGap, smallerMask};
+ghost use Rattle.classes.specs.Class.{InOrder, Ordered, FiniteFields, farGap, smallerMask};
 ghost use Rattle.answers.specs.Kept.{farFields, FarPair, Kept};
 
 // How many larger fields have a place: no class answers for the two highest ones, and for none in a format with few fields.
@@ -49,9 +50,12 @@ fn far_place(format: Format, fields: Fields) -> u64
 
 // Whether a pair is open still, as far as the pairs with a far gap tell.
 pub(crate) fn far_open(job: Job, fields: Fields, table: &[u64; PLACES]) -> bool
-    requires { ⌜ Supported (job .setting .format) × FiniteFields (job .setting .format) fields ⌝ }
+    requires { ⌜ Ordered fields ⌝ }
     ensures { λ r. ⌜ (Kept job (now (table .entry)) → r ≡ false → InOrder (PairFits job) (fields .order) (fields .larger) (fields .smaller) → ⊥) ⌝ }
 {
+    if !finite_fields(job.setting.format, fields.larger, fields.smaller) {
+        return true;
+    }
     let place = far_place(job.setting.format, fields);
     if place == 0 {
         return true;
@@ -62,10 +66,13 @@ pub(crate) fn far_open(job: Job, fields: Fields, table: &[u64; PLACES]) -> bool
 
 // Keeps that a pair admits no case, where its gap is far.
 pub(crate) fn keep_refused(job: Job, fields: Fields, table: &mut [u64; PLACES])
-    requires { ⌜ Supported (job .setting .format) × FiniteFields (job .setting .format) fields ⌝ }
+    requires { ⌜ Ordered fields ⌝ }
     ensures { λ _. ⌜ (Valid job → Meets (fields .smaller .0) (smallerMask job (fields .order)) → (InOrder (PairFits job) (fields .order) (fields .larger) (fields .smaller) → ⊥)
         → Kept job (now (table .entry)) → Kept job (now (table .exit))) ⌝ }
 {
+    if !finite_fields(job.setting.format, fields.larger, fields.smaller) {
+        return;
+    }
     let place = far_place(job.setting.format, fields);
     if place == 0 {
         return;

@@ -8,13 +8,16 @@ use classes::FAR_GAP;
 use classes::MOST_FIELD;
 use classes::TOP_FIELD;
 use classes::class_admits;
+use format::Format;
+use format::format_cause;
 use job::Job;
 use mask::Mask;
 use mask::meets;
 use word::Biased;
 use word::Unit;
 use word::masks::exponent_mask;
-ghost use mathlib.Core.Bool.{false};
+ghost use mathlib.Core.Bool.{true, false};
+ghost use mathlib.Core.Logic.{_↔_};
 ghost use mathlib.Core.Path.{_≡_};
 ghost use Prim.Native.Nat.{_^_, _≤_, _<_};
 ghost use Rattle.format.specs.Format.{Supported};
@@ -143,18 +146,35 @@ fn place_of(f: u64, class: Class) -> u64
     }
 }
 
-// Whether a class may admit a case where the larger operand has this unit; what is found is kept.
-pub(crate) fn class_may(job: Job, class: Class, unit: Unit, table: &mut [u64; PLACES]) -> bool
-    requires { ⌜ Supported (job .setting .format) × ClassIn (job .setting .format .f) class × (unit .0 < 2 ^ 16) ⌝ }
-    ensures { λ r. ⌜ (ClassFor job class → Kept job (now (table .entry)) → Kept job (now (table .exit)) × (r ≡ false → NoField job class unit)) ⌝ }
+// Whether a class of the format may be asked where the larger operand has this unit.
+fn askable(format: Format, unit: Unit) -> bool
+    ensures { λ r. ⌜ ((r ≡ true) ↔ (Supported format × (unit .0 < 2 ^ 16))) ⌝ }
 {
-    let at = place_of(job.setting.format.f, class) as usize;
-    let known = opened(job, class, table[at]);
-    if bit_at(known, CLOSED) == 1 {
-        table[at] = known;
+    if format_cause(format) != 0 {
         return false;
     }
-    let found = try_fields(job, class, unit, known);
+    unit.0 < 65536
+}
+
+// Whether a class may admit a case where the larger operand has this unit; what is found is kept.
+pub(crate) fn class_may(job: Job, class: Class, unit: Unit, table: &mut [u64; PLACES]) -> bool
+    requires { ⌜ (job .setting .format .f < 60) × ClassIn (job .setting .format .f) class ⌝ }
+    ensures { λ r. ⌜ (ClassFor job class → unit .0 < 2 ^ 16 → Kept job (now (table .entry)) → Kept job (now (table .exit)) × (r ≡ false → NoField job class unit)) ⌝ }
+{
+    let at = place_of(job.setting.format.f, class) as usize;
+    let known = table[at];
+    if bit_at(known, CLOSED) == 1 {
+        return false;
+    }
+    if !askable(job.setting.format, unit) {
+        return true;
+    }
+    let asked = opened(job, class, known);
+    if bit_at(asked, CLOSED) == 1 {
+        table[at] = asked;
+        return false;
+    }
+    let found = try_fields(job, class, unit, asked);
     table[at] = found.refused;
     found.possible
 }

@@ -1,6 +1,8 @@
 // Whether a pair of exponent fields admits a case, with the answers kept that pairs share: those of one class have one answer, and so have
 // those with a far gap and the same larger field.
+use bits::minus;
 use bits::power;
+use classes::FAR_GAP;
 use classes::Fields;
 use classes::MOST_FIELD;
 use classes::TOP_FIELD;
@@ -14,7 +16,6 @@ use job::Job;
 use known::class_may;
 use mask::Mask;
 use mask::meets;
-use pair::finite::finite_fields;
 use pair::pair_admits;
 use word::Biased;
 use word::exponent::unit_of;
@@ -26,44 +27,49 @@ mod known;
 ghost use mathlib.Core.Bool.{true, false};
 ghost use mathlib.Core.Logic.{_↔_};
 ghost use mathlib.Core.Path.{_≡_};
-ghost use Prim.Native.Nat.{_^_, _≤_, _<_};
+ghost use Prim.Native.Nat.{_≤_};
 ghost use Rattle.format.specs.Format.{Supported};
 ghost use Rattle.job.specs.Job.{Valid};
 ghost use Rattle.special.specs.Asked.{InRange, PairFits};
-ghost use Rattle.classes.specs.Class.{InOrder, FiniteFields, Asked, NeverPast, Normal};
+ghost use Rattle.classes.specs.Class.{InOrder, Ordered, Asked, NeverPast, Normal};
 ghost use Rattle.answers.specs.Kept.{Kept, ClassEnd};
 
 // The places of the table that a pass over the exponent fields keeps; its words are 0 in the beginning.
 pub const PLACES: usize = 128;
 
+// The most fraction bits of a format whose classes all have a place.
+const MOST_FRACTION: u64 = 64 - (TOP_FIELD + 1);
+
 // Whether each sum of a pair is 0 or has digits enough for a normal number, by its unit or by its gap.
 fn normal(f: u64, fields: Fields) -> bool
-    requires { ⌜ (f < 64) × (fields .smaller .0 ≤ fields .larger .0) × (fields .larger .0 < 2 ^ 16) ⌝ }
     ensures { λ r. ⌜ (r ≡ true → Normal f (fields .larger) (fields .smaller)) ⌝ }
 {
-    if f + TOP_FIELD <= fields.larger.0 {
+    if f < minus(fields.larger.0, FAR_GAP) {
         return true;
     }
     if fields.smaller.0 == 0 {
         return false;
     }
-    fields.smaller.0 + 2 <= fields.larger.0
+    2 <= minus(fields.larger.0, fields.smaller.0)
 }
 
 // Whether a pair may admit a case, as far as the table tells or comes to tell.
 fn may_admit(job: Job, fields: Fields, end: Biased, table: &mut [u64; PLACES]) -> bool
-    requires { ⌜ Supported (job .setting .format) × FiniteFields (job .setting .format) fields ⌝ }
+    requires { ⌜ Ordered fields ⌝ }
     ensures { λ r. ⌜ (Valid job → ClassEnd job end → Kept job (now (table .entry))
         → Kept job (now (table .exit)) × (r ≡ false → InOrder (PairFits job) (fields .order) (fields .larger) (fields .smaller) → ⊥)) ⌝ }
 {
-    if !normal(job.setting.format.f, fields) {
-        return true;
-    }
     if end.0 <= fields.larger.0 {
         return far_open(job, fields, table);
     }
-    let class = class_of(job.setting.format.f, fields);
-    class_may(job, class, unit_of(fields.larger), table)
+    let f = job.setting.format.f;
+    if MOST_FRACTION < f {
+        return true;
+    }
+    if !normal(f, fields) {
+        return true;
+    }
+    class_may(job, class_of(f, fields), unit_of(fields.larger), table)
 }
 
 // Whether a case whose operands have these exponent fields fits; false in a format that is not supported and for a field that it does not
@@ -73,9 +79,6 @@ pub fn admits(job: Job, ea: Biased, eb: Biased, end: Biased, table: &mut [u64; P
     ensures in_range { λ r. ⌜ (r ≡ true → InRange (job .setting .format) ea eb) ⌝ }
     ensures exact { λ r. ⌜ (Asked job ea eb → ClassEnd job end → Kept job (now (table .entry)) → Kept job (now (table .exit)) × ((r ≡ true) ↔ PairFits job ea eb)) ⌝ }
 {
-    if !finite_fields(job.setting.format, ea, eb) {
-        return pair_admits(job, ea, eb);
-    }
     let fields = fields_of(ea, eb);
     if !may_admit(job, fields, end, table) {
         return false;

@@ -18,7 +18,7 @@ use Rattle.word.specs.Word.{allOnes}
 use Rattle.pair.specs.declared.Side.{Side}
 use Rattle.pair.specs.Pair.{FiniteSide, Sums, sideA, sideB, SomeSigns, FinitePair}
 use Rattle.pair.proofs.Finites.{finite-a, finite-b}
-use Rattle.classes.specs.Class.{fieldsOf, InOrder, FiniteFields, smallerMask, Asked, atField}
+use Rattle.classes.specs.Class.{fieldsOf, InOrder, Ordered, smallerMask, Asked, atField}
 
 -- ---- the fields of a pair
 module _ (ea eb : Biased) where
@@ -30,13 +30,13 @@ module _ (ea eb : Biased) where
       go (yes l) = rw (le-leb (eb .0) (ea .0) l) (λ p. p, λ p. p)
       go (no l) = rw (lt-leb (eb .0) (ea .0) (omega arith)) (λ p. p, λ p. p)
 
-  pub fields-finite : (F : Format) → FinitePair F ea eb → FiniteFields F (fieldsOf ea eb)
+  pub fields-ordered : Ordered (fieldsOf ea eb)
   unfolding fieldsOf
-  fields-finite F fin = go (decLe (eb .0) (ea .0))
+  fields-ordered = go (decLe (eb .0) (ea .0))
     where
-      go : Dec (eb .0 ≤ ea .0) → FiniteFields F (fieldsOf ea eb)
-      go (yes l) = rw (le-leb (eb .0) (ea .0) l) (record { order-lt = omega arith; ordered = l; finite = fin .a-finite })
-      go (no l) = rw (lt-leb (eb .0) (ea .0) (omega arith)) (record { order-lt = omega arith; ordered = omega arith; finite = fin .b-finite })
+      go : Dec (eb .0 ≤ ea .0) → Ordered (fieldsOf ea eb)
+      go (yes l) = rw (le-leb (eb .0) (ea .0) l) (record { order-lt = omega arith; ordered = l })
+      go (no l) = rw (lt-leb (eb .0) (ea .0) (omega arith)) (record { order-lt = omega arith; ordered = omega arith })
 
   pub smaller-meets : (j : Job) → Asked j ea eb → Meets (fieldsOf ea eb .smaller .0) (smallerMask j (fieldsOf ea eb .order))
   unfolding fieldsOf

@@ -35,6 +35,11 @@ abbrev pub InOrder : (Biased → Biased → Type 0) → ℕ → Biased → Biase
 InOrder P zero E e = P E e
 InOrder P (suc o) E e = P e E
 
+-- two fields by size
+pub record Ordered (p : Fields) : Type 0 where
+  pub order-lt : p .order < 2
+  pub ordered : p .smaller .0 ≤ p .larger .0
+
 -- the fields of two finite operands, by size
 pub record FiniteFields (F : Format) (p : Fields) : Type 0 where
   pub order-lt : p .order < 2
