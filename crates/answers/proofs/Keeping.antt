@@ -135,7 +135,7 @@ kept-set j t k word ok h kept new = record {
 module _ (j : Job) (t : List ℕ) (p : Fields) (place : ℕ) (fin : FiniteFields (j .setting .format) p) (far : FarPair (j .setting .format) p place) (kept : Kept j t) where
   pub far-known : getD t place 0 ≡ 1 → InOrder (PairFits j) (p .order) (p .larger) (p .smaller) → ⊥
   far-known is =
-      kept .far (p .order) (p .larger) (fin .order-lt) (fin .finite) (subst (λ (k : ℕ). getD t k 0 ≡ 1) (far .at) is) (p .smaller) (far .some) (far .far)
+      kept .far (p .order) (p .larger) (fin .by-size .order-lt) (fin .finite) (subst (λ (k : ℕ). getD t k 0 ≡ 1) (far .at) is) (p .smaller) (far .some) (far .far)
 
   -- one that is refused refuses all of its kind
   pub far-kept : Valid j → Meets (p .smaller .0) (smallerMask j (p .order)) → (InOrder (PairFits j) (p .order) (p .larger) (p .smaller) → ⊥) → Kept j (set t place 1)
@@ -150,8 +150,8 @@ module _ (j : Job) (t : List ℕ) (p : Fields) (place : ℕ) (fin : FiniteFields
 
       go : (o : ℕ) (E : Biased) → o < 2 → E .0 < allOnes (j .setting .format) → getD (set t place 1) (farPlace (j .setting .format) o E) 0 ≡ 1 → Dec (farPlace (j .setting .format) o E ≡ place) → NoneFar j o E
       go o E ho hE is (yes e) =
-          let one : p .order ≡ o = omega (arith, far .at, fin .finite, fin .order-lt) in
-          let two : p .larger ≡ E = ap fieldIs (omega (arith, far .at, fin .finite, fin .order-lt)) in
+          let one : p .order ≡ o = omega (arith, far .at, fin .finite, fin .by-size .order-lt) in
+          let two : p .larger ≡ E = ap fieldIs (omega (arith, far .at, fin .finite, fin .by-size .order-lt)) in
           rw (← one, ← two) none
       go o E ho hE is (no ne) = kept .far o E ho hE (sym (getD-set-other t place (farPlace (j .setting .format) o E) 1 0 ne) ∙ is)
 
@@ -170,5 +170,5 @@ class-in f p h = record { order-lt = h .order-lt; low-le = low-le f (unitOf (p .
 pub pair-never : (j : Job) (p : Fields) → FiniteFields (j .setting .format) p → Valid j → Classed (j .setting .format) (j .c .mask) (p .larger) (p .smaller)
     → NoField j (classOf (j .setting .format .f) p) (unitOf (p .larger)) → InOrder (PairFits j) (p .order) (p .larger) (p .smaller) → ⊥
 pair-never j p fin valid classed none P =
-    let r = class-reached j valid (p .order) (p .larger) (p .smaller) (fin .finite) (fin .ordered) P classed in
+    let r = class-reached j valid (p .order) (p .larger) (p .smaller) (fin .finite) (fin .by-size .ordered) P classed in
     none (r .field) (r .least) (r .meets) (r .most) (r .holds)

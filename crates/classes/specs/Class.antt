@@ -42,8 +42,7 @@ pub record Ordered (p : Fields) : Type 0 where
 
 -- the fields of two finite operands, by size
 pub record FiniteFields (F : Format) (p : Fields) : Type 0 where
-  pub order-lt : p .order < 2
-  pub ordered : p .smaller .0 ≤ p .larger .0
+  pub by-size : Ordered p
   pub finite : p .larger .0 < allOnes F
 
 -- a valid job, and two exponent fields that meet their masks
@@ -131,7 +130,7 @@ pub record ClassIn (f : ℕ) (k : Class) : Type 0 where
 
 -- ---- the pairs that their classes answer for
 
--- a format with fields enough: c's greatest one there is finite, and so is the one after the next
+-- a format with fields enough: c's greatest one there is finite, and so are the two after it
 abbrev pub Wide : Format → Type 0
 Wide F = mostField (F .f) + 3 ≤ allOnes F
 

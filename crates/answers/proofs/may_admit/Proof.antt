@@ -49,7 +49,7 @@ returns-4 c = let s = c .before .before .before .before .before .before .before 
     let short : F .f < 64 = omega (arith, c .before .before .before .before .before .before .if2 .left) in
     λ valid end kept.
     let by = end (a .fields .larger) (a .fields .smaller) (c .before .before .before .before .before .normal .ensures (not-false (c .before .before .before .before .before .normal .result) (c .before .before .before .before .if3 .left))) (c .before .before .before .before .before .before .before .if1 .left) in
-    let fin : FiniteFields F (a .fields) = record { order-lt = s .pre .order-lt; ordered = s .pre .ordered; finite = by .1 } in
+    let fin : FiniteFields F (a .fields) = record { by-size = s .pre; finite = by .1 } in
     let posed : ClassFor (a .job) (c .before .before .before .class-of .result) = record { valid = valid; wide = by .0 .wide; class-in = subst (ClassIn (F .f)) (sym (c .before .before .before .class-of .ensures short)) (class-in (F .f) (a .fields) (s .pre)) } in
     let most = pow-mono {i = F .w} {j = 16} (exponent-room F (valid .setting .format)) in
     let u = ap (λ (u : exponent.Unit). u .0) (c .before .before .unit-of .ensures) in

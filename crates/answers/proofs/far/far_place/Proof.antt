@@ -24,7 +24,7 @@ has-place-requires c κs =
     let F = s .args .format in
     let most = pow-mono {i = F .w} {j = 16} (exponent-room F (s .pre .0)) in
     let is = exponents F (s .pre .0) (c .power .ensures) in
-    (omega (arith, significand-room F (s .pre .0)), omega (arith, pow-pos (F .w)), omega (arith, s .pre .1 .finite), omega (arith, s .pre .1 .finite, s .pre .1 .ordered))
+    (omega (arith, significand-room F (s .pre .0)), omega (arith, pow-pos (F .w)), omega (arith, s .pre .1 .finite), omega (arith, s .pre .1 .finite, s .pre .1 .by-size .ordered))
 
 returns : tie.Need-returns
 returns c = inl refl
@@ -36,7 +36,7 @@ add-classes c =
     let is = exponents F (s .pre .0) (c .before .before .before .power .ensures) in
     let h = c .before .before .has-place .ensures (not-false (c .before .before .has-place .result) (c .before .if1 .left)) in
     let room = significand-room F (s .pre .0) in
-    record { fits = omega (arith, s .pre .1 .finite, s .pre .1 .order-lt) }
+    record { fits = omega (arith, s .pre .1 .finite, s .pre .1 .by-size .order-lt) }
 
 add-classes-2 : tie.Need-add-classes-2
 add-classes-2 c =
@@ -45,7 +45,7 @@ add-classes-2 c =
     let is = exponents F (s .pre .0) (c .before .before .before .power .ensures) in
     let h = c .before .before .has-place .ensures (not-false (c .before .before .has-place .result) (c .before .if1 .left)) in
     let room = significand-room F (s .pre .0) in
-    record { fits = omega (arith, s .pre .1 .finite, s .pre .1 .order-lt) }
+    record { fits = omega (arith, s .pre .1 .finite, s .pre .1 .by-size .order-lt) }
 
 mul-classes : tie.Need-mul-classes
 mul-classes c =
@@ -54,7 +54,7 @@ mul-classes c =
     let is = exponents F (s .pre .0) (c .before .before .before .power .ensures) in
     let h = c .before .before .has-place .ensures (not-false (c .before .before .has-place .result) (c .before .if1 .left)) in
     let room = significand-room F (s .pre .0) in
-    record { fits = omega (arith, s .pre .1 .finite, s .pre .1 .order-lt) }
+    record { fits = omega (arith, s .pre .1 .finite, s .pre .1 .by-size .order-lt) }
 
 add-result : tie.Need-add-result
 add-result c =
@@ -63,7 +63,7 @@ add-result c =
     let is = exponents F (s .pre .0) (c .before .before .before .before .power .ensures) in
     let h = c .before .before .before .has-place .ensures (not-false (c .before .before .before .has-place .result) (c .before .before .if1 .left)) in
     let room = significand-room F (s .pre .0) in
-    record { fits = omega (arith, s .pre .1 .finite, s .pre .1 .order-lt) }
+    record { fits = omega (arith, s .pre .1 .finite, s .pre .1 .by-size .order-lt) }
 
 sub-result : tie.Need-sub-result
 sub-result c =
@@ -81,7 +81,7 @@ mul-result c =
     let is = exponents F (s .pre .0) (c .before .before .before .before .power .ensures) in
     let h = c .before .before .before .has-place .ensures (not-false (c .before .before .before .has-place .result) (c .before .before .if1 .left)) in
     let room = significand-room F (s .pre .0) in
-    record { fits = omega (arith, s .pre .1 .finite, s .pre .1 .order-lt) }
+    record { fits = omega (arith, s .pre .1 .finite, s .pre .1 .by-size .order-lt) }
 
 add-result-2 : tie.Need-add-result-2
 add-result-2 c =
@@ -90,7 +90,7 @@ add-result-2 c =
     let is = exponents F (s .pre .0) (c .before .before .before .before .before .power .ensures) in
     let h = c .before .before .before .before .has-place .ensures (not-false (c .before .before .before .before .has-place .result) (c .before .before .before .if1 .left)) in
     let room = significand-room F (s .pre .0) in
-    record { fits = omega (arith, s .pre .1 .finite, s .pre .1 .order-lt) }
+    record { fits = omega (arith, s .pre .1 .finite, s .pre .1 .by-size .order-lt) }
 
 add-result-3 : tie.Need-add-result-3
 add-result-3 c =
@@ -99,7 +99,7 @@ add-result-3 c =
     let is = exponents F (s .pre .0) (c .before .before .before .before .before .power .ensures) in
     let h = c .before .before .before .before .has-place .ensures (not-false (c .before .before .before .before .has-place .result) (c .before .before .before .if1 .left)) in
     let room = significand-room F (s .pre .0) in
-    record { fits = omega (arith, s .pre .1 .finite, s .pre .1 .order-lt) }
+    record { fits = omega (arith, s .pre .1 .finite, s .pre .1 .by-size .order-lt) }
 
 returns-2 : tie.Need-returns-2
 returns-2 c =
@@ -112,7 +112,7 @@ returns-2 c =
       some = h .0;
       far = h .1;
       at = omega arith;
-      place-lt = omega (arith, s .pre .1 .finite, s .pre .1 .order-lt, table-room F (s .pre .0));
+      place-lt = omega (arith, s .pre .1 .finite, s .pre .1 .by-size .order-lt, table-room F (s .pre .0));
     })
 
 pub far-place-spec : {M : Type 1} → statement M

@@ -14,7 +14,7 @@ use Rattle.answers.proofs.far.keep_refused.Tie as tie
 finite-at : (c : tie.Else1) → FiniteFields (c .before .before .args .job .setting .format) (c .before .before .args .fields)
 finite-at c =
     let fin = c .before .finite-fields .ensures .0 (not-false (c .before .finite-fields .result) (c .if1 .left)) in
-    record { order-lt = c .before .before .pre .order-lt; ordered = c .before .before .pre .ordered; finite = fin .a-finite }
+    record { by-size = c .before .before .pre; finite = fin .a-finite }
 
 -- the pair's place
 pair-at : (c : tie.Else2) → FarPair (c .before .before .before .before .args .job .setting .format) (c .before .before .before .before .args .fields) (c .before .far-place .result)
