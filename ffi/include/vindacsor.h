@@ -1,6 +1,6 @@
 /* Vindacsor: a proved generator of test cases for floating-point adders.
  *
- * Link with libvindacsor.a, which `rt staticlib vindacsor` writes. Document 01 names the
+ * Link with libvindacsor.a, which `rt staticlib vindacsor` writes. Documents 01 and 02 name the
  * formats, operations, modes, masks, job records and refusals that stand here.
  *
  * Every function returns the number of the refusal, 0 for none, and writes the numbers of its
@@ -12,8 +12,8 @@
  *
  * w is 2 to 8 exponent bits, f is 2 to 23 fraction bits; a word has w + f + 1 bits: the sign,
  * the exponent field and the fraction, from the top. operation is 0 to add and 1 to subtract.
- * mode is 0 nearest with ties to even, 1 toward zero, 2 up, 3 down. A mask is two words: care,
- * with a 1 for each fixed bit, and value, with the fixed bits.
+ * mode is 0 nearest with ties to even, 1 toward zero, 2 up, 3 down, 4 nearest with ties away from
+ * zero. A mask is two words: care, with a 1 for each fixed bit, and value, with the fixed bits.
  */
 #ifndef VINDACSOR_H
 #define VINDACSOR_H
@@ -30,7 +30,7 @@ enum {
     VINDACSOR_EXPONENT_BITS = 1, /* w below 2 or above 8 */
     VINDACSOR_FRACTION_BITS = 2, /* f below 2 or above 23 */
     VINDACSOR_OPERATION = 3,     /* operation above 1 */
-    VINDACSOR_MODE = 4,          /* mode above 3 */
+    VINDACSOR_MODE = 4,          /* mode above 4 */
     VINDACSOR_MASK = 5,          /* mask bit above its width, or value outside care */
     VINDACSOR_WORD = 6,          /* operand, proposed or random word too wide */
     VINDACSOR_NO_CASE = 7,       /* no case fits */

@@ -1,4 +1,4 @@
-// The cases of document 01, "Cases, in hexadecimal".
+// The cases of document 01, "Cases, in hexadecimal", and of document 02, W-201.
 use crate::ask::accepted;
 use crate::ask::eight_difference;
 use crate::ask::eight_difference_no_row;
@@ -54,8 +54,18 @@ fn case_10(count: Count) -> Count {
     eight_difference(two, 3, 0x30, 0x01, 0x2F)
 }
 
+// W-201, mode 4. 30 + 02 = 31 and 31 + 02 = 32, and with both signs turned; 6F + 6F = 70; 30 - 30 = 00.
+fn ties_away(count: Count) -> Count {
+    let one = eight_sum(count, 4, 0x30, 0x02, 0x31);
+    let two = eight_sum(one, 4, 0x31, 0x02, 0x32);
+    let three = eight_sum(two, 4, 0xB0, 0x82, 0xB1);
+    let four = eight_sum(three, 4, 0xB1, 0x82, 0xB2);
+    let five = eight_sum(four, 4, 0x6F, 0x6F, 0x70);
+    eight_difference(five, 4, 0x30, 0x30, 0x00)
+}
+
 pub(crate) fn eight_bit_cases(count: Count) -> Count {
-    case_10(case_9(cases_7_and_8(case_6(case_5(case_1(count))))))
+    ties_away(case_10(case_9(cases_7_and_8(case_6(case_5(case_1(count)))))))
 }
 
 // 12. w = 2 and 8 accepted, 1 and 9 refused; f = 2 and 23 accepted, 1 and 24 refused.

@@ -10,7 +10,8 @@ fn negative_zero(count: Count) -> Count {
     let one = single_difference(count, 0, 0x80000000, 0x00000000, 0x80000000);
     let two = single_difference(one, 1, 0x80000000, 0x00000000, 0x80000000);
     let three = single_difference(two, 2, 0x80000000, 0x00000000, 0x80000000);
-    single_difference(three, 3, 0x80000000, 0x00000000, 0x80000000)
+    let four = single_difference(three, 3, 0x80000000, 0x00000000, 0x80000000);
+    single_difference(four, 4, 0x80000000, 0x00000000, 0x80000000)
 }
 
 // Operands that are infinite or a NaN.
@@ -37,11 +38,13 @@ fn far_operand(count: Count) -> Count {
     single_difference(four, 0, 0x3F800000, 0x33000001, 0x3F7FFFFF)
 }
 
-// Built: ties, to the even neighbour below and above.
+// Built: ties, to the even neighbour below and above, and away from zero.
 fn ties(count: Count) -> Count {
     let one = single_sum(count, 0, 0x3F800000, 0x33800000, 0x3F800000);
     let two = single_sum(one, 0, 0x3F800001, 0x33800000, 0x3F800002);
-    single_sum(two, 0, 0x3F800000, 0x33800001, 0x3F800001)
+    let three = single_sum(two, 0, 0x3F800000, 0x33800001, 0x3F800001);
+    let four = single_sum(three, 4, 0x3F800000, 0x33800000, 0x3F800001);
+    single_sum(four, 4, 0x3F800000, 0x337FFFFF, 0x3F800000)
 }
 
 // Built: rounding that carries into the next exponent, and out of the format.
@@ -49,7 +52,8 @@ fn carried(count: Count) -> Count {
     let one = single_sum(count, 0, 0x3FFFFFFF, 0x33800000, 0x40000000);
     let two = single_sum(one, 1, 0x3FFFFFFF, 0x33800000, 0x3FFFFFFF);
     let three = single_sum(two, 0, 0x7F7FFFFF, 0x73000000, 0x7F800000);
-    single_sum(three, 1, 0x7F7FFFFF, 0x73000000, 0x7F7FFFFF)
+    let four = single_sum(three, 1, 0x7F7FFFFF, 0x73000000, 0x7F7FFFFF);
+    single_sum(four, 4, 0x7F7FFFFF, 0x73000000, 0x7F800000)
 }
 
 // Built: the largest finite number and the smallest step, in every mode.
@@ -57,7 +61,8 @@ fn smallest_step(count: Count) -> Count {
     let one = single_sum(count, 0, 0x7F7FFFFF, 0x00000001, 0x7F7FFFFF);
     let two = single_sum(one, 1, 0x7F7FFFFF, 0x00000001, 0x7F7FFFFF);
     let three = single_sum(two, 2, 0x7F7FFFFF, 0x00000001, 0x7F800000);
-    single_sum(three, 3, 0x7F7FFFFF, 0x00000001, 0x7F7FFFFF)
+    let four = single_sum(three, 3, 0x7F7FFFFF, 0x00000001, 0x7F7FFFFF);
+    single_sum(four, 4, 0x7F7FFFFF, 0x00000001, 0x7F7FFFFF)
 }
 
 // Built: e = 0 against e = 1, and 60 - 10, where rounding up does not give a.

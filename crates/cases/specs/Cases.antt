@@ -1,4 +1,4 @@
--- The cases that document 01 marks with ● ("Cases, in hexadecimal"), as rows of one table about the definitions.
+-- The cases that document 01 marks with ● ("Cases, in hexadecimal"), and those of document 02, as rows of one table about the definitions.
 -- A `Claim` is a statement of one of the kinds that document 01 makes there, `Holds` is what it says, and `cases` is the table.
 -- Assumes nothing.
 use mathlib.Core.Path.{_≡_}
@@ -69,7 +69,7 @@ abbrev pub subtract : ℕ → ℕ → ℕ → ℕ → Carried → Claim
 subtract mode a b c carried = sum eight 1 mode a b c carried
 
 abbrev pub everyMode : (ℕ → Claim) → List Claim
-everyMode at = at 0 ∷ at 1 ∷ at 2 ∷ at 3 ∷ []
+everyMode at = at 0 ∷ at 1 ∷ at 2 ∷ at 3 ∷ at 4 ∷ []
 
 -- "Masks there: a 0100x101, b 001x1011, c 010xx10x (x free)": the job that adds in a mode, with a carry mask
 abbrev pub masked : ℕ → Mask → Job
@@ -130,5 +130,13 @@ case10 = subtract 0 0x30 0x01 0x30 (row 0x0F) ∷ subtract 3 0x30 0x01 0x2F (row
 abbrev pub case11 : List Claim
 case11 = wholeSum 2 3 1 0 0 6 ∷ []
 
+-- W-201. Mode 4, ties: 30 + 02 = 31 and 31 + 02 = 32, and the same with both signs turned. Overflow: 6F + 6F = 70. A cancelled sum:
+-- 30 - 30 = 00. With the masks of case 1 exactly (45, 2B, 4C) and (4D, 3B, 55) fit.
+abbrev pub tiesAway : List Claim
+tiesAway =
+    add 4 0x30 0x02 0x31 unsaid ∷ add 4 0x31 0x02 0x32 unsaid ∷ add 4 0xB0 0x82 0xB1 unsaid ∷ add 4 0xB1 0x82 0xB2 unsaid
+    ∷ add 4 0x6F 0x6F 0x70 unsaid ∷ subtract 4 0x30 0x30 0x00 unsaid
+    ∷ exactly (masked 4 nothingFixed) ((0x45, 0x2B, 0x4C) ∷ (0x4D, 0x3B, 0x55) ∷ []) ∷ []
+
 abbrev pub cases : List Claim
-cases = case1 ++ case2 ++ case3 ++ case4 ++ case5 ++ case6 ++ case7 ++ case8 ++ case9 ++ case10 ++ case11
+cases = case1 ++ case2 ++ case3 ++ case4 ++ case5 ++ case6 ++ case7 ++ case8 ++ case9 ++ case10 ++ case11 ++ tiesAway

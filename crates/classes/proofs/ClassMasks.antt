@@ -17,7 +17,7 @@ use Rattle.mask.proofs.ByParts.{meets-parts, sign-formed, fraction-formed}
 use Rattle.mask.proofs.ByBits.{value-below}
 use Rattle.word.specs.Word.{allOnes, signed, infinityWord}
 use Rattle.rounding.specs.declared.Direction.{Direction}
-use Rattle.rounding.specs.declared.Direction.the-variants.{Nearest, TowardZero, Away}
+use Rattle.rounding.specs.declared.Direction.the-variants.{NearestEven, NearestAway, TowardZero, Away}
 use Rattle.rounding.specs.Rounding.{overflowWord}
 use Rattle.word.specs.Masks.{signMask, exponentMask, fractionMask}
 use Rattle.classes.specs.Class.{withExponent, NeverPast}
@@ -158,6 +158,7 @@ module _ (F : Format) (c : Mask) (never : NeverPast F c) where
 
   pub past-never : (d : Direction) (s : ℕ) → 1 ≤ allOnes F → Meets (signed F s (overflowWord F d)) c → ⊥
   unfolding overflowWord
-  past-never Nearest s some met = infinity-never s met
+  past-never NearestEven s some met = infinity-never s met
+  past-never NearestAway s some met = infinity-never s met
   past-never TowardZero s some met = largest-never s some met
   past-never Away s some met = infinity-never s met

@@ -22,9 +22,9 @@ mostFractionBits = 23
 abbrev pub mostOperation : ℕ
 mostOperation = 1
 
--- modes 0 to 3
+-- modes 0 to 4 (document 02, W-201)
 abbrev pub mostMode : ℕ
-mostMode = 3
+mostMode = 4
 
 -- whole numbers: length N from 1 to 32
 abbrev pub leastLength : ℕ

@@ -6,7 +6,7 @@ pub const EXPONENT_BITS: u64 = 1;
 pub const FRACTION_BITS: u64 = 2;
 // operation above 1
 pub const OPERATION: u64 = 3;
-// mode above 3
+// mode above 4
 pub const MODE: u64 = 4;
 // mask bit above its width, or value outside care
 pub const MASK: u64 = 5;

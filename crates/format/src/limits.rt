@@ -9,7 +9,7 @@ pub const MOST_FRACTION_BITS: u64 = 23;
 
 pub const MOST_OPERATION: u64 = 1;
 
-pub const MOST_MODE: u64 = 3;
+pub const MOST_MODE: u64 = 4;
 // Whole numbers: their length.
 pub const LEAST_LENGTH: u64 = 1;
 

@@ -1,4 +1,4 @@
-// The cases of document 01, "Cases, in hexadecimal", and its causes 1 to 6.
+// The cases of document 01, "Cases, in hexadecimal", and its causes 1 to 6; with mode 4 of document 02, W-201.
 use crate::line::ask;
 use crate::line::put_reply;
 use crate::same::same_reply;
@@ -67,13 +67,14 @@ fn both_words(count: Count, job: Job, zeros: Reply, others: Reply) -> Count {
     asked(asked(count, job, 0, 0, zeros), job, 0x4D, 0, others)
 }
 
-// 1 to 3. (45, 2B, 4C) row 04 and (4D, 3B, 55) row 1D in mode 0; the second in mode 3, the first in mode 2.
+// 1 to 3. (45, 2B, 4C) row 04 and (4D, 3B, 55) row 1D in mode 0; the second in mode 3, the first in mode 2. W-201: mode 4 as mode 0.
 pub(crate) fn masked_cases(count: Count) -> Count {
     let first = found(0x45, 0x2B, 0x4C, 0x04);
     let second = found(0x4D, 0x3B, 0x55, 0x1D);
     let nearest = both_words(count, eight(0, free()), first, second);
     let down = both_words(nearest, eight(3, free()), second, second);
-    both_words(down, eight(2, free()), first, first)
+    let up = both_words(down, eight(2, free()), first, first);
+    both_words(up, eight(4, free()), first, second)
 }
 
 // 4. Carry position 1 fixed to 1.
@@ -123,7 +124,7 @@ fn signs(count: Count, mode: u64) -> Count {
 
 // 13. In each mode no case fits.
 pub(crate) fn impossible_signs(count: Count) -> Count {
-    signs(signs(signs(signs(count, 0), 1), 2), 3)
+    signs(signs(signs(signs(signs(count, 0), 1), 2), 3), 4)
 }
 
 // A line for a job of these numbers and masks that is refused, with both random words the same.
@@ -145,10 +146,10 @@ fn wide(count: Count, w: u64, f: u64, operation: u64, mode: u64, number: u64) ->
 
 // Of the causes 1 to 5 each line has one fewer: the first is named.
 fn first_cause(count: Count) -> Count {
-    let one = wide(count, 1, 1, 2, 4, cause::EXPONENT_BITS);
-    let two = wide(one, 3, 1, 2, 4, cause::FRACTION_BITS);
-    let three = wide(two, 3, 4, 2, 4, cause::OPERATION);
-    let four = wide(three, 3, 4, 0, 4, cause::MODE);
+    let one = wide(count, 1, 1, 2, 5, cause::EXPONENT_BITS);
+    let two = wide(one, 3, 1, 2, 5, cause::FRACTION_BITS);
+    let three = wide(two, 3, 4, 2, 5, cause::OPERATION);
+    let four = wide(three, 3, 4, 0, 5, cause::MODE);
     wide(four, 3, 4, 0, 0, cause::MASK)
 }
 

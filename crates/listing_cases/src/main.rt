@@ -17,7 +17,7 @@ fn lengths() {
     list(b"65,537 bytes\n", &long);
 }
 
-// Jobs that are listed: positive operands with a negative sum, and then any case; and infinite operands, which have no row.
+// Jobs that are listed: positive operands with a negative sum, and then any case; infinite operands, which have no row; and a tie in mode 4.
 fn listed() {
     list(
         b"none, then found\n",
@@ -31,6 +31,10 @@ fn listed() {
         b"infinities of unlike sign\n",
         b"\x03\x03\x04\x01\xff\x00\x00\x00\x70\x00\x00\x00\xff\x00\x00\x00\x70\x00\x00\x00",
     );
+    list(
+        b"tie away\n",
+        b"\x13\x03\x04\x00\xff\x00\x00\x00\x30\x00\x00\x00\xff\x00\x00\x00\x02\x00\x00\x00\x04",
+    );
 }
 
 // A record for each cause that reading finds.
@@ -38,7 +42,7 @@ fn refused() {
     list(b"w too small\n", b"\x00\x01\x04\x00");
     list(b"f too large\n", b"\x00\x03\x18\x00");
     list(b"operation\n", b"\x00\x03\x04\x02");
-    list(b"mode\n", b"\x10\x03\x04\x00\x04");
+    list(b"mode\n", b"\x10\x03\x04\x00\x05");
     list(
         b"mask too wide\n",
         b"\x01\x03\x04\x00\x00\x01\x00\x00\x00\x00\x00\x00",

@@ -84,11 +84,12 @@ pub(crate) fn truncations() {
 
 // One record for each refusal, and for their order.
 pub(crate) fn refusals() {
-    // w above 8; f below 2; operation 2; mode 4
+    // w above 8; f below 2; operation 2; mode 5, after mode 4, which is taken
     show(b"\x00\x09\x04\x00");
     show(b"\x00\x03\x01\x00");
     show(b"\x00\x03\x04\x02");
     show(b"\x10\x03\x04\x00\x04");
+    show(b"\x10\x03\x04\x00\x05");
     // a mask bit above the word's eight bits, and above the carries' five; a value outside care, also where care is 0
     show(b"\x01\x03\x04\x00\x00\x01\x00\x00\x00\x00\x00\x00");
     show(b"\x08\x03\x04\x00\x20\x00\x00\x00\x00\x00\x00\x00");

@@ -127,7 +127,7 @@ pub(crate) fn refusals() {
     show(entry(sized(1, 4), 0, 0, free(), free(), 0), 64);
     show(entry(sized(3, 24), 0, 0, free(), free(), 0), 0);
     show(entry(sized(3, 4), 2, 0, free(), free(), 0), 64);
-    show(entry(sized(3, 4), 0, 4, free(), free(), 0), 0);
+    show(entry(sized(3, 4), 0, 5, free(), free(), 0), 0);
     show(entry(sized(3, 4), 0, 0, fixed(0x100, 0), free(), 0), 64);
     show(entry(sized(3, 4), 0, 0, free(), fixed(0x20, 0), 0), 0);
     show(entry(sized(3, 4), 0, 0, fixed(0, 1), free(), 0), 64);

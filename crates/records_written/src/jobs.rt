@@ -74,7 +74,7 @@ pub fn entry(state: u64) -> Entry {
     let job = job(
         Format { w, f },
         state / 154 % 2,
-        state / 308 % 4,
+        state / 308 % 5,
         mask(width, first),
         mask(width, second),
         mask(width, third),
@@ -89,8 +89,8 @@ pub fn entry(state: u64) -> Entry {
 
 // The room for a state's record: the longest there is, or in one of four cases any.
 pub fn room(state: u64) -> usize {
-    if state / 1232 % 4 == 0 {
-        (state / 4928 % 49) as usize
+    if state / 1540 % 4 == 0 {
+        (state / 6160 % 49) as usize
     } else {
         48
     }

@@ -1,6 +1,6 @@
 -- Rounding off k bits is adding a constant and a carry and dropping k bits, whatever the direction: `round-off-adds`. Nothing is added toward
--- zero, 2^k - 1 away from zero, and in nearest mode one less than half a unit and then the last kept bit, which sends a tie to the even
--- neighbour. A caller that knows the last kept bit names it; one whose carry is the same for both need not (`round-off-adds-fixed`).
+-- zero, 2^k - 1 away from zero, and to the nearest one less than half a unit and then what a tie goes up by: the last kept bit, which sends
+-- it to the even neighbour, or 1, which sends it away from zero. A caller that knows the last kept bit names it; one whose carry is the same for both need not (`round-off-adds-fixed`).
 -- Assumes nothing.
 use mathlib.Core.Path.{_≡_, sym, ap, _∙_}
 use mathlib.Core.Bool.{cond}
@@ -15,8 +15,8 @@ use lib.Pow.{pow-pos}
 use Rattle.bits.specs.Bit.{bit}
 use Rattle.bits.proofs.Laws.{bit-lt}
 use Rattle.rounding.specs.declared.Direction.{Direction}
-use Rattle.rounding.specs.declared.Direction.the-variants.{Nearest, TowardZero, Away}
-use Rattle.rounding.specs.Rounding.{increment, roundOff, roundingConstant, roundingCarry}
+use Rattle.rounding.specs.declared.Direction.the-variants.{NearestEven, NearestAway, TowardZero, Away}
+use Rattle.rounding.specs.Rounding.{toNearest, increment, roundOff, roundingConstant, roundingCarry}
 use Rattle.rounding.proofs.RoundOff.{round-off-none}
 
 pub round-toward-zero : (X k : ℕ) → roundOff TowardZero X k ≡ X / 2 ^ k
@@ -43,41 +43,40 @@ round-away X k = go (ℕ-discrete (X % 2 ^ k) 0)
         let n : X / 2 ^ k + 1 ≡ suc (X / 2 ^ k) = omega arith in
         rw (ne-eqb (X % 2 ^ k) 0 z) (n ∙ quotient (X + (2 ^ k - 1)) (suc (X / 2 ^ k)) (X % 2 ^ k - 1) (2 ^ k) (omega arith) (omega arith))
 
--- q units of P, twice H, and ρ more: the tests of nearest mode, and the sum with its last kept bit
+-- q units of P, twice H, and ρ more: the tests of going to the nearest, and the sum with what a tie goes up by
 module _ (X q ρ H P : ℕ) (halves : P ≡ H * 2) (pos : 0 < H) (below : ρ < P) (whole : q * P + ρ ≡ X) where
-  tie-even : (b : ℕ) → b < 2 → ρ ≡ H → q + b ≡ (X + (H - 1) + b) / P
-  tie-even zero h e = add-zero q ∙ quotient (X + (H - 1) + 0) q (ρ + (H - 1)) P (omega arith) (omega arith)
-  tie-even (suc zero) h e =
+  tie-by : (b : ℕ) → b < 2 → ρ ≡ H → q + b ≡ (X + (H - 1) + b) / P
+  tie-by zero h e = add-zero q ∙ quotient (X + (H - 1) + 0) q (ρ + (H - 1)) P (omega arith) (omega arith)
+  tie-by (suc zero) h e =
       let n : q + 1 ≡ suc q = omega arith in
       n ∙ quotient (X + (H - 1) + 1) (suc q) 0 P (omega arith) (omega (arith, suc-mul q P))
-  tie-even (suc (suc b)) h e = absurd (omega arith)
+  tie-by (suc (suc b)) h e = absurd (omega arith)
 
-  nearest-by : q + increment Nearest q ρ P ≡ (X + (H - 1) + q % 2) / P
-  unfolding increment
-  nearest-by = go (decLt H ρ) (ℕ-discrete ρ H)
+  nearest-adds : (tie : ℕ) → tie < 2 → q + toNearest tie ρ P ≡ (X + (H - 1) + tie) / P
+  nearest-adds tie small = go (decLt H ρ) (ℕ-discrete ρ H)
     where
-      go : Dec (H < ρ) → Dec (ρ ≡ H) → q + cond (ltb P (2 * ρ)) 1 (cond (eqb (2 * ρ) P) (q % 2) 0) ≡ (X + (H - 1) + q % 2) / P
+      go : Dec (H < ρ) → Dec (ρ ≡ H) → q + toNearest tie ρ P ≡ (X + (H - 1) + tie) / P
       go (yes l) e =
           let n : q + 1 ≡ suc q = omega arith in
           rw (lt-ltb P (2 * ρ) (omega arith))
-          (n ∙ quotient (X + (H - 1) + q % 2) (suc q) (ρ - H - 1 + q % 2) P (omega arith) (omega (arith, suc-mul q P)))
-      go (no l) (yes e) = rw (le-ltb P (2 * ρ) (omega arith), eq-eqb (2 * ρ) P (omega arith)) (tie-even (q % 2) (omega arith) e)
+          (n ∙ quotient (X + (H - 1) + tie) (suc q) (ρ - H - 1 + tie) P (omega arith) (omega (arith, suc-mul q P)))
+      go (no l) (yes e) = rw (le-ltb P (2 * ρ) (omega arith), eq-eqb (2 * ρ) P (omega arith)) (tie-by tie small e)
       go (no l) (no e) =
           rw (le-ltb P (2 * ρ) (omega arith), ne-eqb (2 * ρ) P (λ t. omega arith))
-          (add-zero q ∙ quotient (X + (H - 1) + q % 2) q (ρ + (H - 1) + q % 2) P (omega arith) (omega arith))
+          (add-zero q ∙ quotient (X + (H - 1) + tie) q (ρ + (H - 1) + tie) P (omega arith) (omega arith))
 
-pub round-nearest : (X j : ℕ) → roundOff Nearest X (suc j) ≡ (X + (2 ^ j - 1) + bit X (suc j)) / 2 ^ suc j
-unfolding roundOff
-round-nearest X j =
-    nearest-by X (X / 2 ^ suc j) (X % 2 ^ suc j) (2 ^ j) (2 ^ suc j) (pow-suc 2 j) (pow-pos j) (mod-lt X (pow-pos (suc j))) (div-add-mod' X (2 ^ suc j))
+round-nearest : (X j tie : ℕ) → tie < 2 → X / 2 ^ suc j + toNearest tie (X % 2 ^ suc j) (2 ^ suc j) ≡ (X + (2 ^ j - 1) + tie) / 2 ^ suc j
+round-nearest X j tie small =
+    nearest-adds X (X / 2 ^ suc j) (X % 2 ^ suc j) (2 ^ j) (2 ^ suc j) (pow-suc 2 j) (pow-pos j) (mod-lt X (pow-pos (suc j))) (div-add-mod' X (2 ^ suc j)) tie small
 
 -- ---- one law over the direction
 
 -- for the last kept bit
 pub round-off-adds : (d : Direction) (X k last : ℕ) → bit X k ≡ last → roundOff d X k ≡ (X + roundingConstant d k + roundingCarry d k last) / 2 ^ k
-unfolding roundingConstant roundingCarry
+unfolding roundOff increment roundingConstant roundingCarry
 round-off-adds d X zero last e = round-off-none d X ∙ omega (arith, div-one (X + 0 + 0))
-round-off-adds Nearest X (suc j) last e = round-nearest X j ∙ ap (λ (b : ℕ). (X + (2 ^ j - 1) + b) / 2 ^ suc j) e
+round-off-adds NearestEven X (suc j) last e = round-nearest X j (bit X (suc j)) (bit-lt X (suc j)) ∙ ap (λ (b : ℕ). (X + (2 ^ j - 1) + b) / 2 ^ suc j) e
+round-off-adds NearestAway X (suc j) last e = round-nearest X j 1 (omega arith)
 round-off-adds TowardZero X (suc j) last e = round-toward-zero X (suc j) ∙ ap (λ (n : ℕ). n / 2 ^ suc j) (omega arith)
 round-off-adds Away X (suc j) last e = round-away X (suc j) ∙ ap (λ (n : ℕ). n / 2 ^ suc j) (omega arith)
 
@@ -95,13 +94,15 @@ round-off-adds-fixed d k carry zeroth first X = go (bit X k) (bit-lt X k) mathli
 pub rounding-constant-lt : (d : Direction) (k : ℕ) → roundingConstant d k < 2 ^ k
 unfolding roundingConstant
 rounding-constant-lt d zero = omega arith
-rounding-constant-lt Nearest (suc j) = omega (arith, pow-suc 2 j, pow-pos j)
+rounding-constant-lt NearestEven (suc j) = omega (arith, pow-suc 2 j, pow-pos j)
+rounding-constant-lt NearestAway (suc j) = omega (arith, pow-suc 2 j, pow-pos j)
 rounding-constant-lt TowardZero (suc j) = pow-pos (suc j)
 rounding-constant-lt Away (suc j) = omega (arith, pow-pos (suc j))
 
 pub rounding-carry-lt : (d : Direction) (k last : ℕ) → last < 2 → roundingCarry d k last < 2
 unfolding roundingCarry
 rounding-carry-lt d zero last h = omega arith
-rounding-carry-lt Nearest (suc j) last h = h
+rounding-carry-lt NearestEven (suc j) last h = h
+rounding-carry-lt NearestAway (suc j) last h = omega arith
 rounding-carry-lt TowardZero (suc j) last h = omega arith
 rounding-carry-lt Away (suc j) last h = omega arith

@@ -9,8 +9,8 @@ use lib.Dec.{ltb, eqb, lit<}
 use lib.Arith.{digits-div, digits-mod}
 use lib.Pow.{pow-pos, pow-add, shr-le, shr-shr, mod-pow-add}
 use Rattle.rounding.specs.declared.Direction.{Direction}
-use Rattle.rounding.specs.declared.Direction.the-variants.{Nearest, TowardZero, Away}
-use Rattle.rounding.specs.Rounding.{increment, roundOff}
+use Rattle.rounding.specs.declared.Direction.the-variants.{NearestEven, NearestAway, TowardZero, Away}
+use Rattle.rounding.specs.Rounding.{toNearest, increment, roundOff}
 use Rattle.rounding.specs.Sticky.{sticky, withSticky}
 use Rattle.bits.proofs.Division.{div-scale, mod-scale, ltb-scale, eqb-scale}
 use Rattle.rounding.proofs.Sticky.{sticky-lt, above-sticky, equal-sticky}
@@ -19,11 +19,19 @@ cond-le : {b y z : ℕ} (t : Bool) → z ≤ b → y ≤ b → cond t y z ≤ b
 cond-le true hz hy = hy
 cond-le false hz hy = hz
 
+-- going to the nearest goes by two tests, and it is a bit
+nearest-by : (tie ρ M ρ′ M′ : ℕ) → ltb M (2 * ρ) ≡ ltb M′ (2 * ρ′) → eqb (2 * ρ) M ≡ eqb (2 * ρ′) M′ → toNearest tie ρ M ≡ toNearest tie ρ′ M′
+nearest-by tie ρ M ρ′ M′ above half = ap₂ (λ (a h : Bool). cond a 1 (cond h tie 0)) above half
+
+nearest-le : (tie ρ M : ℕ) → tie ≤ 1 → toNearest tie ρ M ≤ 1
+nearest-le tie ρ M h = cond-le (ltb M (2 * ρ)) (cond-le (eqb (2 * ρ) M) (omega arith) h) (omega arith)
+
 -- the increment goes by three tests
 pub increment-by : (d : Direction) (q ρ M ρ′ M′ : ℕ) → ltb M (2 * ρ) ≡ ltb M′ (2 * ρ′) → eqb (2 * ρ) M ≡ eqb (2 * ρ′) M′ → eqb ρ 0 ≡ eqb ρ′ 0
     → increment d q ρ M ≡ increment d q ρ′ M′
 unfolding increment
-increment-by Nearest q ρ M ρ′ M′ above half none = ap₂ (λ (a h : Bool). cond a 1 (cond h (q % 2) 0)) above half
+increment-by NearestEven q ρ M ρ′ M′ above half none = nearest-by (q % 2) ρ M ρ′ M′ above half
+increment-by NearestAway q ρ M ρ′ M′ above half none = nearest-by 1 ρ M ρ′ M′ above half
 increment-by TowardZero q ρ M ρ′ M′ above half none = refl
 increment-by Away q ρ M ρ′ M′ above half none = ap (λ (t : Bool). cond t 0 1) none
 
@@ -43,7 +51,8 @@ round-off-scale d X k i =
 -- the kept part goes up by 1 at most
 pub increment-le : (d : Direction) (q ρ M : ℕ) → increment d q ρ M ≤ 1
 unfolding increment
-increment-le Nearest q ρ M = cond-le (ltb M (2 * ρ)) (cond-le (eqb (2 * ρ) M) (omega arith) (omega arith)) (omega arith)
+increment-le NearestEven q ρ M = nearest-le (q % 2) ρ M (omega arith)
+increment-le NearestAway q ρ M = nearest-le 1 ρ M (omega arith)
 increment-le TowardZero q ρ M = omega arith
 increment-le Away q ρ M = cond-le (eqb ρ 0) (omega arith) (omega arith)
 
@@ -54,7 +63,8 @@ round-off-le d X k = omega (arith, increment-le d (X / 2 ^ k) (X % 2 ^ k) (2 ^ k
 -- nothing is dropped
 pub round-off-none : (d : Direction) (X : ℕ) → roundOff d X 0 ≡ X
 unfolding roundOff increment
-round-off-none Nearest X = rw (mod-one X, div-one X) (add-zero X)
+round-off-none NearestEven X = rw (mod-one X, div-one X) (add-zero X)
+round-off-none NearestAway X = rw (mod-one X, div-one X) (add-zero X)
 round-off-none TowardZero X = rw (div-one X) (add-zero X)
 round-off-none Away X = rw (mod-one X, div-one X) (add-zero X)
 

@@ -10,7 +10,7 @@ use lib.Dec.{eqb}
 use Rattle.format.specs.declared.Format.{Format}
 use Rattle.format.specs.Format.{Supported, precision, wordBits}
 use Rattle.rounding.specs.declared.Direction.{Direction}
-use Rattle.rounding.specs.declared.Direction.the-variants.{Nearest, TowardZero, Away}
+use Rattle.rounding.specs.declared.Direction.the-variants.{NearestEven, NearestAway, TowardZero, Away}
 use Rattle.word.specs.Word.{signed, infinityWord}
 use Rattle.rounding.specs.Rounding.{direction, cancelledSign, roundOff, dropped, magnitudeWord, overflowWord, boundedWord, rounded}
 use Rattle.rounding.proofs.Size.{size-zero}
@@ -20,7 +20,8 @@ use Rattle.word.proofs.Fields.{signed-lt}
 
 pub overflow-le : (F : Format) (d : Direction) → overflowWord F d ≤ infinityWord F
 unfolding overflowWord
-overflow-le F Nearest = le-refl (infinityWord F)
+overflow-le F NearestEven = le-refl (infinityWord F)
+overflow-le F NearestAway = le-refl (infinityWord F)
 overflow-le F TowardZero = sub-le (infinityWord F) 1
 overflow-le F Away = le-refl (infinityWord F)
 

@@ -1,4 +1,4 @@
--- Rounding a magnitude to a format (document 01, "The rounded result").
+-- Rounding a magnitude to a format (document 01, "The rounded result"; document 02, W-201).
 -- A mode and a sign give a direction; the direction alone decides which neighbour is taken, and what an overflow gives.
 -- `magnitudeWord` is the word of the rounded magnitude, as if exponents went on upward. Assumes nothing.
 use mathlib.Core.Bool.{cond}
@@ -8,21 +8,27 @@ use lib.Ieee.{size}
 use Rattle.format.specs.declared.Format.{Format}
 use Rattle.format.specs.Format.{precision}
 use Rattle.rounding.specs.declared.Direction as way
-use Rattle.rounding.specs.declared.Direction.the-variants.{Nearest, TowardZero, Away}
+use Rattle.rounding.specs.declared.Direction.the-variants.{NearestEven, NearestAway, TowardZero, Away}
 use Rattle.word.specs.Word.{infinityWord, signed}
 
--- modes: 0 nearest with ties to even, 1 toward zero, 2 up, 3 down; up is away from zero for sign 0, and down for sign 1
+-- modes: 0 nearest with ties to even, 1 toward zero, 2 up, 3 down, 4 nearest with ties away from zero; up is away from zero for sign 0, and
+-- down for sign 1. No other number is a mode: whoever takes one refuses it.
 unfoldable pub direction : ℕ → ℕ → way.Direction
-direction mode s = cond (eqb mode 0) Nearest (cond (eqb mode (2 + s)) Away TowardZero)
+direction mode s = cond (eqb mode 0) NearestEven (cond (eqb mode 4) NearestAway (cond (eqb mode (2 + s)) Away TowardZero))
 
 -- the sign of an exact zero from operands of unlike sign: +, but - in mode 3
 unfoldable pub cancelledSign : ℕ → ℕ
 cancelledSign mode = cond (eqb mode 3) 1 0
 
--- 1 where the kept part q goes to the next number up, for the dropped part ρ of M: in nearest mode when ρ is more than half of M, or
--- half of it and q odd; away from zero when anything is dropped
+-- 1 where the dropped part ρ is more than half of M, 0 where it is less, and for half of it, a tie, what the direction says
+abbrev pub toNearest : ℕ → ℕ → ℕ → ℕ
+toNearest tie ρ M = cond (ltb M (2 * ρ)) 1 (cond (eqb (2 * ρ) M) tie 0)
+
+-- 1 where the kept part q goes to the next number up, for the dropped part ρ of M: to the nearest, a tie when q is odd, or always; away
+-- from zero when anything is dropped
 unfoldable pub increment : way.Direction → ℕ → ℕ → ℕ → ℕ
-increment Nearest q ρ M = cond (ltb M (2 * ρ)) 1 (cond (eqb (2 * ρ) M) (q % 2) 0)
+increment NearestEven q ρ M = toNearest (q % 2) ρ M
+increment NearestAway q ρ M = toNearest 1 ρ M
 increment TowardZero q ρ M = 0
 increment Away q ρ M = cond (eqb ρ 0) 0 1
 
@@ -34,13 +40,15 @@ roundOff d X k = X / 2 ^ k + increment d (X / 2 ^ k) (X % 2 ^ k) (2 ^ k)
 -- `round-off-adds`). Where no bit is dropped nothing is added.
 unfoldable pub roundingConstant : way.Direction → ℕ → ℕ
 roundingConstant d zero = 0
-roundingConstant Nearest (suc j) = 2 ^ j - 1
+roundingConstant NearestEven (suc j) = 2 ^ j - 1
+roundingConstant NearestAway (suc j) = 2 ^ j - 1
 roundingConstant TowardZero (suc j) = 0
 roundingConstant Away (suc j) = 2 ^ suc j - 1
 
 unfoldable pub roundingCarry : way.Direction → ℕ → ℕ → ℕ
 roundingCarry d zero last = 0
-roundingCarry Nearest (suc j) last = last
+roundingCarry NearestEven (suc j) last = last
+roundingCarry NearestAway (suc j) last = 1
 roundingCarry TowardZero (suc j) last = 0
 roundingCarry Away (suc j) last = 0
 
@@ -55,7 +63,8 @@ magnitudeWord F d X = dropped F X * 2 ^ F .f + roundOff d X (dropped F X)
 
 -- past the largest finite number: infinity, but toward zero the largest finite number
 unfoldable pub overflowWord : Format → way.Direction → ℕ
-overflowWord F Nearest = infinityWord F
+overflowWord F NearestEven = infinityWord F
+overflowWord F NearestAway = infinityWord F
 overflowWord F TowardZero = infinityWord F - 1
 overflowWord F Away = infinityWord F
 

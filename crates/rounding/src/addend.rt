@@ -16,7 +16,7 @@ pub fn constant(direction: Direction, k: u64) -> u64
         return 0;
     }
     match direction {
-        Direction::Nearest => power(k - 1) - 1,
+        Direction::NearestEven | Direction::NearestAway => power(k - 1) - 1,
         Direction::TowardZero => 0,
         Direction::Away => power(k) - 1,
     }
@@ -30,7 +30,8 @@ pub fn carry(direction: Direction, k: u64, last: u64) -> u64
         return 0;
     }
     match direction {
-        Direction::Nearest => last,
+        Direction::NearestEven => last,
+        Direction::NearestAway => 1,
         Direction::TowardZero => 0,
         Direction::Away => 0,
     }

@@ -5,9 +5,10 @@ pub mod mode;
 pub mod round;
 pub mod width;
 
-// Which neighbour a magnitude is rounded to.
+// Which neighbour a magnitude is rounded to; the nearest two differ where both are as near.
 pub enum Direction {
-    Nearest,
+    NearestEven,
+    NearestAway,
     TowardZero,
     Away,
 }

@@ -9,7 +9,9 @@ pub fn direction(mode: u64, sign: u64) -> Direction
     ensures { λ r. ⌜ r ≡ direction mode sign ⌝ }
 {
     if mode == 0 {
-        Direction::Nearest
+        Direction::NearestEven
+    } else if mode == 4 {
+        Direction::NearestAway
     } else if mode < 2 {
         Direction::TowardZero
     } else if mode - 2 == sign {

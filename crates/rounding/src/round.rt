@@ -82,7 +82,8 @@ pub fn overflow_word(format: Format, direction: Direction) -> u64
         return 0;
     }
     match direction {
-        Direction::Nearest => infinity,
+        Direction::NearestEven => infinity,
+        Direction::NearestAway => infinity,
         Direction::TowardZero => infinity - 1,
         Direction::Away => infinity,
     }

@@ -1,11 +1,12 @@
 -- The words of adder's definitions have the fields that the standard gives them, and fields leave one word. Assumes nothing.
 use mathlib.Core.Path.{_≡_, refl, sym, ap, _∙_, subst}
-use Prim.Native.Nat.{ℕ, zero, suc, _+_, _-_, _*_, _^_, _<_}
+use Prim.Native.Nat.{ℕ, zero, suc, _+_, _-_, _*_, _^_, _≤_, _<_}
 use native.Mathlib.Nat.{suc-mul}
 use native.Mathlib.Omega.{arith}
 use lib.Pow.{pow-pos, pow-add}
 use Rattle.format.specs.declared.Format.{Format}
 use Rattle.format.specs.Format.{Supported, wordBits}
+use Rattle.format.specs.Limits.{mostMode}
 use Rattle.word.specs.Word.{allOnes, signed, infinityWord}
 use Rattle.rounding.specs.Rounding.{direction, overflowWord}
 use Rattle.adder.specs.Result.{nan, infinity}
@@ -52,7 +53,7 @@ module _ (F : Format) (ok : Supported F) where
         together F s (2 ^ F .w - 2) (2 ^ F .f - 1) (infinityWord F - 1) hs (omega (arith, pow-pos (F .w))) (omega arith) (omega arith)
 
   -- what an overflow gives in each mode, by its direction
-  pub overflow-fields : (mode s : ℕ) → mode < 4 → s < 2 → Overflow F mode s (signed F s (overflowWord F (direction mode s)))
+  pub overflow-fields : (mode s : ℕ) → mode ≤ mostMode → s < 2 → Overflow F mode s (signed F s (overflowWord F (direction mode s)))
   unfolding overflowWord direction
   overflow-fields zero s hm hs = infinity-fields s hs
   overflow-fields (suc zero) zero hm hs = largest-fields 0 hs
@@ -61,7 +62,8 @@ module _ (F : Format) (ok : Supported F) where
   overflow-fields (suc (suc zero)) (suc zero) hm hs = largest-fields 1 hs
   overflow-fields (suc (suc (suc zero))) zero hm hs = largest-fields 0 hs
   overflow-fields (suc (suc (suc zero))) (suc zero) hm hs = infinity-fields 1 hs
-  overflow-fields (suc (suc (suc (suc m)))) s hm hs = absurd (omega arith)
+  overflow-fields (suc (suc (suc (suc zero)))) s hm hs = infinity-fields s hs
+  overflow-fields (suc (suc (suc (suc (suc m))))) s hm hs = absurd (omega arith)
   overflow-fields (suc zero) (suc (suc s)) hm hs = absurd (omega arith)
   overflow-fields (suc (suc zero)) (suc (suc s)) hm hs = absurd (omega arith)
   overflow-fields (suc (suc (suc zero))) (suc (suc s)) hm hs = absurd (omega arith)
@@ -74,4 +76,5 @@ overflow-unique F (suc (suc zero)) zero hc hd g h = fields-unique F hc hd g h
 overflow-unique F (suc (suc zero)) (suc s) hc hd g h = fields-unique F hc hd g h
 overflow-unique F (suc (suc (suc zero))) zero hc hd g h = fields-unique F hc hd g h
 overflow-unique F (suc (suc (suc zero))) (suc s) hc hd g h = fields-unique F hc hd g h
-overflow-unique F (suc (suc (suc (suc m)))) s hc hd g h = absurd g
+overflow-unique F (suc (suc (suc (suc zero)))) s hc hd g h = fields-unique F hc hd g h
+overflow-unique F (suc (suc (suc (suc (suc m))))) s hc hd g h = absurd g

@@ -9,7 +9,7 @@ use lib.Pow.{pow-add}
 use Rattle.format.specs.declared.Format.{Format}
 use Rattle.format.specs.Format.{Supported}
 use Rattle.rounding.specs.declared.Direction.{Direction}
-use Rattle.rounding.specs.declared.Direction.the-variants.{Nearest, TowardZero, Away}
+use Rattle.rounding.specs.declared.Direction.the-variants.{NearestEven, NearestAway, TowardZero, Away}
 use Rattle.word.specs.Word.{allOnes, infinityWord}
 use Rattle.rounding.specs.Rounding.{magnitudeWord}
 use Rattle.word.proofs.Bounds.{infinity-pos}
@@ -17,7 +17,7 @@ use Rattle.standard.specs.Representable.{Representable, largest, afterLa
 use Rattle.standard.specs.Rounds.{distance}
 use Rattle.standard.proofs.Magnitudes.{magnitude-representable, word-order, word-order-le, word-by-magnitude}
 use Rattle.standard.proofs.Largest.{largest-word, after-largest-word}
-use Rattle.standard.proofs.Rounding.{rounded-toward-zero, rounded-away, rounded-nearest, significand-parity, tie-even}
+use Rattle.standard.proofs.Rounding.{rounded-toward-zero, rounded-away, GoesToNearest, nearest-even, nearest-away, rounded-nearest, significand-parity, tie-even, tie-away}
 
 module _ (F : Format) (ok : Supported F) where
   largest-representable : Representable F (largest F)
@@ -58,23 +58,29 @@ module _ (F : Format) (ok : Supported F) where
       ap (λ (n : ℕ). allOnes F * 2 ^ n) (sym f) ∙ ap (λ (n : ℕ). allOnes F * n) (pow-add 2 (F .f - 1) 1) ∙ sym (mul-assoc (allOnes F) (2 ^ (F .f - 1)) 2) in
       omega arith
 
-  -- nearest: so from the middle between the largest and the next on
+  -- to the nearest: so from the middle between the largest and the next on, where a tie goes up in both directions
   module _ (X : ℕ) where
-    not-tied : largest F ≡ roundedMagnitude F Nearest X → distance (afterLargest F) X ≡ distance (roundedMagnitude F Nearest X) X → ⊥
-    not-tied e d =
+    abbrev NotTied : Direction → Type 0
+    NotTied d = largest F ≡ roundedMagnitude F d X → distance (afterLargest F) X ≡ distance (roundedMagnitude F d X) X → ⊥
+
+    even-not-tied : NotTied NearestEven
+    even-not-tied e d =
         let even = tie-even F ok X (afterLargest F) after-representable (λ q. omega (arith, adjacent)) d in
-        let w = word-by-magnitude F (infinityWord F - 1) (magnitudeWord F Nearest X) (sym (largest-word F ok) ∙ e) in
-        let l = sym (significand-parity F ok (magnitudeWord F Nearest X)) ∙ even in
-        last (infinityWord F) (magnitudeWord F Nearest X) (infinity-pos F ok) infinity-even l w
+        let w = word-by-magnitude F (infinityWord F - 1) (magnitudeWord F NearestEven X) (sym (largest-word F ok) ∙ e) in
+        let l = sym (significand-parity F ok (magnitudeWord F NearestEven X)) ∙ even in
+        last (infinityWord F) (magnitudeWord F NearestEven X) (infinity-pos F ok) infinity-even l w
       where
         last : (i m : ℕ) → 0 < i → i % 2 ≡ 0 → m % 2 ≡ 0 → i - 1 ≡ m → ⊥
         last i m h g k w = omega arith
 
-    pub overflow-nearest : (largest F < roundedMagnitude F Nearest X) ↔ (largest F + afterLargest F ≤ 2 * X)
-    overflow-nearest = (
-      λ h. to (largest F) (afterLargest F) (roundedMagnitude F Nearest X) adjacent (passes Nearest X h)
-          (rounded-nearest F X .closest (largest F) largest-representable),
-      λ h. back (decLt (largest F) (roundedMagnitude F Nearest X)) h,
+    away-not-tied : NotTied NearestAway
+    away-not-tied e d = omega (arith, adjacent, tie-away F X (afterLargest F) after-representable (λ q. omega (arith, adjacent)) d)
+
+    overflow-nearest : (d : Direction) → GoesToNearest d → NotTied d → (largest F < roundedMagnitude F d X) ↔ (largest F + afterLargest F ≤ 2 * X)
+    overflow-nearest d near not-tied = (
+      λ h. to (largest F) (afterLargest F) (roundedMagnitude F d X) adjacent (passes d X h)
+          (rounded-nearest F X d near .closest (largest F) largest-representable),
+      λ h. back (decLt (largest F) (roundedMagnitude F d X)) h,
     )
       where
         to : (l a r : ℕ) → l < a → a ≤ r → distance r X ≤ distance l X → l + a ≤ 2 * X
@@ -83,10 +89,16 @@ module _ (F : Format) (ok : Supported F) where
         tied : (l a r : ℕ) → l < a → r ≤ l → l + a ≤ 2 * X → distance r X ≤ distance a X → (l ≡ r) × (distance a X ≡ distance r X)
         tied l a r h g m d = (omega arith, omega arith)
 
-        back : Dec (largest F < roundedMagnitude F Nearest X) → largest F + afterLargest F ≤ 2 * X → largest F < roundedMagnitude F Nearest X
+        back : Dec (largest F < roundedMagnitude F d X) → largest F + afterLargest F ≤ 2 * X → largest F < roundedMagnitude F d X
         back (yes l) h = l
         back (no l) h =
             let t =
-            tied (largest F) (afterLargest F) (roundedMagnitude F Nearest X) adjacent (omega arith) h
-            (rounded-nearest F X .closest (afterLargest F) after-representable) in
+            tied (largest F) (afterLargest F) (roundedMagnitude F d X) adjacent (omega arith) h
+            (rounded-nearest F X d near .closest (afterLargest F) after-representable) in
             absurd (not-tied (t .0) (t .1))
+
+    pub overflow-nearest-even : (largest F < roundedMagnitude F NearestEven X) ↔ (largest F + afterLargest F ≤ 2 * X)
+    overflow-nearest-even = overflow-nearest NearestEven nearest-even even-not-tied
+
+    pub overflow-nearest-away : (largest F < roundedMagnitude F NearestAway X) ↔ (largest F + afterLargest F ≤ 2 * X)
+    overflow-nearest-away = overflow-nearest NearestAway nearest-away away-not-tied

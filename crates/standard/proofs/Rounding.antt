@@ -1,6 +1,6 @@
 -- What IEEE 754 asks of each direction, of the rounded magnitude: it is representable; toward zero it is the greatest such number not
--- above X, away from zero the least not below; and in nearest mode no such number is nearer, and of two as near the even one is taken.
--- Then a representable number rounds to itself, and rounding keeps the order. Assumes nothing.
+-- above X, away from zero the least not below; and in both nearest directions no such number is nearer, and of two as near the even one, or
+-- the larger, is taken. Then a representable number rounds to itself, and rounding keeps the order. Assumes nothing.
 use mathlib.Core.Path.{_≡_, refl, sym, ap, _∙_, subst}
 use mathlib.Core.Logic.{_⊎_, inl, inr}
 use Prim.Native.Nat.{ℕ, zero, suc, _+_, _-_, _*_, _/_, _%_, _^_, _≤_, _<_}
@@ -12,9 +12,9 @@ use lib.Pow.{pow-pos, pow-add, split, mod-mod-pow}
 use Rattle.format.specs.declared.Format.{Format}
 use Rattle.format.specs.Format.{Supported, precision}
 use Rattle.rounding.specs.declared.Direction as way
-use Rattle.rounding.specs.declared.Direction.the-variants.{Nearest, TowardZero, Away}
+use Rattle.rounding.specs.declared.Direction.the-variants.{NearestEven, NearestAway, TowardZero, Away}
 use Rattle.word.specs.Word.{significand}
-use Rattle.rounding.specs.Rounding.{increment, roundOff, dropped, magnitudeWord}
+use Rattle.rounding.specs.Rounding.{toNearest, increment, roundOff, dropped, magnitudeWord}
 use Rattle.standard.specs.Representable.{Representable, EvenWord, roundedMagnitude}
 use Rattle.standard.specs.Rounds.{GreatestNotAbove, LeastNotBelow, Closest, distance}
 use Rattle.standard.proofs.Magnitudes.{magnitude-representable, rounded-kept}
@@ -88,35 +88,56 @@ module _ (F : Format) (X : ℕ) where
           beyond n r h (yes l) = l
           beyond n r h (no l) = absurd (omega (arith, neighbour-below F X n r (omega arith), split X (dropped F X)))
 
-  -- nearest: below half a unit stays, above half goes up, and half goes to the even one
-  abbrev Taken : Type 0
-  Taken = ((roundedMagnitude F Nearest X ≡ floor F X) × (2 * rest F X ≤ unit F X)) ⊎ ((roundedMagnitude F Nearest X ≡ floor F X + unit F X) × (unit F X ≤ 2 * rest F X))
-
-  taken : Taken
-  unfolding increment
-  taken = go (decLt (unit F X) (2 * rest F X)) (ℕ-discrete (2 * rest F X) (unit F X)) (ℕ-discrete (kept F X % 2) 0)
-    where
-      go : Dec (unit F X < 2 * rest F X) → Dec (2 * rest F X ≡ unit F X) → Dec (kept F X % 2 ≡ 0) → Taken
-      go (yes l) d p = inr (goes-up Nearest (rw (lt-ltb _ _ l)), omega arith)
-      go (no l) (yes e) (yes p) = inl (stays Nearest (rw (le-ltb (unit F X) (2 * rest F X) (omega arith), eq-eqb _ _ e) p), omega arith)
-      go (no l) (yes e) (no p) = inr (goes-up Nearest (rw (le-ltb (unit F X) (2 * rest F X) (omega arith), eq-eqb _ _ e) (omega arith)), omega arith)
-      go (no l) (no e) p = inl (stays Nearest (rw (le-ltb (unit F X) (2 * rest F X) (omega arith), ne-eqb _ _ e)), omega arith)
-
-  half-even : 2 * rest F X ≡ unit F X → roundOff Nearest X (dropped F X) % 2 ≡ 0
+  -- half a unit goes to the even one, or up
+  half-even : 2 * rest F X ≡ unit F X → roundOff NearestEven X (dropped F X) % 2 ≡ 0
   unfolding roundOff increment
   half-even e = rw (le-ltb (unit F X) (2 * rest F X) (omega arith), eq-eqb _ _ e) (omega arith)
 
-  pub rounded-nearest : Closest distance (Representable F) X (roundedMagnitude F Nearest X)
-  rounded-nearest = record { member = rounded-representable Nearest; closest = λ n r. go n r taken (decLt X n) }
+  half-away : 2 * rest F X ≡ unit F X → roundedMagnitude F NearestAway X ≡ floor F X + unit F X
+  unfolding increment
+  half-away e = goes-up NearestAway (rw (le-ltb (unit F X) (2 * rest F X) (omega arith), eq-eqb _ _ e))
+
+-- a direction goes to the nearest where only a tie is left to it
+abbrev pub GoesToNearest : way.Direction → Type 0
+GoesToNearest d = (q ρ M : ℕ) → (tie : ℕ) × (tie < 2) × (increment d q ρ M ≡ toNearest tie ρ M)
+
+pub nearest-even : GoesToNearest NearestEven
+unfolding increment
+nearest-even q ρ M = (q % 2, omega arith, refl)
+
+pub nearest-away : GoesToNearest NearestAway
+unfolding increment
+nearest-away q ρ M = (1, omega arith, refl)
+
+module _ (F : Format) (X : ℕ) (d : way.Direction) (near : GoesToNearest d) where
+  -- below half a unit stays, above half goes up, and half does one of the two
+  abbrev Taken : Type 0
+  Taken = ((roundedMagnitude F d X ≡ floor F X) × (2 * rest F X ≤ unit F X)) ⊎ ((roundedMagnitude F d X ≡ floor F X + unit F X) × (unit F X ≤ 2 * rest F X))
+
+  taken : Taken
+  taken =
+      let t = near (kept F X) (rest F X) (unit F X) in
+      go (t .0) (t .1) (t .2) (decLt (unit F X) (2 * rest F X)) (ℕ-discrete (2 * rest F X) (unit F X))
     where
-      go : (n : ℕ) → Representable F n → Taken → Dec (X < n) → distance (roundedMagnitude F Nearest X) X ≤ distance n X
+      go : (tie : ℕ) → tie < 2 → increment d (kept F X) (rest F X) (unit F X) ≡ toNearest tie (rest F X) (unit F X) → Dec (unit F X < 2 * rest F X)
+          → Dec (2 * rest F X ≡ unit F X) → Taken
+      go tie h i (yes l) q = inr (goes-up F X d (i ∙ rw (lt-ltb _ _ l)), omega arith)
+      go zero h i (no l) (yes e) = inl (stays F X d (i ∙ rw (le-ltb (unit F X) (2 * rest F X) (omega arith), eq-eqb _ _ e)), omega arith)
+      go (suc zero) h i (no l) (yes e) = inr (goes-up F X d (i ∙ rw (le-ltb (unit F X) (2 * rest F X) (omega arith), eq-eqb _ _ e)), omega arith)
+      go (suc (suc tie)) h i (no l) (yes e) = absurd (omega arith)
+      go tie h i (no l) (no e) = inl (stays F X d (i ∙ rw (le-ltb (unit F X) (2 * rest F X) (omega arith), ne-eqb _ _ e)), omega arith)
+
+  pub rounded-nearest : Closest distance (Representable F) X (roundedMagnitude F d X)
+  rounded-nearest = record { member = rounded-representable F X d; closest = λ n r. go n r taken (decLt X n) }
+    where
+      go : (n : ℕ) → Representable F n → Taken → Dec (X < n) → distance (roundedMagnitude F d X) X ≤ distance n X
       go n r (inl t) (yes h) = omega (arith, t .0, t .1, neighbour-above F X n r h, split X (dropped F X))
       go n r (inl t) (no h) = omega (arith, t .0, neighbour-below F X n r (omega arith), split X (dropped F X))
       go n r (inr t) (yes h) = omega (arith, t .0, neighbour-above F X n r h, split X (dropped F X), mod-lt X (pow-pos (dropped F X)))
       go n r (inr t) (no h) = omega (arith, t .0, t .1, neighbour-below F X n r (omega arith), split X (dropped F X), mod-lt X (pow-pos (dropped F X)))
 
   -- another number is as near only where half a unit is dropped
-  tie-half : (n : ℕ) → Representable F n → (n ≡ roundedMagnitude F Nearest X → ⊥) → distance n X ≡ distance (roundedMagnitude F Nearest X) X → 2 * rest F X ≡ unit F X
+  tie-half : (n : ℕ) → Representable F n → (n ≡ roundedMagnitude F d X → ⊥) → distance n X ≡ distance (roundedMagnitude F d X) X → 2 * rest F X ≡ unit F X
   tie-half n r ne e = go taken (decLt X n)
     where
       go : Taken → Dec (X < n) → 2 * rest F X ≡ unit F X
@@ -147,19 +168,30 @@ significand-parity F ok m = go (m / 2 ^ F .f) (m % 2 ^ F .f) ∙ last
         omega arith
 
 -- of two as near the one with the even significand is taken
-pub tie-even : (F : Format) → Supported F → (X n : ℕ) → Representable F n → (n ≡ roundedMagnitude F Nearest X → ⊥)
-    → distance n X ≡ distance (roundedMagnitude F Nearest X) X → EvenWord F (magnitudeWord F Nearest X)
+pub tie-even : (F : Format) → Supported F → (X n : ℕ) → Representable F n → (n ≡ roundedMagnitude F NearestEven X → ⊥)
+    → distance n X ≡ distance (roundedMagnitude F NearestEven X) X → EvenWord F (magnitudeWord F NearestEven X)
 unfolding magnitudeWord
 tie-even F ok X n r ne e =
-    let y = half-even F X (tie-half F X n r ne e) in
+    let y = half-even F X (tie-half F X NearestEven nearest-even n r ne e) in
     let f : F .f - 1 + 1 ≡ F .f = omega (arith, ok .f-least) in
     let p : 2 ^ F .f ≡ 2 ^ (F .f - 1) * 2 = ap (λ (m : ℕ). 2 ^ m) (sym f) ∙ pow-add 2 (F .f - 1) 1 in
     let q : dropped F X * 2 ^ F .f ≡ dropped F X * 2 ^ (F .f - 1) * 2 = ap (λ (m : ℕ). dropped F X * m) p ∙ sym (mul-assoc (dropped F X) (2 ^ (F .f - 1)) 2) in
-    significand-parity F ok (dropped F X * 2 ^ F .f + roundOff Nearest X (dropped F X)) ∙ omega arith
+    significand-parity F ok (dropped F X * 2 ^ F .f + roundOff NearestEven X (dropped F X)) ∙ omega arith
+
+-- or the larger one
+pub tie-away : (F : Format) (X n : ℕ) → Representable F n → (n ≡ roundedMagnitude F NearestAway X → ⊥)
+    → distance n X ≡ distance (roundedMagnitude F NearestAway X) X → n < roundedMagnitude F NearestAway X
+tie-away F X n r ne e =
+    let half = tie-half F X NearestAway nearest-away n r ne e in
+    above n (roundedMagnitude F NearestAway X) X (omega (arith, half-away F X half, split X (dropped F X))) ne e
+  where
+    above : (n m x : ℕ) → x ≤ m → (n ≡ m → ⊥) → distance n x ≡ distance m x → n < m
+    above n m x h q d = omega arith
 
 -- a representable number is itself in every direction
 pub representable-rounds-to-itself : (F : Format) (d : way.Direction) (X : ℕ) → Representable F X → roundedMagnitude F d X ≡ X
-representable-rounds-to-itself F Nearest X r = omega (arith, rounded-nearest F X .closest X r)
+representable-rounds-to-itself F NearestEven X r = omega (arith, rounded-nearest F X NearestEven nearest-even .closest X r)
+representable-rounds-to-itself F NearestAway X r = omega (arith, rounded-nearest F X NearestAway nearest-away .closest X r)
 representable-rounds-to-itself F TowardZero X r = let g = rounded-toward-zero F X in omega (arith, g .greatest X r (omega arith))
 representable-rounds-to-itself F Away X r = let g = rounded-away F X in omega (arith, g .least X r (omega arith))
 
@@ -170,22 +202,26 @@ middle-above a b X h d = omega arith
 middle-below : (a b Y : ℕ) → b < a → distance b Y ≤ distance a Y → 2 * Y ≤ a + b
 middle-below a b Y h d = omega arith
 
+nearest-monotone : (F : Format) (d : way.Direction) → GoesToNearest d → (X Y : ℕ) → X ≤ Y → roundedMagnitude F d X ≤ roundedMagnitude F d Y
+nearest-monotone F d near X Y h = go (ℕ-discrete X Y) (decLt (roundedMagnitude F d Y) (roundedMagnitude F d X))
+  where
+    go : Dec (X ≡ Y) → Dec (roundedMagnitude F d Y < roundedMagnitude F d X) → roundedMagnitude F d X ≤ roundedMagnitude F d Y
+    go (yes e) l = let q = ap (roundedMagnitude F d) e in omega arith
+    go (no e) (no l) = omega arith
+    go (no e) (yes l) =
+        let a = roundedMagnitude F d X in
+        let b = roundedMagnitude F d Y in
+        let x = middle-above a b X l (rounded-nearest F X d near .closest b (rounded-representable F Y d)) in
+        let y = middle-below a b Y l (rounded-nearest F Y d near .closest a (rounded-representable F X d)) in
+        absurd (omega arith)
+
 -- rounding in one direction keeps the order
 pub rounding-monotone : (F : Format) (d : way.Direction) (X Y : ℕ) → X ≤ Y → roundedMagnitude F d X ≤ roundedMagnitude F d Y
+rounding-monotone F NearestEven X Y h = nearest-monotone F NearestEven nearest-even X Y h
+rounding-monotone F NearestAway X Y h = nearest-monotone F NearestAway nearest-away X Y h
 rounding-monotone F TowardZero X Y h =
     let g = rounded-toward-zero F X in
     rounded-toward-zero F Y .greatest (roundedMagnitude F TowardZero X) (g .member) (omega arith)
 rounding-monotone F Away X Y h =
     let g = rounded-away F Y in
     rounded-away F X .least (roundedMagnitude F Away Y) (g .member) (omega arith)
-rounding-monotone F Nearest X Y h = go (ℕ-discrete X Y) (decLt (roundedMagnitude F Nearest Y) (roundedMagnitude F Nearest X))
-  where
-    go : Dec (X ≡ Y) → Dec (roundedMagnitude F Nearest Y < roundedMagnitude F Nearest X) → roundedMagnitude F Nearest X ≤ roundedMagnitude F Nearest Y
-    go (yes e) l = let q = ap (roundedMagnitude F Nearest) e in omega arith
-    go (no e) (no l) = omega arith
-    go (no e) (yes l) =
-        let a = roundedMagnitude F Nearest X in
-        let b = roundedMagnitude F Nearest Y in
-        let x = middle-above a b X l (rounded-nearest F X .closest b (rounded-representable F Y Nearest)) in
-        let y = middle-below a b Y l (rounded-nearest F Y .closest a (rounded-representable F X Nearest)) in
-        absurd (omega arith)

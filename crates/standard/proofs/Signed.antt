@@ -1,4 +1,4 @@
--- What each mode asks, of signed numbers: the laws of the three directions, with a sign. Assumes nothing.
+-- What each mode asks, of signed numbers: the laws of the directions, with a sign. Assumes nothing.
 use mathlib.Core.Path.{_≡_, refl, sym, ap, _∙_, subst, subst₂}
 use Prim.Native.Nat.{ℕ, zero, suc, _+_, _≤_, _<_}
 use native.Mathlib.Omega.{arith}
@@ -7,18 +7,19 @@ use lib.IntN.{ℤ, pos, negℤ, natAbs}
 use lib.Signed.{_≤ℤ_, leZ-yes}
 use Rattle.format.specs.declared.Format.{Format}
 use Rattle.format.specs.Format.{Supported}
+use Rattle.format.specs.Limits.{mostMode}
 use Rattle.rounding.specs.declared.Direction.{Direction}
-use Rattle.rounding.specs.declared.Direction.the-variants.{Nearest, TowardZero, Away}
+use Rattle.rounding.specs.declared.Direction.the-variants.{NearestEven, NearestAway, TowardZero, Away}
 use Rattle.rounding.specs.Rounding.{direction, magnitudeWord}
 use Rattle.standard.specs.Representable.{Representable, roundedMagnitude}
 use Rattle.standard.specs.Rounds.{GreatestNotAbove, LeastNotBelow, Closest, distance}
-use Rattle.standard.specs.Number.{signedNumber, OfFormat, apart, EvenNumber, RoundsTo}
-use Rattle.standard.proofs.Rounding.{rounded-toward-zero, rounded-away, rounded-nearest, zero-representable, tie-even, representable-rounds-to-itself, rounding-monotone}
+use Rattle.standard.specs.Number.{signedNumber, OfFormat, apart, EvenNumber, Nearest, RoundsTo}
+use Rattle.standard.proofs.Rounding.{rounded-toward-zero, rounded-away, GoesToNearest, nearest-even, nearest-away, rounded-nearest, zero-representable, tie-even, tie-away, representable-rounds-to-itself, rounding-monotone}
 use Rattle.standard.proofs.Integers.{signed-magnitude, like-apart, unlike-apart, by-sign, outward, like-order, unlike-below, unlike-not-above}
 
 -- a number of sign s is of the format where its magnitude is
 module _ (F : Format) (s m : ℕ) where
-  signed-format : Representable F m → OfFormat F (signedNumber s m)
+  pub signed-format : Representable F m → OfFormat F (signedNumber s m)
   signed-format r = subst (Representable F) (sym (signed-magnitude s m)) r
 
   pub format-magnitude : OfFormat F (signedNumber s m) → Representable F m
@@ -52,34 +53,36 @@ module _ (F : Format) (s X : ℕ) where
             (λ m r h. unlike-below s m R);
       }
 
-  -- no number of the format is nearer, of either sign
-  pub signed-nearest : Closest apart (OfFormat F) (signedNumber s X) (signedNumber s (roundedMagnitude F Nearest X))
-  signed-nearest =
-      let R = roundedMagnitude F Nearest X in
-      let g = rounded-nearest F X in
-      record {
-        member = signed-format F s R (g .member);
-        closest =
-            by-sign s (λ n. OfFormat F n → apart (signedNumber s R) (signedNumber s X) ≤ apart n (signedNumber s X))
-            (λ m r. rw (like-apart s R X, like-apart s m X) (g .closest m (format-magnitude F s m r)))
-            (λ m r. rw (like-apart s R X, unlike-apart s (suc m) X) (omega (arith, g .closest 0 (zero-representable F))));
-      }
+  -- to the nearest: no number of the format is nearer, of either sign, and another one that is as near has this sign
+  module _ (d : Direction) (near : GoesToNearest d) where
+    pub signed-closest : Closest apart (OfFormat F) (signedNumber s X) (signedNumber s (roundedMagnitude F d X))
+    signed-closest =
+        let R = roundedMagnitude F d X in
+        let g = rounded-nearest F X d near in
+        record {
+          member = signed-format F s R (g .member);
+          closest =
+              by-sign s (λ n. OfFormat F n → apart (signedNumber s R) (signedNumber s X) ≤ apart n (signedNumber s X))
+              (λ m r. rw (like-apart s R X, like-apart s m X) (g .closest m (format-magnitude F s m r)))
+              (λ m r. rw (like-apart s R X, unlike-apart s (suc m) X) (omega (arith, g .closest 0 (zero-representable F))));
+        }
 
-  -- where another number is as near, the significand is even
-  signed-tie : Supported F → (n : ℤ) → OfFormat F n → (n ≡ signedNumber s (roundedMagnitude F Nearest X) → ⊥)
-      → apart n (signedNumber s X) ≡ apart (signedNumber s (roundedMagnitude F Nearest X)) (signedNumber s X)
-      → EvenNumber F (signedNumber s (roundedMagnitude F Nearest X))
-  signed-tie ok =
-      let R = roundedMagnitude F Nearest X in
-      by-sign s (λ n. OfFormat F n → (n ≡ signedNumber s R → ⊥) → apart n (signedNumber s X) ≡ apart (signedNumber s R) (signedNumber s X) → EvenNumber F (signedNumber s R))
-      (λ m r ne e. record {
-        word = magnitudeWord F Nearest X;
-        is = sym (signed-magnitude s R);
-        even = tie-even F ok X m (format-magnitude F s m r) (λ q. ne (ap (signedNumber s) q)) (sym (like-apart s m X) ∙ e ∙ like-apart s R X);
-      })
-      (λ m r ne e.
-      let q : suc m + X ≡ distance R X = sym (unlike-apart s (suc m) X) ∙ e ∙ like-apart s R X in
-      absurd (omega (arith, rounded-nearest F X .closest 0 (zero-representable F))))
+    signed-nearest : (preferred : ℤ → ℤ → Type 0)
+        → ((m : ℕ) → Representable F m → (m ≡ roundedMagnitude F d X → ⊥) → distance m X ≡ distance (roundedMagnitude F d X) X
+        → preferred (signedNumber s (roundedMagnitude F d X)) (signedNumber s m))
+        → Nearest preferred F (signedNumber s X) (signedNumber s (roundedMagnitude F d X))
+    signed-nearest preferred tied =
+        let R = roundedMagnitude F d X in
+        record {
+          nearest = signed-closest;
+          tie =
+              by-sign s
+              (λ n. OfFormat F n → (n ≡ signedNumber s R → ⊥) → apart n (signedNumber s X) ≡ apart (signedNumber s R) (signedNumber s X) → preferred (signedNumber s R) n)
+              (λ m r ne e. tied m (format-magnitude F s m r) (λ q. ne (ap (signedNumber s) q)) (sym (like-apart s m X) ∙ e ∙ like-apart s R X))
+              (λ m r ne e.
+              let q : suc m + X ≡ distance R X = sym (unlike-apart s (suc m) X) ∙ e ∙ like-apart s R X in
+              absurd (omega (arith, rounded-nearest F X d near .closest 0 (zero-representable F))));
+        }
 
   -- of the numbers that are no greater in magnitude, none is nearer
   pub signed-toward-zero : Closest apart (λ n. OfFormat F n × (natAbs n ≤ natAbs (signedNumber s X))) (signedNumber s X) (signedNumber s (roundedMagnitude F TowardZero X))
@@ -124,17 +127,30 @@ toward-zero zero h = refl
 toward-zero (suc zero) h = refl
 toward-zero (suc (suc s)) h = absurd (omega arith)
 
-nearest : (s : ℕ) → direction 0 s ≡ Nearest
+-- modes 0 and 4 round to the nearest
+pub rounded-even : (F : Format) → Supported F → (s X : ℕ) → RoundsTo F 0 (signedNumber s X) (signedNumber s (roundedMagnitude F (direction 0 s) X))
 unfolding direction
-nearest s = refl
+rounded-even F ok s X =
+    signed-nearest F s X NearestEven nearest-even (λ r n. EvenNumber F r) (λ m r ne e. record {
+      word = magnitudeWord F NearestEven X;
+      is = sym (signed-magnitude s (roundedMagnitude F NearestEven X));
+      even = tie-even F ok X m r ne e;
+    })
+
+pub rounded-ties-away : (F : Format) (s X : ℕ) → RoundsTo F 4 (signedNumber s X) (signedNumber s (roundedMagnitude F (direction 4 s) X))
+unfolding direction
+rounded-ties-away F s X =
+    signed-nearest F s X NearestAway nearest-away (λ r n. natAbs n < natAbs r)
+    (λ m r ne e. rw (signed-magnitude s m, signed-magnitude s (roundedMagnitude F NearestAway X)) (tie-away F X m r ne e))
 
 -- each mode does what the standard says
-pub rounds-to : (F : Format) → Supported F → (mode s X : ℕ) → mode < 4 → s < 2 → RoundsTo F mode (signedNumber s X) (signedNumber s (roundedMagnitude F (direction mode s) X))
-rounds-to F ok zero s X hm hs = rw (nearest s) (record { nearest = signed-nearest F s X; tie = signed-tie F s X ok })
+pub rounds-to : (F : Format) → Supported F → (mode s X : ℕ) → mode ≤ mostMode → s < 2 → RoundsTo F mode (signedNumber s X) (signedNumber s (roundedMagnitude F (direction mode s) X))
+rounds-to F ok zero s X hm hs = rounded-even F ok s X
 rounds-to F ok (suc zero) s X hm hs = rw (toward-zero s hs) (signed-toward-zero F s X)
 rounds-to F ok (suc (suc zero)) s X hm hs = rounded-up F s X hs
 rounds-to F ok (suc (suc (suc zero))) s X hm hs = rounded-down F s X hs
-rounds-to F ok (suc (suc (suc (suc m)))) s X hm hs = absurd (omega arith)
+rounds-to F ok (suc (suc (suc (suc zero)))) s X hm hs = rounded-ties-away F s X
+rounds-to F ok (suc (suc (suc (suc (suc m))))) s X hm hs = absurd (omega arith)
 
 -- ---- order
 negative-below : (a b : ℕ) → negℤ (pos a) ≤ℤ pos b

@@ -14,7 +14,7 @@ use lib.Ieee.{Float, nan, inf, fin, binary32, emax, low, size, up, down, nearest
 use lib.Ieee.Fits.{down-pos, round-is}
 use lib.Ieee.Exact.{HasValue, units-val}
 use lib.Ieee.Nearest.{closest, closest-same}
-use Rattle.rounding.specs.declared.Direction.the-variants.{Nearest, TowardZero}
+use Rattle.rounding.specs.declared.Direction.the-variants.{NearestEven, TowardZero}
 use Rattle.word.specs.Word.{significand, signed, infinityWord}
 use Rattle.rounding.specs.Rounding.{increment, roundOff, dropped, magnitudeWord, overflowWord, boundedWord}
 use Rattle.rounding.proofs.AddConstant.{round-toward-zero}
@@ -34,14 +34,14 @@ nearest-tests q a b = go (compare a b) refl
     go Ordering·gt e = rw (lt-ltb b a (nleb→lt a b (subst (λ (o : Ordering). T (not (isLe o))) (sym e) tt))) (omega arith)
 
 -- the quotient to the nearest is the kept part, rounded
-closest-kept : (X k : ℕ) → closest X (2 ^ k) ≡ roundOff Nearest X k
+closest-kept : (X k : ℕ) → closest X (2 ^ k) ≡ roundOff NearestEven X k
 unfolding roundOff increment
 closest-kept X k =
     nearest-tests (X / 2 ^ k) (X % 2 ^ k * 2) (2 ^ k)
     ∙ ap (λ (n : ℕ). X / 2 ^ k + cond (ltb (2 ^ k) n) 1 (cond (eqb n (2 ^ k)) (X / 2 ^ k % 2) 0)) (mul-comm (X % 2 ^ k) 2)
 
 -- X smallest steps, rounded
-round-steps : (s : Bool) (X : ℕ) → round binary32 s X (2 ^ low binary32) ≡ units binary32 s (roundOff Nearest X (dropped single X)) (dropped single X)
+round-steps : (s : Bool) (X : ℕ) → round binary32 s X (2 ^ low binary32) ≡ units binary32 s (roundOff NearestEven X (dropped single X)) (dropped single X)
 round-steps s X =
     round-is binary32 s X L ∙ ap (λ (n : ℕ). units binary32 s (closest (X * L) (L * 2 ^ (size n - 24))) (size n - 24)) (mul-div-cancel X (pow-pos (low binary32)))
     ∙ ap (λ (n : ℕ). units binary32 s n k) (closest-same (X * L) (L * 2 ^ k) X (2 ^ k) (mul-pos (pow-pos (low binary32)) (pow-pos k)) (pow-pos k) (mul-assoc X L (2 ^ k)) ∙ closest-kept X k)
@@ -93,29 +93,29 @@ not-below : {m n : ℕ} → (m < n → ⊥) → n ≤ m
 not-below h = omega arith
 
 -- X smallest steps rounded and written are the word of the rounded magnitude
-pub rounded-bits : (s : Bool) (X : ℕ) → toBits binary32 (round binary32 s X (2 ^ low binary32)) ≡ signed single (signBit s) (boundedWord single Nearest X)
+pub rounded-bits : (s : Bool) (X : ℕ) → toBits binary32 (round binary32 s X (2 ^ low binary32)) ≡ signed single (signBit s) (boundedWord single NearestEven X)
 unfolding overflowWord
 rounded-bits s X = ap (toBits binary32) (round-steps s X) ∙ go (decLt m (infinityWord single))
   where
     m : ℕ
-    m = magnitudeWord single Nearest X
+    m = magnitudeWord single NearestEven X
 
     k : ℕ
     k = dropped single X
 
     Y : ℕ
-    Y = roundOff Nearest X (dropped single X)
+    Y = roundOff NearestEven X (dropped single X)
 
-    R : roundedMagnitude single Nearest X ≡ Y * 2 ^ k
-    R = rounded-kept single Nearest X
+    R : roundedMagnitude single NearestEven X ≡ Y * 2 ^ k
+    R = rounded-kept single NearestEven X
 
-    go : Dec (m < infinityWord single) → toBits binary32 (units binary32 s Y k) ≡ signed single (signBit s) (boundedWord single Nearest X)
+    go : Dec (m < infinityWord single) → toBits binary32 (units binary32 s Y k) ≡ signed single (signBit s) (boundedWord single NearestEven X)
     go (yes h) =
         let l : Y * 2 ^ k < 2 ^ (low binary32 + suc (emax binary32)) = subst (λ (n : ℕ). n < 2 ^ (low binary32 + suc (emax binary32))) R (infinity-steps m .0 h) in
         value-bits (units binary32 s Y k) s (Y * 2 ^ k) (units-val binary32 s Y k l)
         ∙ ap (λ (n : ℕ). signed single (signBit s) (magnitudeWord single TowardZero n)) (sym R)
-        ∙ ap (signed single (signBit s)) (word-encoded single TowardZero m ∙ sym (bounded-within single Nearest X h))
+        ∙ ap (signed single (signBit s)) (word-encoded single TowardZero m ∙ sym (bounded-within single NearestEven X h))
     go (no h) =
         ap (toBits binary32)
         (units-past s Y k (not-below (λ l. h (infinity-steps m .1 (subst (λ (n : ℕ). n < 2 ^ (low binary32 + suc (emax binary32))) (sym R) l)))))
-        ∙ infinite-bits s ∙ ap (signed single (signBit s)) (sym (bounded-past single Nearest X (not-below h)))
+        ∙ infinite-bits s ∙ ap (signed single (signBit s)) (sym (bounded-past single NearestEven X (not-below h)))

@@ -17,7 +17,7 @@ use Rattle.format.specs.Format.{Supported}
 use Rattle.word.specs.declared.Finite as record-of
 use Rattle.word.specs.declared.Operand as kind
 use Rattle.word.specs.declared.Operand.the-variants.{Finite, Infinite, Nan}
-use Rattle.rounding.specs.declared.Direction.the-variants.{Nearest}
+use Rattle.rounding.specs.declared.Direction.the-variants.{NearestEven}
 use Rattle.word.specs.Word.{fraction, biased, sign, significand, signed, effective}
 use Rattle.word.specs.Operand.{operandOf, magnitude, Sound}
 use Rattle.rounding.specs.Rounding.{direction, boundedWord, rounded, cancelledSign}
@@ -81,7 +81,7 @@ module _ (a b c A B : ℕ) (pos : 0 < c) (p : a * 2 ^ low binary32 ≡ A * c) (q
   less = mul-sub-right a b (2 ^ low binary32) ∙ ap₂ _-_ p q ∙ sym (mul-sub-right A B c)
 
 -- a fraction of X smallest steps, rounded and written
-steps-bits : (s : Bool) (n c X : ℕ) → 0 < c → n * 2 ^ low binary32 ≡ X * c → toBits binary32 (round binary32 s n c) ≡ signed single (signBit s) (boundedWord single Nearest X)
+steps-bits : (s : Bool) (n c X : ℕ) → 0 < c → n * 2 ^ low binary32 ≡ X * c → toBits binary32 (round binary32 s n c) ≡ signed single (signBit s) (boundedWord single NearestEven X)
 steps-bits s n c X pos e = ap (toBits binary32) (round-same binary32 s n c X (2 ^ low binary32) pos (pow-pos (low binary32)) e) ∙ rounded-bits s X
 
 cond-bits : (t : Bool) (u v : Float) (m n : ℕ) → toBits binary32 u ≡ m → toBits binary32 v ≡ n → toBits binary32 (cond t u v) ≡ cond t m n
@@ -90,14 +90,14 @@ cond-bits false u v m n hu hv = hv
 
 sum-bits : (s t : Bool) (a b c A B : ℕ) → 0 < c → a * 2 ^ low binary32 ≡ A * c → b * 2 ^ low binary32 ≡ B * c
     → toBits binary32 (sum binary32 s a t b c)
-    ≡ cond (Bool·beq s t) (signed single (signBit s) (boundedWord single Nearest (A + B)))
-    (cond (ltb A B) (signed single (signBit t) (boundedWord single Nearest (B - A))) (signed single (signBit (s && ltb B A)) (boundedWord single Nearest (A - B))))
+    ≡ cond (Bool·beq s t) (signed single (signBit s) (boundedWord single NearestEven (A + B)))
+    (cond (ltb A B) (signed single (signBit t) (boundedWord single NearestEven (B - A))) (signed single (signBit (s && ltb B A)) (boundedWord single NearestEven (A - B))))
 unfolding sum
 sum-bits s t a b c A B pos p q =
     cond-bits (Bool·beq s t) _ _ _ _ (steps-bits s (a + b) c (A + B) pos (plus a b c A B pos p q))
     (cond-bits (ltb a b) _ _ _ _ (steps-bits t (b - a) c (B - A) pos (less b a c B A pos q p)) (steps-bits (s && ltb b a) (a - b) c (A - B) pos (less a b c A B pos p q)))
-    ∙ ap₂ (λ (l g : Bool). cond (Bool·beq s t) (signed single (signBit s) (boundedWord single Nearest (A + B)))
-    (cond l (signed single (signBit t) (boundedWord single Nearest (B - A))) (signed single (signBit (s && g)) (boundedWord single Nearest (A - B)))))
+    ∙ ap₂ (λ (l g : Bool). cond (Bool·beq s t) (signed single (signBit s) (boundedWord single NearestEven (A + B)))
+    (cond l (signed single (signBit t) (boundedWord single NearestEven (B - A))) (signed single (signBit (s && g)) (boundedWord single NearestEven (A - B)))))
     (same-order a b c A B pos p q) (same-order b a c B A pos q p)
 
 -- ---- the cases of the finite sum
@@ -115,24 +115,24 @@ sign-dropped false = refl
 
 -- unlike signs, the second not the larger: an exact zero is +
 not-larger : (s P A B : ℕ) → s < 2
-    → cond (ltb A B) P (signed single (signBit (eqb s 1 && ltb B A)) (boundedWord single Nearest (A - B)))
+    → cond (ltb A B) P (signed single (signBit (eqb s 1 && ltb B A)) (boundedWord single NearestEven (A - B)))
     ≡ cond (ltb A B) P (cond (ltb B A) (rounded single 0 s (A - B)) (signed single (cancelledSign 0) 0))
 unfolding direction cancelledSign
 not-larger s P A B hs = go (decLt A B) (decLt B A)
   where
     go : Dec (A < B) → Dec (B < A)
-        → cond (ltb A B) P (signed single (signBit (eqb s 1 && ltb B A)) (boundedWord single Nearest (A - B)))
-        ≡ cond (ltb A B) P (cond (ltb B A) (signed single s (boundedWord single Nearest (A - B))) (signed single 0 0))
+        → cond (ltb A B) P (signed single (signBit (eqb s 1 && ltb B A)) (boundedWord single NearestEven (A - B)))
+        ≡ cond (ltb A B) P (cond (ltb B A) (signed single s (boundedWord single NearestEven (A - B))) (signed single 0 0))
     go (yes l) g = rw (lt-ltb A B l)
-    go (no l) (yes g) = rw (le-ltb A B (omega arith), lt-ltb B A g) (ap (λ (n : ℕ). signed single n (boundedWord single Nearest (A - B))) (sign-kept s hs))
+    go (no l) (yes g) = rw (le-ltb A B (omega arith), lt-ltb B A g) (ap (λ (n : ℕ). signed single n (boundedWord single NearestEven (A - B))) (sign-kept s hs))
     go (no l) (no g) =
         let none : A - B ≡ 0 = omega arith in
         rw (le-ltb A B (omega arith), le-ltb B A (omega arith))
-        (ap₂ (λ (n m : ℕ). signed single n (boundedWord single Nearest m)) (sign-dropped (eqb s 1)) none ∙ rounded-zero single single-supported 0 0)
+        (ap₂ (λ (n m : ℕ). signed single n (boundedWord single NearestEven m)) (sign-dropped (eqb s 1)) none ∙ rounded-zero single single-supported 0 0)
 
 finite-cases : (s t A B : ℕ) → s < 2 → t < 2
-    → cond (Bool·beq (eqb s 1) (eqb t 1)) (signed single (signBit (eqb s 1)) (boundedWord single Nearest (A + B)))
-    (cond (ltb A B) (signed single (signBit (eqb t 1)) (boundedWord single Nearest (B - A))) (signed single (signBit (eqb s 1 && ltb B A)) (boundedWord single Nearest (A - B))))
+    → cond (Bool·beq (eqb s 1) (eqb t 1)) (signed single (signBit (eqb s 1)) (boundedWord single NearestEven (A + B)))
+    (cond (ltb A B) (signed single (signBit (eqb t 1)) (boundedWord single NearestEven (B - A))) (signed single (signBit (eqb s 1 && ltb B A)) (boundedWord single NearestEven (A - B))))
     ≡ cond (eqb s t) (rounded single 0 s (A + B))
     (cond (ltb A B) (rounded single 0 t (B - A)) (cond (ltb B A) (rounded single 0 s (A - B)) (signed single (cancelledSign 0) 0)))
 unfolding direction

@@ -1,10 +1,11 @@
 -- The rounded result is exactly the word that the standard asks for: it is one such word, and the only one. Assumes nothing.
 use mathlib.Core.Path.{_≡_, sym, subst}
 use mathlib.Core.Logic.{_⊎_, inl, inr, _↔_}
-use Prim.Native.Nat.{ℕ, _-_, _^_, _<_}
+use Prim.Native.Nat.{ℕ, _-_, _^_, _≤_, _<_}
 use native.Mathlib.Decide.{ℕ-discrete}
 use Rattle.format.specs.declared.Format.{Format}
 use Rattle.format.specs.Format.{Supported, wordBits}
+use Rattle.format.specs.Limits.{mostMode}
 use Rattle.word.specs.Word.{fraction, biased, sign}
 use Rattle.adder.specs.Result.{result}
 use Rattle.adder.proofs.ResultLaws.{result-lt}
@@ -26,7 +27,7 @@ word-kind F x = go (ℕ-discrete (biased F x .0) (2 ^ F .w - 1)) (ℕ-discrete (
     go (yes e) (yes t) = inr (inl (e, t))
     go (yes e) (no t) = inr (inr (e, t))
 
-module _ (F : Format) (ok : Supported F) (operation mode a b : ℕ) (ho : operation < 2) (hm : mode < 4) where
+module _ (F : Format) (ok : Supported F) (operation mode a b : ℕ) (ho : operation < 2) (hm : mode ≤ mostMode) where
   pub result-standard : StandardSum F operation mode a b (result F operation mode a b)
   result-standard = record {
     special = result-special F ok operation mode a b;

@@ -11,6 +11,7 @@ use lib.Dec.{ltb, eqb}
 use lib.IntN.{ℤ, pos, negℤ, natAbs, _+ℤ_, negℤ-+ℤ, negℤ-negℤ, +ℤ-comm}
 use Rattle.format.specs.declared.Format.{Format}
 use Rattle.format.specs.Format.{Supported}
+use Rattle.format.specs.Limits.{mostMode}
 use Rattle.word.specs.declared.Finite.{Finite}
 use Rattle.word.specs.Word.{sign, significand, effective}
 use Rattle.word.specs.Operand.{finiteOf, magnitude}
@@ -110,7 +111,7 @@ past-pos F mode s zero h = absurd (omega (arith, representable-rounds-to-itself 
 past-pos F mode s (suc X) h = omega arith
 
 -- a rounded sign and magnitude in the standard's words
-pub rounded-word : (F : Format) → Supported F → (mode s X : ℕ) → mode < 4 → s < 2 → RoundedWord F mode (signedNumber s X) (rounded F mode s X)
+pub rounded-word : (F : Format) → Supported F → (mode s X : ℕ) → mode ≤ mostMode → s < 2 → RoundedWord F mode (signedNumber s X) (rounded F mode s X)
 rounded-word F ok mode s X hm hs =
     let R = roundedMagnitude F (direction mode s) X in
     let e = signed-magnitude s R in
@@ -159,7 +160,7 @@ module _ (F : Format) (ok : Supported F) (operation mode a b : ℕ) (ho : operat
       exact-sum mode (finiteOf F a) (finiteOf F (effective F operation b)) (sign-lt F a) (sign-lt F (effective F operation b)) ∙ exact-effective F operation a b ho
 
   -- c is the exact sum or difference, rounded
-  pub result-rounded : mode < 4 → RoundedWord F mode (exactNumber F operation a b) (result F operation mode a b)
+  pub result-rounded : mode ≤ mostMode → RoundedWord F mode (exactNumber F operation a b) (result F operation mode a b)
   result-rounded hm =
       subst₂ (RoundedWord F mode) exact-is (sym (result-exact F ok operation mode a b fa fb))
       (rounded-word F ok mode (exactSign mode (finiteOf F a) (finiteOf F (effective F operation b))) (exactMagnitude (finiteOf F a) (finiteOf F (effective F operation b))) hm exact-lt)

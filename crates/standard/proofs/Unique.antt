@@ -10,7 +10,8 @@ use lib.IntN.{ℤ, pos, negsuc, natAbs, ℤ-discrete}
 use lib.Signed.{_≤ℤ_}
 use Rattle.format.specs.declared.Format.{Format}
 use Rattle.format.specs.Format.{Supported, wordBits}
-use Rattle.rounding.specs.declared.Direction.the-variants.{Nearest, TowardZero}
+use Rattle.format.specs.Limits.{mostMode}
+use Rattle.rounding.specs.declared.Direction.the-variants.{TowardZero}
 use Rattle.word.specs.Word.{sign}
 use Rattle.word.specs.Operand.{finiteOf, magnitude}
 use Rattle.rounding.specs.Rounding.{magnitudeWord}
@@ -18,16 +19,16 @@ use Rattle.adder.specs.Result.{result}
 use Rattle.adder.proofs.ResultLaws.{result-lt}
 use Rattle.standard.specs.Representable.{Representable, magnitudeOf, EvenWord, largest, roundedMagnitude}
 use Rattle.standard.specs.Rounds.{GreatestNotAbove, LeastNotBelow, Closest, distance}
-use Rattle.standard.specs.Number.{signedNumber, FiniteWord, OfFormat, apart, TiesToEven, RoundsTo}
+use Rattle.standard.specs.Number.{signedNumber, FiniteWord, OfFormat, apart, EvenNumber, Nearest, RoundsTo}
 use Rattle.standard.specs.Sum.{exactNumber, signOf, RoundedWord, SignOfSum}
 use Rattle.standard.specs.Fields.{effectiveSign}
 use Rattle.standard.proofs.Fields.{overflow-unique}
 use Rattle.standard.proofs.Magnitudes.{magnitude-representable, word-order}
-use Rattle.standard.proofs.Rounding.{rounded-toward-zero, rounded-nearest, zero-representable, significand-parity, tie-even}
+use Rattle.standard.proofs.Rounding.{rounded-toward-zero, zero-representable, significand-parity}
 use Rattle.standard.proofs.Integers.{signed-magnitude, signed-same, like-apart, unlike-apart, by-sign}
 use Rattle.standard.proofs.Words.{encoding-unique}
 use Rattle.standard.proofs.Sums.{result-rounded, result-sign}
-use Rattle.standard.proofs.Signed.{format-magnitude, signed-nearest, signed-toward-zero}
+use Rattle.standard.proofs.Signed.{signed-format, format-magnitude, signed-toward-zero}
 
 -- ---- up and down
 antisymmetric : (m n : ℤ) → m ≤ℤ n → n ≤ℤ m → m ≡ n
@@ -91,52 +92,71 @@ module _ (F : Format) (ok : Supported F) where
       go (no l) (yes g) = absurd (one-odd w v X g (sym e) (λ n r. rw (sym e) (near n r)) ew ev)
       go (no l) (no g) = omega arith
 
-  nearest-only : (s X : ℕ) (r : ℤ) → TiesToEven F (signedNumber s X) r → r ≡ signedNumber s (roundedMagnitude F Nearest X)
-  nearest-only s X =
-      let R = roundedMagnitude F Nearest X in
-      let g = rounded-nearest F X in
-      by-sign s (λ r. TiesToEven F (signedNumber s X) r → r ≡ signedNumber s R)
-      (λ m c.
-      let d : distance m X ≤ distance R X = subst₂ (λ (i j : ℕ). i ≤ j) (like-apart s m X) (like-apart s R X) (c .nearest .closest (signedNumber s R) (signed-nearest F s X .member)) in
-      let r = format-magnitude F s m (c .nearest .member) in
-      ap (signedNumber s) (go m c r (le-antisymm d (g .closest m r)) (ℕ-discrete m R)))
-      (λ m c.
-      let d : suc m + X ≤ distance R X = subst₂ (λ (i j : ℕ). i ≤ j) (unlike-apart s (suc m) X) (like-apart s R X) (c .nearest .closest (signedNumber s R) (signed-nearest F s X .member)) in
-      absurd (omega (arith, g .closest 0 (zero-representable F))))
+-- of the numbers near a number of sign s the closest has that sign, and a magnitude that is the closest
+closest-magnitude : (F : Format) (s X : ℕ) (P : ℤ → Type 0) → ((m : ℕ) → Closest distance (Representable F) X m → P (signedNumber s m)) → (r : ℤ)
+    → Closest apart (OfFormat F) (signedNumber s X) r → P r
+closest-magnitude F s X P like =
+    by-sign s (λ r. Closest apart (OfFormat F) (signedNumber s X) r → P r)
+    (λ m c. like m (record {
+      member = format-magnitude F s m (c .member);
+      closest = λ n r. subst₂ (λ (i j : ℕ). i ≤ j) (like-apart s m X) (like-apart s n X) (c .closest (signedNumber s n) (signed-format F s n r));
+    }))
+    (λ m c.
+    let d : suc m + X ≤ distance 0 X =
+    subst₂ (λ (i j : ℕ). i ≤ j) (unlike-apart s (suc m) X) (like-apart s 0 X) (c .closest (signedNumber s 0) (signed-format F s 0 (zero-representable F))) in
+    absurd (omega arith))
+
+-- of two numbers that are both the closest only one is preferred to the other: then there is one
+module _ (F : Format) (s X : ℕ) (preferred : ℤ → ℤ → Type 0)
+    (not-both : (m n : ℕ) → Closest distance (Representable F) X m → Closest distance (Representable F) X n
+    → preferred (signedNumber s m) (signedNumber s n) → preferred (signedNumber s n) (signedNumber s m) → m ≡ n) where
+  nearest-unique : (r q : ℤ) → Nearest preferred F (signedNumber s X) r → Nearest preferred F (signedNumber s X) q → r ≡ q
+  nearest-unique r q g h =
+      closest-magnitude F s X (λ r. Nearest preferred F (signedNumber s X) r → r ≡ q)
+      (λ m c g.
+      closest-magnitude F s X (λ q. Nearest preferred F (signedNumber s X) q → signedNumber s m ≡ q) (λ n d h. ap (signedNumber s) (same m n c d g h (ℕ-discrete m n))) q (h .nearest) h)
+      r (g .nearest) g
     where
-      go : (m : ℕ) → TiesToEven F (signedNumber s X) (signedNumber s m) → Representable F m → distance m X ≡ distance (roundedMagnitude F Nearest X) X
-          → Dec (m ≡ roundedMagnitude F Nearest X) → m ≡ roundedMagnitude F Nearest X
-      go m c r e (yes q) = q
-      go m c r e (no ne) =
-          let R = roundedMagnitude F Nearest X in
-          let t =
-          c .tie (signedNumber s R) (signed-nearest F s X .member) (λ q. ne (sym (signed-same s R m q)))
-          (like-apart s R X ∙ sym e ∙ sym (like-apart s m X)) in
-          let w : magnitudeOf F (t .word) ≡ m = t .is ∙ signed-magnitude s m in
-          let d : distance (magnitudeOf F (t .word)) X ≡ distance R X = ap (λ (k : ℕ). distance k X) w ∙ e in
-          sym w
-          ∙ ap (magnitudeOf F) (both-even (t .word) (magnitudeWord F Nearest X) X d (λ n q. rw d (rounded-nearest F X .closest n q)) (t .even) (tie-even F ok X m r ne e))
+      same : (m n : ℕ) → Closest distance (Representable F) X m → Closest distance (Representable F) X n → Nearest preferred F (signedNumber s X) (signedNumber s m)
+          → Nearest preferred F (signedNumber s X) (signedNumber s n) → Dec (m ≡ n) → m ≡ n
+      same m n c d g h (yes e) = e
+      same m n c d g h (no ne) =
+          let near : distance m X ≡ distance n X = le-antisymm (c .closest n (d .member)) (d .closest m (c .member)) in
+          let apart-is : apart (signedNumber s n) (signedNumber s X) ≡ apart (signedNumber s m) (signedNumber s X) = like-apart s n X ∙ sym near ∙ sym (like-apart s m X) in
+          not-both m n c d
+          (g .tie (signedNumber s n) (h .nearest .member) (λ e. ne (sym (signed-same s n m e))) apart-is)
+          (h .tie (signedNumber s m) (g .nearest .member) (λ e. ne (signed-same s m n e)) (sym apart-is))
+
+even-not-both : (F : Format) → Supported F → (s X m n : ℕ) → Closest distance (Representable F) X m → Closest distance (Representable F) X n
+    → EvenNumber F (signedNumber s m) → EvenNumber F (signedNumber s n) → m ≡ n
+even-not-both F ok s X m n c d em en =
+    let v : magnitudeOf F (em .word) ≡ m = em .is ∙ signed-magnitude s m in
+    let w : magnitudeOf F (en .word) ≡ n = en .is ∙ signed-magnitude s n in
+    let near : distance m X ≡ distance n X = le-antisymm (c .closest n (d .member)) (d .closest m (c .member)) in
+    sym v
+    ∙ ap (magnitudeOf F)
+    (both-even F ok (em .word) (en .word) X (ap (λ (k : ℕ). distance k X) v ∙ near ∙ ap (λ (k : ℕ). distance k X) (sym w)) (λ k r. rw v (c .closest k r)) (em .even) (en .even))
+    ∙ w
+
+larger-not-both : (s m n : ℕ) → natAbs (signedNumber s n) < natAbs (signedNumber s m) → natAbs (signedNumber s m) < natAbs (signedNumber s n) → m ≡ n
+larger-not-both s m n h g = absurd (omega arith)
 
 -- every number has a sign and a magnitude
-signed-whole : (z : ℤ) → z ≡ signedNumber (signOf z) (natAbs z)
-signed-whole (pos n) = refl
-signed-whole (negsuc n) = refl
+by-magnitude : (P : ℤ → Type 0) → ((s X : ℕ) → P (signedNumber s X)) → (z : ℤ) → P z
+by-magnitude P at (pos n) = at 0 n
+by-magnitude P at (negsuc n) = at 1 (suc n)
 
 -- the standard's words leave one number
 pub rounds-unique : (F : Format) → Supported F → (mode : ℕ) (z r q : ℤ) → RoundsTo F mode z r → RoundsTo F mode z q → r ≡ q
-rounds-unique F ok zero z r q g h =
-    let e = signed-whole z in
-    let s = signOf z in
-    let X = natAbs z in
-    nearest-only F ok s X r (subst (λ (n : ℤ). TiesToEven F n r) e g) ∙ sym (nearest-only F ok s X q (subst (λ (n : ℤ). TiesToEven F n q) e h))
-rounds-unique F ok (suc zero) z r q g h =
-    let e = signed-whole z in
-    let s = signOf z in
-    let X = natAbs z in
-    toward-zero-only F s X r (subst (λ (n : ℤ). RoundsTo F 1 n r) e g) ∙ sym (toward-zero-only F s X q (subst (λ (n : ℤ). RoundsTo F 1 n q) e h))
-rounds-unique F ok (suc (suc zero)) z r q g h = least-unique g h
-rounds-unique F ok (suc (suc (suc zero))) z r q g h = greatest-unique g h
-rounds-unique F ok (suc (suc (suc (suc m)))) z r q g h = absurd g
+rounds-unique F ok zero z r q =
+    by-magnitude (λ z. RoundsTo F 0 z r → RoundsTo F 0 z q → r ≡ q) (λ s X. nearest-unique F s X (λ r n. EvenNumber F r) (even-not-both F ok s X) r q) z
+rounds-unique F ok (suc zero) z r q =
+    by-magnitude (λ z. RoundsTo F 1 z r → RoundsTo F 1 z q → r ≡ q) (λ s X g h. toward-zero-only F s X r g ∙ sym (toward-zero-only F s X q h)) z
+rounds-unique F ok (suc (suc zero)) z r q = least-unique
+rounds-unique F ok (suc (suc (suc zero))) z r q = greatest-unique
+rounds-unique F ok (suc (suc (suc (suc zero)))) z r q =
+    by-magnitude (λ z. RoundsTo F 4 z r → RoundsTo F 4 z q → r ≡ q) (λ s X. nearest-unique F s X (λ r n. natAbs n < natAbs r) (λ m n c d. larger-not-both s m n) r q) z
+rounds-unique F ok (suc (suc (suc (suc (suc m))))) z r q = absurd
 
 -- ---- and one word
 module _ (F : Format) (ok : Supported F) (operation mode a b c d : ℕ) where
@@ -166,7 +186,7 @@ module _ (F : Format) (ok : Supported F) (operation mode a b c d : ℕ) where
           (sym (signed-magnitude (sign F c) (magnitude (finiteOf F c))) ∙ ap natAbs (p .1 ∙ same ∙ sym (q .1)) ∙ signed-magnitude (sign F d) (magnitude (finiteOf F d)))
 
 -- a word that is what the standard asks of the sum of two finite words is the rounded result
-pub result-only : (F : Format) → Supported F → (operation mode a b c : ℕ) → operation < 2 → mode < 4 → FiniteWord F a → FiniteWord F b → c < 2 ^ wordBits F
+pub result-only : (F : Format) → Supported F → (operation mode a b c : ℕ) → operation < 2 → mode ≤ mostMode → FiniteWord F a → FiniteWord F b → c < 2 ^ wordBits F
     → RoundedWord F mode (exactNumber F operation a b) c → SignOfSum F operation mode a b c → c ≡ result F operation mode a b
 result-only F ok operation mode a b c ho hm fa fb hc g s =
     word-unique F ok operation mode a b c (result F operation mode a b) hc (result-lt F ok operation mode a b) g

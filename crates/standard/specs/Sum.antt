@@ -1,5 +1,5 @@
 -- The rounded sum of two finite words, in the standard's words: the exact sum is the integers' own, and c is it, rounded, or what an overflow
--- gives (IEEE 754, "Overflow"; document 01, "The rounded result"). Assumes nothing.
+-- gives (IEEE 754, "Overflow"; document 01, "The rounded result"; document 02, W-201). Assumes nothing.
 use mathlib.Core.Path.{_≡_}
 use Prim.Native.Nat.{ℕ, zero, suc, _≤_, _<_}
 use lib.IntN.{ℤ, pos, negsuc, natAbs, _+ℤ_, _-ℤ_}
@@ -19,8 +19,8 @@ abbrev pub signOf : ℤ → ℕ
 signOf (pos n) = 0
 signOf (negsuc n) = 1
 
--- overflow: mode 0 gives infinity, mode 1 the largest finite number, each of the exact sign; mode 2 plus infinity or the most negative
--- finite number, mode 3 minus infinity or the largest finite number; no other number is a mode
+-- overflow: modes 0 and 4 give infinity, mode 1 the largest finite number, each of the exact sign; mode 2 plus infinity or the most
+-- negative finite number, mode 3 minus infinity or the largest finite number; no other number is a mode
 abbrev pub Overflow : Format → ℕ → ℕ → ℕ → Type 0
 Overflow F zero s c = Infinity F s c
 Overflow F (suc zero) s c = LargestFinite F s c
@@ -28,7 +28,8 @@ Overflow F (suc (suc zero)) zero c = Infinity F 0 c
 Overflow F (suc (suc zero)) (suc s) c = LargestFinite F 1 c
 Overflow F (suc (suc (suc zero))) zero c = LargestFinite F 0 c
 Overflow F (suc (suc (suc zero))) (suc s) c = Infinity F 1 c
-Overflow F (suc (suc (suc (suc m)))) s c = ⊥
+Overflow F (suc (suc (suc (suc zero)))) s c = Infinity F s c
+Overflow F (suc (suc (suc (suc (suc m))))) s c = ⊥
 
 -- c is the exact number z rounded to r as if exponents went on upward, or r overflows
 pub record RoundedWord (F : Format) (mode : ℕ) (z : ℤ) (c : ℕ) : Type 0 where

@@ -5,7 +5,7 @@ use std::time::Duration;
 
 use second::choice::Job;
 use second::fits::Conditions;
-use second::format::NO_CASE;
+use second::format::{LARGEST_MODE, NO_CASE};
 use second::mask::Mask;
 use second::record::encode;
 use vindacsor::Refusal;
@@ -57,5 +57,5 @@ pub fn case_13() -> Result<Vec<Spread>, String> {
         }
         Ok(Spread::of(each(RUNS, || vindacsor::generate(&record))))
     };
-    (0..4).map(timed).collect()
+    (0..=LARGEST_MODE).map(timed).collect()
 }

@@ -3,6 +3,7 @@
 use second::arith::Adder;
 use second::choice::Job;
 use second::fits::{Case, Conditions};
+use second::format::LARGEST_MODE;
 use second::mask::Mask;
 use second::random::Random;
 use second::record::encode;
@@ -130,7 +131,8 @@ fn job(random: &mut Random, (w, f): (u64, u64), kind: Kind) -> Job {
         Kind::Signs => 0,
         _ => random.below(2),
     };
-    let adder = Adder::new(w, f, operation, random.below(4)).expect("within the limits");
+    let adder =
+        Adder::new(w, f, operation, random.below(LARGEST_MODE + 1)).expect("within the limits");
     let conditions = conditions(random, &adder, kind);
     let width = adder.format.width();
     let words = [random.bits(width), random.bits(width)];

@@ -133,7 +133,7 @@ fn script(job: &Job, has_case: bool) -> String {
     let width = format.width();
     let float = format!("{} {}", format.exponent_bits(), format.precision());
     let operation = ["fp.add", "fp.sub"][conditions.operation as usize];
-    let mode = ["RNE", "RTZ", "RTP", "RTN"][conditions.mode as usize];
+    let mode = ["RNE", "RTZ", "RTP", "RTN", "RNA"][conditions.mode as usize];
     let mut script = String::from("(reset)\n");
     if !has_case {
         script += "(set-logic QF_BVFP)\n";

@@ -1,6 +1,6 @@
 //! What takes a job file: reading, confirmation and the case generator.
 
-use second::arith::Adder;
+use second::arith::{every_setting, Adder};
 use second::choice::{free_bits, generate, Job};
 use second::fits::{confirm, Case, Conditions};
 use second::format::{Refusal, CUT_SHORT};
@@ -153,7 +153,7 @@ pub fn small_generations(random: &mut Random, each: u64) -> Result<Tally, String
         if w + f + 1 > WIDTH {
             continue;
         }
-        for [operation, mode] in (0..8).map(|n| [n / 4, n % 4]) {
+        for [operation, mode] in every_setting() {
             let adder = Adder::new(w, f, operation, mode).expect("within the limits");
             let table = Table::new(adder).expect("a small format");
             for n in 0..each {

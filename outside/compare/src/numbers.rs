@@ -1,6 +1,6 @@
 //! The rounded result, the carry row and joining.
 
-use second::arith::rounded;
+use second::arith::{every_setting, rounded};
 use second::format::{Format, LARGEST_F, LARGEST_W, SMALLEST_F, SMALLEST_W};
 use second::mask::Mask;
 use second::random::Random;
@@ -27,7 +27,7 @@ pub fn every_adder() -> Vec<[u64; 4]> {
     let formats =
         (SMALLEST_W..=LARGEST_W).flat_map(|w| (SMALLEST_F..=LARGEST_F).map(move |f| (w, f)));
     formats
-        .flat_map(|(w, f)| (0..8).map(move |n| [w, f, n / 4, n % 4]))
+        .flat_map(|(w, f)| every_setting().map(move |[operation, mode]| [w, f, operation, mode]))
         .collect()
 }
 

@@ -3,7 +3,7 @@
 
 use second::choice::Job;
 use second::fits::Conditions;
-use second::format::NO_CASE;
+use second::format::{LARGEST_MODE, NO_CASE};
 use second::mask::Mask;
 use second::record::encode;
 use second::signs::refusal;
@@ -31,7 +31,7 @@ fn job(mode: u64) -> Job {
 
 #[test]
 fn no_case_in_any_mode() {
-    for mode in 0..4 {
+    for mode in 0..=LARGEST_MODE {
         let job = job(mode);
         assert_eq!(refusal(&job), Some(NO_CASE));
         let record = encode(&job).expect("a well-made job");
@@ -44,7 +44,7 @@ fn no_case_in_any_mode() {
 /// With any one of the three signs left free there is a case, and confirmation says yes to it.
 #[test]
 fn a_case_where_one_sign_is_free() {
-    for mode in 0..4 {
+    for mode in 0..=LARGEST_MODE {
         for free in 0..3 {
             let mut job = job(mode);
             let masks = &mut job.conditions;

@@ -43,7 +43,7 @@ fn random(width: u64, state: u64) -> u64 {
 fn job(state: u64) -> Job {
     let (w, f) = (2 + state % 7, 2 + state / 7 % 22);
     let width = w + f + 1;
-    let mut conditions = Conditions::free(w, f, state / 154 % 2, state / 308 % 4);
+    let mut conditions = Conditions::free(w, f, state / 154 % 2, state / 308 % 5);
     conditions.a = mask(width, after(state, 1));
     conditions.b = mask(width, after(state, 3));
     conditions.c = mask(width, after(state, 5));
@@ -53,8 +53,8 @@ fn job(state: u64) -> Job {
 }
 
 fn room(state: u64) -> usize {
-    match state / 1232 % 4 {
-        0 => (state / 4928 % 49) as usize,
+    match state / 1540 % 4 {
+        0 => (state / 6160 % 49) as usize,
         _ => 48,
     }
 }

@@ -1,9 +1,9 @@
-//! The rounded result (document 01, "The rounded result"). The exact sum is formed in
-//! smallest steps and compared with the two representable numbers around it.
+//! The rounded result (document 01, "The rounded result"; document 02, W-201). The exact sum is
+//! formed in smallest steps and compared with the two representable numbers around it.
 
 use std::cmp::Ordering;
 
-use crate::format::{Format, Refusal, UNKNOWN_MODE, UNKNOWN_OPERATION};
+use crate::format::{Format, Refusal, LARGEST_MODE, UNKNOWN_MODE, UNKNOWN_OPERATION};
 use crate::operand::{magnitude, Finite, Operand};
 use crate::wide::Wide;
 
@@ -38,6 +38,7 @@ pub enum Mode {
     TowardZero,
     Up,
     Down,
+    NearestAway,
 }
 
 impl Mode {
@@ -48,9 +49,15 @@ impl Mode {
             1 => Ok(Mode::TowardZero),
             2 => Ok(Mode::Up),
             3 => Ok(Mode::Down),
+            4 => Ok(Mode::NearestAway),
             _ => Err(UNKNOWN_MODE),
         }
     }
+}
+
+/// Every operation with every mode, by their numbers.
+pub fn every_setting() -> impl Iterator<Item = [u64; 2]> + Clone {
+    (0..=1).flat_map(|operation| (0..=LARGEST_MODE).map(move |mode| [operation, mode]))
 }
 
 /// Format, operation and mode, all within their limits.
@@ -130,12 +137,14 @@ impl Adder {
             Mode::TowardZero => false,
             Mode::Up => !negative,
             Mode::Down => negative,
-            Mode::NearestEven => match exact.minus(&low).cmp(&high.minus(exact)) {
-                Ordering::Less => false,
-                Ordering::Greater => true,
-                // The lowest bit of an index is the lowest bit of its significand.
-                Ordering::Equal => below % 2 == 1,
-            },
+            Mode::NearestEven | Mode::NearestAway => {
+                match exact.minus(&low).cmp(&high.minus(exact)) {
+                    Ordering::Less => false,
+                    Ordering::Greater => true,
+                    // The lowest bit of an index is the lowest bit of its significand.
+                    Ordering::Equal => self.mode == Mode::NearestAway || below % 2 == 1,
+                }
+            }
         };
         below + u64::from(away)
     }
@@ -143,7 +152,7 @@ impl Adder {
     /// What stands for a rounded magnitude above the largest finite number.
     fn overflow(&self, negative: bool) -> u64 {
         let infinite = match self.mode {
-            Mode::NearestEven => true,
+            Mode::NearestEven | Mode::NearestAway => true,
             Mode::TowardZero => false,
             Mode::Up => !negative,
             Mode::Down => negative,

@@ -1,5 +1,5 @@
 //! Limits, refusal numbers and the fixed words of a format
-//! (document 01, "Numbers of a format" and "Causes and replies").
+//! (document 01, "Numbers of a format" and "Causes and replies"; document 02, W-201).
 
 /// The number of a refusal, 1 to 13.
 pub type Refusal = u8;
@@ -10,7 +10,7 @@ pub const W_OUT_OF_RANGE: Refusal = 1;
 pub const F_OUT_OF_RANGE: Refusal = 2;
 /// Operation above 1.
 pub const UNKNOWN_OPERATION: Refusal = 3;
-/// Mode above 3.
+/// Mode above 4.
 pub const UNKNOWN_MODE: Refusal = 4;
 /// Mask bit above its width, or value outside care.
 pub const BAD_MASK: Refusal = 5;
@@ -35,6 +35,7 @@ pub const SMALLEST_W: u64 = 2;
 pub const LARGEST_W: u64 = 8;
 pub const SMALLEST_F: u64 = 2;
 pub const LARGEST_F: u64 = 23;
+pub const LARGEST_MODE: u64 = 4;
 
 /// A format within the limits. The fields are private so that no other can be made.
 #[derive(Clone, Copy, Debug, PartialEq, Eq)]

@@ -4,7 +4,7 @@
 use crate::arith::Adder;
 use crate::choice::Job;
 use crate::fits::{Case, Conditions};
-use crate::format::{Format, LARGEST_F, LARGEST_W, SMALLEST_F, SMALLEST_W};
+use crate::format::{Format, LARGEST_F, LARGEST_MODE, LARGEST_W, SMALLEST_F, SMALLEST_W};
 use crate::mask::Mask;
 use crate::random::Random;
 
@@ -102,7 +102,7 @@ pub fn numbers(random: &mut Random) -> [u64; 4] {
         between(SMALLEST_W, LARGEST_W),
         between(SMALLEST_F, LARGEST_F),
         between(0, 1),
-        between(0, 3),
+        between(0, LARGEST_MODE),
     ]
 }
 

@@ -4,7 +4,7 @@
 use second::arith::rounded;
 use second::choice::{generate, Job};
 use second::fits::{confirm, Case, Conditions};
-use second::format::{Refusal, F_OUT_OF_RANGE, NO_CASE, W_OUT_OF_RANGE};
+use second::format::{Refusal, F_OUT_OF_RANGE, LARGEST_MODE, NO_CASE, W_OUT_OF_RANGE};
 use second::mask::Mask;
 use second::row::carry_row;
 use second::signs::refusal;
@@ -109,27 +109,33 @@ fn case_4_a_carry_that_none_has() {
 
 #[test]
 fn case_5_cancelled_sum() {
-    let results = [0, 1, 2, 3].map(|mode| sum(1, mode, 0x30, 0x30));
-    assert_eq!(results, [0x00, 0x00, 0x00, 0x80]);
+    let results = [0, 1, 2, 3, 4].map(|mode| sum(1, mode, 0x30, 0x30));
+    assert_eq!(results, [0x00, 0x00, 0x00, 0x80, 0x00]);
 }
 
 #[test]
 fn case_6_overflow() {
-    let results = [0, 1, 2, 3].map(|mode| sum(0, mode, 0x6F, 0x6F));
-    assert_eq!(results, [0x70, 0x6F, 0x70, 0x6F]);
-    let mirrored = [0, 1, 2, 3].map(|mode| sum(0, mode, 0xEF, 0xEF));
-    assert_eq!(mirrored, [0xF0, 0xEF, 0xEF, 0xF0]);
+    let results = [0, 1, 2, 3, 4].map(|mode| sum(0, mode, 0x6F, 0x6F));
+    assert_eq!(results, [0x70, 0x6F, 0x70, 0x6F, 0x70]);
+    let mirrored = [0, 1, 2, 3, 4].map(|mode| sum(0, mode, 0xEF, 0xEF));
+    assert_eq!(mirrored, [0xF0, 0xEF, 0xEF, 0xF0, 0xF0]);
 }
 
 #[test]
 fn case_7_infinities_of_unlike_sign() {
-    assert_eq!([0, 1, 2, 3].map(|mode| sum(1, mode, 0x70, 0x70)), [0x78; 4]);
+    assert_eq!(
+        [0, 1, 2, 3, 4].map(|mode| sum(1, mode, 0x70, 0x70)),
+        [0x78; 5]
+    );
     assert_eq!(carry_row(3, 4, 1, 0x70, 0x70), Ok(None));
 }
 
 #[test]
 fn case_8_subnormal_to_normal() {
-    assert_eq!([0, 1, 2, 3].map(|mode| sum(0, mode, 0x0F, 0x01)), [0x10; 4]);
+    assert_eq!(
+        [0, 1, 2, 3, 4].map(|mode| sum(0, mode, 0x0F, 0x01)),
+        [0x10; 5]
+    );
 }
 
 #[test]
@@ -137,6 +143,17 @@ fn case_9_ties() {
     assert_eq!(sum(0, 0, 0x30, 0x02), 0x30);
     assert_eq!(sum(0, 2, 0x30, 0x02), 0x31);
     assert_eq!(sum(0, 0, 0x31, 0x02), 0x32);
+}
+
+/// Document 02, W-201: mode 4.
+#[test]
+fn ties_away() {
+    for sign in [0, 0x80] {
+        assert_eq!(sum(0, 4, 0x30 + sign, 0x02 + sign), 0x31 + sign);
+        assert_eq!(sum(0, 4, 0x31 + sign, 0x02 + sign), 0x32 + sign);
+    }
+    let expected = vec![(0x45, 0x2B, 0x4C), (0x4D, 0x3B, 0x55)];
+    assert_eq!(all_fitting(&conditions(4)), expected);
 }
 
 #[test]
@@ -215,7 +232,7 @@ fn fixed_signs(w: u64, f: u64, mode: u64) -> Conditions {
 #[test]
 fn case_13_signs() {
     for (w, f) in (2..=8).flat_map(|w| (2..=23).map(move |f| (w, f))) {
-        for mode in 0..4 {
+        for mode in 0..=LARGEST_MODE {
             let conditions = fixed_signs(w, f, mode);
             if w + f < 8 {
                 assert_eq!(choose(conditions, 0, 0), Err(NO_CASE));

@@ -3,7 +3,7 @@
 use second::arith::Adder;
 use second::choice::{free_bits, generate, Job};
 use second::fits::{confirm, Case};
-use second::format::NO_CASE;
+use second::format::{LARGEST_MODE, NO_CASE};
 use second::mask::Mask;
 use second::random::Random;
 use second::sample::{job, numbers};
@@ -54,7 +54,7 @@ fn both_statements_of_the_choice_agree() {
     let mut found = 0;
     for _ in 0..1500 {
         let w = 2 + random.below(2);
-        let numbers = [w, 2, random.below(2), random.below(4)];
+        let numbers = [w, 2, random.below(2), random.below(LARGEST_MODE + 1)];
         let care = 2 + random.below(7);
         let job = job(&mut random, numbers, care);
         let adder = job.check().unwrap();
@@ -72,7 +72,7 @@ fn both_statements_of_the_choice_agree() {
 fn table_answers_like_the_generator() {
     let mut random = Random::new(0x7AB1);
     for operation in 0..2 {
-        for mode in 0..4 {
+        for mode in 0..=LARGEST_MODE {
             let adder = Adder::new(3, 4, operation, mode).unwrap();
             let table = Table::new(adder).unwrap();
             for _ in 0..200 {
@@ -90,7 +90,7 @@ fn table_answers_like_the_generator() {
 fn every_fitting_case_is_some_answer() {
     let mut random = Random::new(0xE7E2);
     for _ in 0..50 {
-        let numbers = [3, 3, random.below(2), random.below(4)];
+        let numbers = [3, 3, random.below(2), random.below(LARGEST_MODE + 1)];
         let mut job = job(&mut random, numbers, 4);
         let adder = job.check().unwrap();
         for case in all_fitting(&job, &adder) {

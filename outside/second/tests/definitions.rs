@@ -1,6 +1,7 @@
 //! The rounded result and the carry row against slower accounts of the same paragraphs.
 
 use second::arith::{rounded, Adder};
+use second::format::LARGEST_MODE;
 use second::operand::Operand;
 use second::random::Random;
 use second::row::{carry_row, row};
@@ -38,6 +39,9 @@ fn nearest_place(all: &[i128], mode: u64, exact: i128) -> usize {
         0 => (0..all.len())
             .min_by_key(|&i| ((size - all[i]).abs(), i % 2))
             .unwrap(),
+        4 => (0..all.len())
+            .min_by_key(|&i| ((size - all[i]).abs(), -all[i]))
+            .unwrap(),
         1 => downward(size),
         2 if exact > 0 => upward(size),
         2 => downward(size),
@@ -52,7 +56,7 @@ fn expected(w: u64, f: u64, all: &[i128], mode: u64, exact: i128) -> u64 {
     let place = nearest_place(all, mode, exact) as u64;
     let magnitude = match (place < infinity, mode, exact > 0) {
         (true, _, _) => place,
-        (false, 0, _) | (false, 2, true) | (false, 3, false) => infinity,
+        (false, 0 | 4, _) | (false, 2, true) | (false, 3, false) => infinity,
         _ => infinity - 1,
     };
     magnitude + (u64::from(exact < 0) << (w + f))
@@ -86,7 +90,7 @@ fn small_formats_agree_with_a_search_among_all_numbers() {
                 let Some(exact) = exact_sum(w, f, &all, operation, a, b) else {
                     continue;
                 };
-                for mode in 0..4 {
+                for mode in 0..=LARGEST_MODE {
                     assert_eq!(
                         rounded(w, f, operation, mode, a, b),
                         Ok(expected(w, f, &all, mode, exact)),
@@ -104,7 +108,7 @@ fn small_formats_zeros_infinities_and_nans() {
         let sign = 1u64 << (w + f);
         let infinity = sign - (1 << f);
         let nan = infinity + (1 << (f - 1));
-        for mode in 0..4 {
+        for mode in 0..=LARGEST_MODE {
             let sum = |a, b| rounded(w, f, 0, mode, a, b).unwrap();
             let cancelled = if mode == 3 { sign } else { 0 };
             for x in 0..infinity {
@@ -186,7 +190,7 @@ fn exchange_and_flip_in_all_formats() {
     let mut random = Random::new(0x0E0F);
     for w in 2..=8 {
         for f in 2..=23 {
-            for mode in 0..4 {
+            for mode in 0..=LARGEST_MODE {
                 let [add, subtract] = [0, 1].map(|op| Adder::new(w, f, op, mode).unwrap());
                 for _ in 0..300 {
                     let (a, b) = pair(&mut random, add.format);

@@ -1,4 +1,5 @@
-//! Single precision against the processor, in all four rounding modes.
+//! Single precision against the processor: in its four rounding modes, and in mode 4, which it has
+//! not, by its mode 0 and a wider sum that shows the ties.
 //!
 //! SECOND_SEED gives another seed, decimal or with 0x before hexadecimal digits.
 
@@ -50,6 +51,39 @@ fn nearest_by_the_language() {
         0 => a + b,
         _ => a - b,
     });
+}
+
+/// The neighbour on the other side of an exact sum.
+fn neighbour(nearest: f32, exact: f64) -> f32 {
+    if f64::from(nearest) < exact {
+        nearest.next_up()
+    } else {
+        nearest.next_down()
+    }
+}
+
+/// Where two numbers are as near, the larger one. A sum that lies half way has at most 48 bits
+/// from end to end, so that double precision holds it, and no other sum is rounded there to a
+/// half-way number.
+fn ties_away(operation: u64, a: f32, b: f32) -> f32 {
+    let [x, y] = [a, b].map(f64::from);
+    let (nearest, exact) = match operation {
+        0 => (a + b, x + y),
+        _ => (a - b, x - y),
+    };
+    let other = neighbour(nearest, exact);
+    let tie = f64::from(nearest) != exact
+        && (f64::from(nearest) - exact).abs() == (f64::from(other) - exact).abs();
+    if tie && other.abs() > nearest.abs() {
+        other
+    } else {
+        nearest
+    }
+}
+
+#[test]
+fn ties_away_by_a_wider_sum() {
+    compare(4, ties_away);
 }
 
 #[cfg(target_arch = "x86_64")]

@@ -33,7 +33,7 @@ fn job(causes: &[Refusal]) -> Job {
         pick(causes, 1, 3, 9),
         pick(causes, 2, 4, 1),
         pick(causes, 3, 1, 2),
-        pick(causes, 4, 2, 4),
+        pick(causes, 4, 2, 5),
     );
     conditions.a = Mask {
         care: 0x7F,

@@ -1,7 +1,7 @@
 //! The rule about signs against all pairs of words of small formats, and against samples of the
 //! pairs of every format.
 
-use second::arith::Adder;
+use second::arith::{every_setting, Adder};
 use second::choice::Job;
 use second::fits::Conditions;
 use second::format::NO_CASE;
@@ -18,7 +18,7 @@ fn small_formats() -> impl Iterator<Item = (u64, u64)> {
 
 /// Every adder of a format.
 fn adders((w, f): (u64, u64)) -> impl Iterator<Item = Adder> {
-    (0..8).map(move |n| Adder::new(w, f, n / 4, n % 4).unwrap())
+    every_setting().map(move |[operation, mode]| Adder::new(w, f, operation, mode).unwrap())
 }
 
 /// The mask that leaves the sign free, fixes it to 0 or fixes it to 1.

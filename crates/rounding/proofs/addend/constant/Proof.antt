@@ -1,27 +1,41 @@
 -- `rounding::addend::constant` meets its contract: a row of the table for each direction. Assumes nothing.
+use mathlib.Core.List.{[], _∷_}
+use mathlib.Core.Logic.{inl, inr}
 use mathlib.Core.Path.{_≡_, refl, sym, ap, _∙_}
 use Prim.Native.Nat.{ℕ, zero, suc, _-_, _%_, _^_, _≤_, _<_}
 use native.Mathlib.Omega.{arith}
 use lib.Pow.{pow-pos}
 use Rattle.bits.proofs.Laws.{power-exact}
 use Rattle.rounding.specs.declared.Direction.{Direction}
-use Rattle.rounding.specs.declared.Direction.the-variants.{Nearest, TowardZero, Away}
+use Rattle.rounding.specs.declared.Direction.the-variants.{NearestEven, NearestAway, TowardZero, Away}
 use Rattle.rounding.specs.Rounding.{roundingConstant}
 use borrow.Author.Needs.{needs}
+use denote.Enum.Declared.{tagOf}
+use types.Run.{OneOf}
+use Rattle.rounding.proofs.Direction.{the-type}
 use Rattle.rounding.proofs.addend.constant.Statement.{statement}
 use Rattle.rounding.proofs.addend.constant.Tie as tie
 
-row : Direction → ℕ → ℕ
-row Nearest k = 2 ^ (k - 1) - 1
-row TowardZero k = 0
-row Away k = 2 ^ k - 1
+-- the rows that are taken together: the nearest two, which are the first two directions
+nearest : (d : Direction) (k : ℕ) → OneOf (0 ∷ 1 ∷ []) (tagOf the-type d) → (k ≡ 0 → ⊥) → 2 ^ (k - 1) - 1 ≡ roundingConstant d k
+unfolding roundingConstant
+nearest d zero t ne = absurd (ne refl)
+nearest NearestEven (suc j) t ne = ap (λ (n : ℕ). 2 ^ n - 1) (omega arith)
+nearest NearestAway (suc j) t ne = ap (λ (n : ℕ). 2 ^ n - 1) (omega arith)
+nearest TowardZero (suc j) (inl e) ne = absurd (omega arith)
+nearest TowardZero (suc j) (inr e) ne = absurd (omega arith)
+nearest Away (suc j) (inl e) ne = absurd (omega arith)
+nearest Away (suc j) (inr e) ne = absurd (omega arith)
 
-some : (d : Direction) (k : ℕ) → (k ≡ 0 → ⊥) → row d k ≡ roundingConstant d k
-unfolding row roundingConstant
-some d zero ne = absurd (ne refl)
-some Nearest (suc j) ne = ap (λ (n : ℕ). 2 ^ n - 1) (omega arith)
-some TowardZero (suc j) ne = refl
-some Away (suc j) ne = refl
+toward-zero : (k : ℕ) → 0 ≡ roundingConstant TowardZero k
+unfolding roundingConstant
+toward-zero zero = refl
+toward-zero (suc j) = refl
+
+away : (k : ℕ) → (k ≡ 0 → ⊥) → 2 ^ k - 1 ≡ roundingConstant Away k
+unfolding roundingConstant
+away zero ne = absurd (ne refl)
+away (suc j) ne = refl
 
 -- the power that the code takes
 one-less : (i p : ℕ) → i < 64 → p ≡ 2 ^ i % 2 ^ 64 → p - 1 ≡ 2 ^ i - 1
@@ -37,9 +51,6 @@ returns c = ((λ _. sym (ap (roundingConstant (c .before .args .direction)) (c .
 returns-2 : tie.Need-returns-2
 returns-2 c = search needs
 
-enum-told : tie.Need-enum-told
-enum-told c = search needs
-
 sub-power : tie.Need-sub-power
 sub-power c = search needs
 
@@ -48,14 +59,14 @@ power-requires c κs = search needs
 
 sub-result : tie.Need-sub-result
 sub-result c =
-    let s = c .before .before .before .before .before in
-    pos (s .args .k - 1) (c .power .result) (omega (arith, c .before .before .before .if2 .left)) (c .power .ensures)
+    let s = c .before .before .before .before in
+    pos (s .args .k - 1) (c .power .result) (omega (arith, c .before .before .if2 .left)) (c .power .ensures)
+
+enum-told : tie.Need-enum-told
+enum-told c = search needs
 
 enum-told-2 : tie.Need-enum-told-2
 enum-told-2 c = search needs
-
-enum-told-3 : tie.Need-enum-told-3
-enum-told-3 c = search needs
 
 power-requires-2 : tie.Need-power-requires-2
 power-requires-2 c κs = search needs
@@ -66,28 +77,25 @@ sub-result-2 c =
     pos (s .args .k) (c .power2 .result) (omega (arith, c .before .before .before .if2 .left)) (c .power2 .ensures)
 
 returns-3 : tie.Need-returns-3
-unfolding row
 returns-3 c =
-    let s = c .before .before .before .before .before in
+    let s = c .before .before .before .before in
     let k = s .args .k in (
       λ h. one-less (k - 1) (c .power .result) (omega arith) (c .power .ensures)
-          ∙ rw (c .before .enum-told .given .1) (some Nearest k (c .before .before .before .before .if1 .left)),
-      λ le. absurd (omega (arith, le, c .before .before .before .if2 .left)),
+          ∙ nearest (s .args .direction) k (c .before .match .keys1) (c .before .before .before .if1 .left),
+      λ le. absurd (omega (arith, le, c .before .before .if2 .left)),
     )
 
 returns-4 : tie.Need-returns-4
-unfolding row
 returns-4 c =
     let s = c .before .before .before .before in
-    ((λ _. rw (c .enum-told2 .given .1) (some TowardZero (s .args .k) (c .before .before .before .if1 .left))), λ _. refl)
+    ((λ _. rw (c .enum-told .given .1) (toward-zero (s .args .k))), λ _. refl)
 
 returns-5 : tie.Need-returns-5
-unfolding row
 returns-5 c =
     let s = c .before .before .before .before .before in
     let k = s .args .k in (
       λ h. one-less k (c .power2 .result) h (c .power2 .ensures)
-          ∙ rw (c .before .enum-told3 .given .1) (some Away k (c .before .before .before .before .if1 .left)),
+          ∙ rw (c .before .enum-told2 .given .1) (away k (c .before .before .before .before .if1 .left)),
       λ le. absurd (omega (arith, le, c .before .before .before .if2 .left)),
     )
 
@@ -97,12 +105,11 @@ constant-spec =
     (tie.spec
     returns
     returns-2
-    enum-told
     sub-power
     power-requires
     sub-result
+    enum-told
     enum-told-2
-    enum-told-3
     power-requires-2
     sub-result-2
     returns-3

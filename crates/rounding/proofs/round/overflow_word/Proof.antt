@@ -20,11 +20,14 @@ enum-told c = search needs
 enum-told-2 : tie.Need-enum-told-2
 enum-told-2 c = search needs
 
+enum-told-3 : tie.Need-enum-told-3
+enum-told-3 c = search needs
+
 sub-result : tie.Need-sub-result
 sub-result c = search needs
 
-enum-told-3 : tie.Need-enum-told-3
-enum-told-3 c = search needs
+enum-told-4 : tie.Need-enum-told-4
+enum-told-4 c = search needs
 
 returns-2 : tie.Need-returns-2
 unfolding overflowWord
@@ -36,14 +39,21 @@ returns-2 c = (
 returns-3 : tie.Need-returns-3
 unfolding overflowWord
 returns-3 c = (
-  λ ok. rw (c .enum-told2 .given .1) (ap (λ (n : ℕ). n - 1) (c .before .before .before .infinity-word .ensures .0 ok)),
+  λ ok. rw (c .enum-told2 .given .1) (c .before .before .before .infinity-word .ensures .0 ok),
   λ no. absurd (c .before .before .if1 .left (c .before .before .before .infinity-word .ensures .1 no)),
 )
 
 returns-4 : tie.Need-returns-4
 unfolding overflowWord
 returns-4 c = (
-  λ ok. rw (c .enum-told3 .given .1) (c .before .before .before .infinity-word .ensures .0 ok),
+  λ ok. rw (c .enum-told3 .given .1) (ap (λ (n : ℕ). n - 1) (c .before .before .before .infinity-word .ensures .0 ok)),
+  λ no. absurd (c .before .before .if1 .left (c .before .before .before .infinity-word .ensures .1 no)),
+)
+
+returns-5 : tie.Need-returns-5
+unfolding overflowWord
+returns-5 c = (
+  λ ok. rw (c .enum-told4 .given .1) (c .before .before .before .infinity-word .ensures .0 ok),
   λ no. absurd (c .before .before .if1 .left (c .before .before .before .infinity-word .ensures .1 no)),
 )
 
@@ -55,8 +65,10 @@ overflow-word-spec =
     returns
     enum-told
     enum-told-2
-    sub-result
     enum-told-3
+    sub-result
+    enum-told-4
     returns-2
     returns-3
-    returns-4)
+    returns-4
+    returns-5)

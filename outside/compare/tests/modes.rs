@@ -1,0 +1,55 @@
+//! A number above the last mode is refused with 4 wherever a mode is taken, and lent bytes are then
+//! as they were; the last mode is taken.
+
+use compare::program::printed;
+use second::format::{LARGEST_MODE, UNKNOWN_MODE};
+use vindacsor::buffer;
+
+const PROGRAM: &str = concat!(env!("CARGO_MANIFEST_DIR"), "/../../target/bin/listing");
+
+/// A record of format 3/4 that adds in a mode and fixes nothing.
+fn record(mode: u8) -> [u8; 5] {
+    [0x10, 3, 4, 0, mode]
+}
+
+/// What the functions that take a record return for it. They write only where they return 0.
+fn returned(record: &[u8]) -> [u64; 3] {
+    let mut out = [0xA5; 40];
+    let numbers = [
+        buffer::read(record, &mut out),
+        buffer::confirm(record, 0, 0, 0, &mut out),
+        buffer::generate(record, &mut out),
+    ];
+    assert_eq!(out == [0xA5; 40], numbers != [0; 3]);
+    numbers
+}
+
+#[test]
+fn the_last_mode_is_taken() {
+    let mode = LARGEST_MODE as u8;
+    assert_eq!(returned(&record(mode)), [0; 3]);
+    let text = printed(PROGRAM, &record(mode)).expect("the program ends");
+    assert_eq!(
+        text,
+        b"1 found 00000000 00000000 00000000 00000000\nend 1\n"
+    );
+}
+
+#[test]
+fn a_record_in_another_mode_is_refused() {
+    for mode in LARGEST_MODE as u8 + 1..=u8::MAX {
+        assert_eq!(returned(&record(mode)), [u64::from(UNKNOWN_MODE); 3]);
+        let text = printed(PROGRAM, &record(mode)).expect("the program ends");
+        assert_eq!(text, b"1 refused 4\nend 1\n");
+    }
+}
+
+#[test]
+fn a_result_in_another_mode_is_refused() {
+    let bits = (0..64).map(|i| 1 << i).filter(|&mode| mode > LARGEST_MODE);
+    for mode in (LARGEST_MODE + 1..1 << 10).chain(bits).chain([u64::MAX]) {
+        let mut out = [0xA5; 8];
+        let number = buffer::result(3, 4, 0, mode, 0x30, 0x02, &mut out);
+        assert_eq!((number, out), (u64::from(UNKNOWN_MODE), [0xA5; 8]));
+    }
+}
