@@ -6,8 +6,8 @@ use native.Mathlib.Omega.{arith}
 use mathlib.Core.List.{List, [], _∷_, _++_, append-assoc, append-nil}
 use lib.ListN.{length, getD, take, drop, length-append}
 use lib.Seq.{take-suc, length-take-le}
-use Rattle.records.specs.Number.{littleEndian, put, putWithin}
-use Rattle.records.proofs.Numbers.{length-number, length-put, put-put, put-room}
+use Rattle.numbers.specs.Number.{littleEndian, put, putWithin}
+use Rattle.numbers.proofs.Numbers.{length-number, length-put, put-put, put-room}
 use borrow.Author.Tests.{le-leb, lt-leb}
 use lib.Dec.{leb}
 use mathlib.Core.Bool.{true, false}

@@ -8,10 +8,9 @@ use lib.ListN.{length}
 use lib.Dec.{leb}
 use Rattle.format.specs.Cause as cause
 use Rattle.format.specs.Cause.{unless}
-use Rattle.records.specs.Number.{littleEndian}
-use Rattle.records.specs.Record.{bufferAfter}
-use Rattle.delivery.specs.declared.answer.Answer.{Answer}
-use Rattle.delivery.specs.declared.answer.Answer.the-variants.{One, Two, Four, Five, Refused}
+use Rattle.numbers.specs.Number.{littleEndian, bufferAfter}
+use Rattle.delivery.specs.declared.Answer.{Answer}
+use Rattle.delivery.specs.declared.Answer.the-variants.{One, Two, Four, Five, Refused}
 
 -- what an answer holds: numbers, or the number of a refusal
 pub data Content : Type 0 where

@@ -14,7 +14,7 @@ use Rattle.job.specs.declared.Job.{Job}
 use Rattle.job.specs.Job.{requestCause}
 use Rattle.records.specs.Record.{firstIn, recordCause, recordLength}
 use Rattle.records.specs.File.{fileBytes, Reads, end as no-byte, next as record-first, Writable}
-use Rattle.records.specs.declared.Entry.{Entry}
+use Rattle.layout.specs.declared.Entry.{Entry}
 use Rattle.records.specs.declared.First.the-variants as found
 use Rattle.records.proofs.Causes.{first-job, first-none-left}
 use Rattle.records.proofs.Files.{file-read}

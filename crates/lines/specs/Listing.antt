@@ -9,7 +9,7 @@ use lib.ListN.{length, drop}
 use lib.Dec.{eqb}
 use Rattle.format.specs.Cause as cause
 use Rattle.records.specs.Record.{firstIn}
-use Rattle.records.specs.declared.Entry.{Entry}
+use Rattle.layout.specs.declared.Entry.{Entry}
 use Rattle.records.specs.declared.First.the-variants as found
 use Rattle.generator.specs.Promise.{Replied}
 use Rattle.generator.specs.declared.Reply.{Reply}

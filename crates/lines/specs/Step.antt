@@ -3,7 +3,7 @@ use mathlib.Core.Path.{_≡_}
 use Prim.Native.Nat.{ℕ, _≤_}
 use mathlib.Core.List.{List}
 use lib.ListN.{length}
-use Rattle.records.specs.declared.Entry.{Entry}
+use Rattle.layout.specs.declared.Entry.{Entry}
 use Rattle.generator.specs.Promise.{Replied}
 use Rattle.generator.specs.declared.Reply.{Reply}
 use Rattle.lines.specs.Text.{text, Says, replyLine}

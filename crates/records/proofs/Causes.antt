@@ -21,12 +21,13 @@ use Rattle.mask.specs.Mask.{WellFormed}
 use Rattle.mask.proofs.ByBits.{value-below}
 use Rattle.job.specs.Job.{Request}
 use Rattle.job.proofs.Laws.{request-none}
-use Rattle.records.specs.Layout.{saysDefault}
-use Rattle.records.specs.Record.{wordBytes, fieldCount, layout, entryNumbers, fieldSizes, entryMap, recordCause, recordBytes, recordLength, numbersIn, entryIn, readCause, readReply, firstIn}
-use Rattle.records.specs.declared.Entry.{Entry}
+use Rattle.layout.specs.Layout.{saysDefault}
+use Rattle.layout.specs.Fields.{wordBytes, fieldCount, layout, entryNumbers, fieldSizes, entryMap}
+use Rattle.records.specs.Record.{recordCause, recordBytes, recordLength, numbersIn, entryIn, readCause, readReply, firstIn}
+use Rattle.layout.specs.declared.Entry.{Entry}
 use Rattle.records.specs.declared.First.the-variants as found
-use Rattle.records.proofs.BySizes.{Fits, none, more, length-bytes}
-use Rattle.records.proofs.ByMap.{counts, map-absent, fits-map}
+use Rattle.numbers.proofs.BySizes.{Fits, none, more, length-bytes}
+use Rattle.layout.proofs.ByMap.{counts, map-absent, fits-map}
 
 -- ---- every number fits its byte count
 

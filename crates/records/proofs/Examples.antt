@@ -7,12 +7,13 @@ use Rattle.format.specs.Format.{formatCause, operationCause, modeCause, wordCau
 use Rattle.mask.specs.declared.Mask.{Mask}
 use Rattle.mask.specs.Mask.{maskCause}
 use Rattle.job.specs.Job.{settingCause, masksCause, jobCause, requestCause}
-use Rattle.records.specs.Number.{littleEndian}
-use Rattle.records.specs.Numbers.{numberBytes}
-use Rattle.records.specs.Layout.{sizes, mapOf}
-use Rattle.records.specs.Record.{layout, entryMap, recordBytes}
+use Rattle.numbers.specs.Number.{littleEndian}
+use Rattle.numbers.specs.Numbers.{numberBytes}
+use Rattle.layout.specs.Layout.{sizes, mapOf}
+use Rattle.layout.specs.Fields.{layout, entryMap}
+use Rattle.records.specs.Record.{recordBytes}
 use Rattle.records.specs.File.{fileBytes, Reads, Writable, none, more}
-use Rattle.records.specs.declared.Entry.{Entry}
+use Rattle.layout.specs.declared.Entry.{Entry}
 use Rattle.records.proofs.Files.{file-read}
 
 -- the masks of both jobs, with a mask for the carries

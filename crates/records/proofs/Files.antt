@@ -6,12 +6,12 @@ use Prim.Native.Nat.{ℕ}
 use mathlib.Core.List.{List, _∷_, _++_}
 use lib.ListN.{drop, take-append-drop}
 use lib.Seq.{drop-append-seam}
-use Rattle.records.specs.Number.{Bytes}
+use Rattle.numbers.specs.Number.{Bytes}
 use Rattle.records.specs.Record.{recordBytes, firstIn}
 use Rattle.records.specs.File.{fileBytes, Reads, end, next, Writable, none, more}
-use Rattle.records.specs.declared.Entry.{Entry}
+use Rattle.layout.specs.declared.Entry.{Entry}
 use Rattle.records.specs.declared.First.the-variants as found
-use Rattle.records.proofs.Numbers.{bytes-drop}
+use Rattle.numbers.proofs.Numbers.{bytes-drop}
 use Rattle.records.proofs.RoundTrip.{read-written, written-read}
 
 pub file-read : {es : List Entry} → Writable es → Reads (fileBytes es) es

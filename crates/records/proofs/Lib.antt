@@ -1,7 +1,3 @@
-pub mod Numbers
-pub mod BySizes
-pub mod ByMap
-pub mod JobLayout
 pub mod Causes
 pub mod RoundTrip
 pub mod Files

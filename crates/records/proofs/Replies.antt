@@ -10,8 +10,9 @@ use lib.Dec.{leb}
 use Rattle.format.specs.Cause as cause
 use Rattle.format.specs.Cause.{unless}
 use Rattle.format.proofs.Laws.{first-none, first-some}
-use Rattle.records.specs.Record.{recordCause, recordBytes, firstIn, rest, writeCause, writeReply, writing, bufferAfter, written}
-use Rattle.records.specs.declared.Entry.{Entry}
+use Rattle.numbers.specs.Number.{bufferAfter}
+use Rattle.records.specs.Record.{recordCause, recordBytes, firstIn, rest, writeCause, writeReply, writing, written}
+use Rattle.layout.specs.declared.Entry.{Entry}
 use Rattle.records.specs.declared.First.the-variants as found
 use Rattle.records.specs.declared.Writing.the-variants as reply
 use Rattle.records.proofs.RoundTrip.{read-written, rest-written}

@@ -11,16 +11,17 @@ use lib.Seq.{drop-append-seam}
 use Rattle.format.specs.Cause as cause
 use Rattle.format.specs.Cause.{unless, first}
 use Rattle.format.specs.declared.Format.{Format}
-use Rattle.records.specs.Number.{Bytes}
-use Rattle.records.specs.Numbers.{total, numberBytes, numbers}
-use Rattle.records.specs.Layout.{sizes, mapOf, saysDefault}
-use Rattle.records.specs.Record.{wordBytes, headerBytes, fieldCount, layout, entryNumbers, entryWith, fieldSizes, entryMap, recordCause, recordBytes, recordLength, numbersIn, entryIn, readCause, readReply, firstIn, rest, restAfter}
-use Rattle.records.specs.declared.Entry.{Entry}
+use Rattle.numbers.specs.Number.{Bytes}
+use Rattle.numbers.specs.Numbers.{total, numberBytes, numbers}
+use Rattle.layout.specs.Layout.{sizes, mapOf, saysDefault}
+use Rattle.layout.specs.Fields.{wordBytes, fieldCount, layout, entryNumbers, entryWith, fieldSizes, entryMap}
+use Rattle.records.specs.Record.{headerBytes, recordCause, recordBytes, recordLength, numbersIn, entryIn, readCause, readReply, firstIn, rest, restAfter}
+use Rattle.layout.specs.declared.Entry.{Entry}
 use Rattle.records.specs.declared.First.{First}
 use Rattle.records.specs.declared.First.the-variants as found
-use Rattle.records.proofs.BySizes.{numbers-back, bytes-back}
-use Rattle.records.proofs.ByMap.{map-lt, map-no-default, read-absent, map-back, default-map}
-use Rattle.records.proofs.JobLayout.{layout-bits}
+use Rattle.numbers.proofs.BySizes.{numbers-back, bytes-back}
+use Rattle.layout.proofs.ByMap.{map-lt, map-no-default, read-absent, map-back, default-map}
+use Rattle.layout.proofs.JobLayout.{layout-bits}
 use Rattle.records.proofs.Causes.{record-fits, record-length, read-none, Readable, first-job, lateCause}
 
 -- ---- written and read back

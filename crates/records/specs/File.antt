@@ -4,7 +4,7 @@ use Prim.Native.Nat.{ℕ}
 use mathlib.Core.List.{List, [], _∷_, _++_}
 use lib.ListN.{drop}
 use Rattle.records.specs.Record.{recordBytes, recordCause, firstIn}
-use Rattle.records.specs.declared.Entry.{Entry}
+use Rattle.layout.specs.declared.Entry.{Entry}
 use Rattle.records.specs.declared.First.the-variants as found
 
 -- the bytes of a file of these entries

@@ -1,5 +1,2 @@
-pub mod Number
-pub mod Numbers
-pub mod Layout
 pub mod Record
 pub mod File

@@ -7,89 +7,26 @@ use lib.ListN.{length, getD, drop}
 use lib.Dec.{leb, ltb}
 use Rattle.format.specs.Cause as cause
 use Rattle.format.specs.Cause.{unless, first}
-use Rattle.format.specs.declared.Format.{Format}
-use Rattle.mask.specs.declared.Mask.{Mask}
 use Rattle.job.specs.Job.{requestCause}
-use Rattle.records.specs.Numbers.{total, numberBytes, numbers}
-use Rattle.records.specs.Layout.{sizes, mapOf, saysDefault}
-use Rattle.records.specs.declared.layout.Slot.{Slot}
-use Rattle.records.specs.declared.Entry.{Entry}
+use Rattle.numbers.specs.Number.{bufferAfter}
+use Rattle.numbers.specs.Numbers.{total, numberBytes, numbers}
+use Rattle.layout.specs.declared.Entry.{Entry}
+use Rattle.layout.specs.Layout.{saysDefault}
+use Rattle.layout.specs.Fields.{wordBytes, fieldCount, layout, entryNumbers, entryWith, fieldSizes, entryMap}
 use Rattle.records.specs.declared.First.{First}
 use Rattle.records.specs.declared.First.the-variants as found
 use Rattle.records.specs.declared.Writing.{Writing}
 use Rattle.records.specs.declared.Writing.the-variants as reply
 
--- ---- the fields of a record
-
--- a word is "4 bytes"
-abbrev pub wordBytes : ℕ
-wordBytes = 4
+-- ---- the record's bytes
 
 -- "the four header bytes": map, w, f, operation
 abbrev pub headerBytes : ℕ
 headerBytes = 4
 
--- bits 0 to 5 of the map stand for fields
-abbrev pub fieldCount : ℕ
-fieldCount = 6
-
--- and have so many numbers together
-abbrev pub numberCount : ℕ
-numberCount = 11
-
--- field i of one number of k bytes, and of two
-abbrev pub one : ℕ → ℕ → List Slot
-one i k = record { bit = i; size = k } ∷ []
-
-abbrev pub two : ℕ → ℕ → List Slot
-two i k = one i k ++ one i k
-
--- "bits 0 to 3 the masks of a, b, c and carries, bit 4 the mode, bit 5 the random words"; a mask and the random words are two words each,
--- "The mode is one byte"
-unfoldable pub layout : ℕ → List Slot
-layout word = two 0 word ++ (two 1 word ++ (two 2 word ++ (two 3 word ++ (one 4 1 ++ two 5 word))))
-
--- "A mask is care, then value"
-abbrev pub maskNumbers : Mask → List ℕ
-maskNumbers m = m .care ∷ m .value ∷ []
-
--- the numbers of an entry's fields, "in bit order"
-abbrev pub entryNumbers : Entry → List ℕ
-entryNumbers e =
-    maskNumbers (e .job .a .mask) ++ (maskNumbers (e .job .b .mask) ++ (maskNumbers (e .job .c .mask) ++ (maskNumbers (e .job .carries)
-    ++ (e .job .setting .mode ∷ e .r1 ∷ e .r2 ∷ []))))
-
--- the mask whose care is number i
-abbrev pub maskAt : List ℕ → ℕ → Mask
-maskAt ns i = record { care = getD ns i 0; value = getD ns (suc i) 0 }
-
--- the entry with these numbers
-abbrev pub entryWith : Format → ℕ → List ℕ → Entry
-entryWith format operation ns =
-    record {
-      job = record {
-        setting = record { format = format; operation = operation; mode = getD ns 8 0 };
-        a = record { mask = maskAt ns 0 };
-        b = record { mask = maskAt ns 2 };
-        c = record { mask = maskAt ns 4 };
-        carries = maskAt ns 6;
-      };
-      r1 = getD ns 9 0;
-      r2 = getD ns 10 0;
-    }
-
 -- 1 to 6: the cause against the job and its random words
 abbrev pub recordCause : Entry → ℕ
 recordCause e = requestCause (e .job) (e .r1) (e .r2)
-
--- ---- the record's bytes
-
--- the byte counts of the numbers in a record with the map m, and the map of an entry's record
-abbrev pub fieldSizes : ℕ → List ℕ
-fieldSizes m = sizes (layout wordBytes) m
-
-unfoldable pub entryMap : Entry → ℕ
-entryMap e = mapOf (layout wordBytes) (entryNumbers e)
 
 -- "A record begins with a map byte"; "Then w, f and the operation, a byte each. Then, in bit order, only the fields whose bit stands."
 unfoldable pub recordBytes : Entry → List ℕ
@@ -152,11 +89,6 @@ writeReply (suc k) n = reply.Refused (suc k)
 unfoldable pub writing : Entry → List ℕ → Writing
 writing e s = writeReply (writeCause e (length s)) (length (recordBytes e))
 
--- the record, and "bytes after the record are untouched"; where a cause stands, "the whole buffer" as it was
-abbrev pub bufferAfter : ℕ → List ℕ → List ℕ → List ℕ
-bufferAfter zero bs s = bs ++ drop (length bs) s
-bufferAfter (suc k) bs s = s
-
--- the buffer after writing
+-- the buffer after writing: the record, and "bytes after the record are untouched"; where a cause stands, "the whole buffer" as it was
 unfoldable pub written : Entry → List ℕ → List ℕ
 written e s = bufferAfter (writeCause e (length s)) (recordBytes e) s

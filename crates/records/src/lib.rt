@@ -1,23 +1,22 @@
 // Job records: what stands first in a file, the rest after it, and the writing of a record into a lent buffer.
-mod layout;
-pub mod number;
+mod fields;
 
+use fields::put_numbers;
+use fields::read_numbers;
+use fields::total;
 use format::Format;
 use format::cause;
 use format::first;
 use format::unless;
-use job::Job;
 use job::request_cause;
+use layout::Entry;
 use layout::FIELDS;
 use layout::NUMBERS;
 use layout::entry_map;
 use layout::entry_numbers;
 use layout::entry_with;
 use layout::field_sizes;
-use number::put_numbers;
-use number::read_numbers;
-use number::total;
-use number::wide;
+use numbers::wide;
 ghost use mathlib.Core.Path.{_≡_};
 ghost use Prim.Native.Nat.{_≤_};
 ghost use mathlib.Core.List.{_++_};
@@ -25,20 +24,14 @@ ghost use lib.Dec.{eqb};
 ghost use lib.ListN.{length, getD, drop};
 ghost use Rattle.format.specs.Cause as cause;
 ghost use Rattle.format.specs.Cause.{first, unless};
-ghost use Rattle.records.specs.Numbers.{total, numbers};
-ghost use Rattle.records.specs.Record.{entryWith, recordCause, fieldSizes, entryMap, recordBytes, recordLength, entryIn, readReply, firstIn, rest, writing, written};
+ghost use Rattle.numbers.specs.Numbers.{total, numbers};
+ghost use Rattle.layout.specs.Fields.{entryWith, fieldSizes, entryMap};
+ghost use Rattle.records.specs.Record.{recordCause, recordBytes, recordLength, entryIn, readReply, firstIn, rest, writing, written};
 
 // The bytes before the fields: map, w, f, operation.
 const HEADER: usize = 4;
 // A map with a bit above those of the fields is this or more.
 const MAPS: u64 = 1 << FIELDS;
-
-// A job with its two random words: the content of a record.
-pub struct Entry {
-    pub job: Job,
-    pub r1: u64,
-    pub r2: u64,
-}
 
 // What stands first in bytes: their end, a job and the length of its record, or the number of a refusal.
 pub enum First {

@@ -3,9 +3,9 @@ use crate::reading;
 use format::Format;
 use job::Setting;
 use job::words::masked_job;
+use layout::Entry;
 use libc::STDOUT_FILENO;
 use mask::Mask;
-use records::Entry;
 use records::First;
 use records::Writing;
 

@@ -3,8 +3,8 @@ use format::Format;
 use job::Job;
 use job::Setting;
 use job::words::masked_job;
+use layout::Entry;
 use mask::Mask;
-use records::Entry;
 
 // 2^31 - 1, a prime.
 const MODULUS: u64 = 2147483647;

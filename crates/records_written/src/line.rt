@@ -1,6 +1,6 @@
 // A line: the reply, and all bytes of the buffer.
+use layout::Entry;
 use libc::STDOUT_FILENO;
-use records::Entry;
 use records::Writing;
 
 // The count of bytes written, or the number of a refusal.

@@ -2,8 +2,7 @@
 // the numbers of its answer into `out`, eight bytes each, low byte first. On a refusal nothing is written; 11 is a buffer too short.
 use adder::carry_row::carry_row;
 use adder::result::rounded_result;
-use delivery::answer::deliver;
-use delivery::reply;
+use delivery::deliver;
 use format::Format;
 use mask::Mask;
 use mask::join;
@@ -16,7 +15,7 @@ ghost use Rattle.adder.specs.Result.{resultReply};
 ghost use Rattle.adder.specs.Row.{rowReply};
 ghost use Rattle.records.specs.Record.{firstIn};
 ghost use Rattle.delivery.specs.Answer.{Delivered};
-ghost use Rattle.delivery.specs.Replies.{formatOf, maskFrom, masksOf, wordsOf, wholeJob, ofResult, ofRow, ofJoined, ofFirst, confirmation, Generated, WholeGenerated};
+ghost use Rattle.replies.specs.Replies.{formatOf, maskFrom, masksOf, wordsOf, wholeJob, ofResult, ofRow, ofJoined, ofFirst, confirmation, Generated, WholeGenerated};
 
 // The mask of two numbers.
 fn mask_of(care: u64, value: u64) -> Mask
@@ -41,7 +40,7 @@ pub extern "C" fn vindacsor_result(
     let format = Format { w, f };
     deliver(
         out,
-        reply::of_result(rounded_result(format, operation, mode, a, b)),
+        replies::of_result(rounded_result(format, operation, mode, a, b)),
     )
 }
 
@@ -58,7 +57,7 @@ pub extern "C" fn vindacsor_row(
     ensures { λ r. ⌜ Delivered (ofRow (rowReply (formatOf w f) operation a b)) (now (out .entry)) (now (out .exit)) r ⌝ }
 {
     let format = Format { w, f };
-    deliver(out, reply::of_row(carry_row(format, operation, a, b)))
+    deliver(out, replies::of_row(carry_row(format, operation, a, b)))
 }
 
 // The mask that fixes what either of two masks fixes: care and value.
@@ -77,7 +76,7 @@ pub extern "C" fn vindacsor_join(
         care: care2,
         value: value2,
     };
-    deliver(out, reply::of_joined(join(one, other)))
+    deliver(out, replies::of_joined(join(one, other)))
 }
 
 // The length of the job record that stands first in a file; 0 at its end.
@@ -85,7 +84,7 @@ pub extern "C" fn vindacsor_join(
 pub extern "C" fn vindacsor_read(file: &[u8], out: &mut [u8]) -> u64
     ensures { λ r. ⌜ Delivered (ofFirst (firstIn (now (file .entry)))) (now (out .entry)) (now (out .exit)) r ⌝ }
 {
-    deliver(out, reply::of_first(read(file)))
+    deliver(out, replies::of_first(read(file)))
 }
 
 // Whether a case fits the job whose record stands first in a file: 1 or 0.
@@ -93,7 +92,7 @@ pub extern "C" fn vindacsor_read(file: &[u8], out: &mut [u8]) -> u64
 pub extern "C" fn vindacsor_confirm(file: &[u8], a: u64, b: u64, c: u64, out: &mut [u8]) -> u64
     ensures { λ r. ⌜ Delivered (confirmation (firstIn (now (file .entry))) a b c) (now (out .entry)) (now (out .exit)) r ⌝ }
 {
-    deliver(out, reply::confirmed(read(file), a, b, c))
+    deliver(out, replies::confirmed(read(file), a, b, c))
 }
 
 // The case for the job whose record stands first in a file.
@@ -101,7 +100,7 @@ pub extern "C" fn vindacsor_confirm(file: &[u8], a: u64, b: u64, c: u64, out: &m
 pub extern "C" fn vindacsor_generate(file: &[u8], out: &mut [u8]) -> u64
     ensures { λ r. ⌜ Generated (firstIn (now (file .entry))) (now (out .entry)) (now (out .exit)) r ⌝ }
 {
-    deliver(out, reply::generated(read(file)))
+    deliver(out, replies::generated(read(file)))
 }
 
 // The whole-number case for a length, the masks of x, y, z and the carries, and three random words: x, y, z, carries.
@@ -140,5 +139,5 @@ pub extern "C" fn vindacsor_whole(
         masks,
         words,
     };
-    deliver(out, reply::of_whole(whole::generate(job)))
+    deliver(out, replies::of_whole(whole::generate(job)))
 }

@@ -5,9 +5,9 @@ use native.Mathlib.Omega.{arith}
 use mathlib.Core.List.{List}
 use lib.ListN.{length, getD}
 use denote.Ref.{now}
-use Rattle.records.specs.Numbers.{total, numbers}
-use Rattle.records.specs.Record.{entryWith}
-use Rattle.records.proofs.JobLayout.{sizes-count, size-most}
+use Rattle.numbers.specs.Numbers.{total, numbers}
+use Rattle.layout.specs.Fields.{entryWith}
+use Rattle.layout.proofs.JobLayout.{sizes-count, size-most}
 use borrow.Author.Needs.{needs}
 use Rattle.records.proofs.decode.Statement.{statement}
 use Rattle.records.proofs.decode.Tie as tie

@@ -7,8 +7,9 @@ use mathlib.Core.List.{List}
 use lib.ListN.{length, take, drop, length-drop}
 use lib.Seq.{take-all}
 use denote.Ref.{now}
-use Rattle.records.specs.Numbers.{numbers}
-use Rattle.records.specs.Record.{headerBytes, fieldSizes, entryWith, recordLength, entryIn}
+use Rattle.numbers.specs.Numbers.{numbers}
+use Rattle.layout.specs.Fields.{fieldSizes, entryWith}
+use Rattle.records.specs.Record.{headerBytes, recordLength, entryIn}
 use borrow.Author.Needs.{needs}
 use Rattle.records.proofs.entry_in.Statement.{statement}
 use Rattle.records.proofs.entry_in.Tie as tie

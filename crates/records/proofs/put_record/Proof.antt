@@ -8,14 +8,15 @@ use mathlib.Core.List.{List, [], _∷_, _++_}
 use lib.ListN.{length, drop}
 use denote.Ref.{now}
 use Rattle.job.proofs.Laws.{request-none}
-use Rattle.records.specs.Number.{littleEndian, put}
-use Rattle.records.specs.Numbers.{total, numberBytes}
-use Rattle.records.specs.Record.{wordBytes, headerBytes, fieldCount, layout, fieldSizes, entryNumbers, entryMap, recordCause, recordBytes}
-use Rattle.records.specs.declared.Entry.{Entry}
-use Rattle.records.proofs.Numbers.{put-put}
-use Rattle.records.proofs.BySizes.{length-bytes}
-use Rattle.records.proofs.ByMap.{map-lt}
-use Rattle.records.proofs.JobLayout.{layout-bits, sizes-count}
+use Rattle.numbers.specs.Number.{littleEndian, put}
+use Rattle.numbers.specs.Numbers.{total, numberBytes}
+use Rattle.layout.specs.Fields.{wordBytes, fieldCount, layout, fieldSizes, entryNumbers, entryMap}
+use Rattle.records.specs.Record.{headerBytes, recordCause, recordBytes}
+use Rattle.layout.specs.declared.Entry.{Entry}
+use Rattle.numbers.proofs.Numbers.{put-put}
+use Rattle.numbers.proofs.BySizes.{length-bytes}
+use Rattle.layout.proofs.ByMap.{map-lt}
+use Rattle.layout.proofs.JobLayout.{layout-bits, sizes-count}
 use Rattle.records.proofs.Causes.{record-fits}
 use borrow.Author.Needs.{needs}
 use Rattle.records.proofs.put_record.Statement.{statement}

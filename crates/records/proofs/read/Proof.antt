@@ -9,7 +9,8 @@ use lib.Dec.{eqb, ltb, leb}
 use denote.Ref.{now}
 use Rattle.format.specs.Cause as cause
 use Rattle.format.specs.Cause.{first, unless}
-use Rattle.records.specs.Record.{fieldCount, recordCause, entryMap, recordLength, entryIn, readReply}
+use Rattle.layout.specs.Fields.{fieldCount, entryMap}
+use Rattle.records.specs.Record.{recordCause, recordLength, entryIn, readReply}
 use Rattle.records.specs.declared.First.the-variants as found
 use Rattle.records.proofs.Causes.{first-none-left, earlyCause, first-early, first-late, early-none}
 use Rattle.records.proofs.RoundTrip.{entry-default}

@@ -4,7 +4,8 @@ use Prim.Native.Nat.{ℕ}
 use lib.Dec.{eqb}
 use Rattle.format.specs.Cause as cause
 use Rattle.format.specs.Cause.{first, unless}
-use Rattle.records.specs.Record.{entryMap, recordCause, readReply}
+use Rattle.layout.specs.Fields.{entryMap}
+use Rattle.records.specs.Record.{recordCause, readReply}
 use borrow.Author.Needs.{needs}
 use Rattle.records.proofs.Causes.{reply-refused}
 use Rattle.records.proofs.read_reply.Statement.{statement}

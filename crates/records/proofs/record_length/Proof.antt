@@ -2,9 +2,9 @@
 use mathlib.Core.Path.{_≡_, ap, _∙_}
 use Prim.Native.Nat.{ℕ, _+_}
 use native.Mathlib.Omega.{arith}
-use Rattle.records.specs.Numbers.{total}
+use Rattle.numbers.specs.Numbers.{total}
 use Rattle.records.specs.Record.{headerBytes, recordLength}
-use Rattle.records.proofs.JobLayout.{length-most}
+use Rattle.layout.proofs.JobLayout.{total-most}
 use borrow.Author.Needs.{needs}
 use Rattle.records.proofs.record_length.Statement.{statement}
 use Rattle.records.proofs.record_length.Tie as tie
@@ -16,10 +16,7 @@ slice-aggregate-total : tie.Need-slice-aggregate-total
 slice-aggregate-total c = search needs
 
 total-requires : tie.Need-total-requires
-unfolding recordLength
-total-requires c κs =
-    let m : ℕ = c .before .before .args .map in
-    omega (arith, ap total (c .before .field-sizes .ensures), length-most m)
+total-requires c κs = omega (arith, ap total (c .before .field-sizes .ensures), total-most (c .before .before .args .map))
 
 -- the length that was computed
 long : (c : tie.After-total) → headerBytes + c .total .result ≡ recordLength (c .before .before .before .args .map)
@@ -27,7 +24,7 @@ unfolding recordLength
 long c = ap (λ (n : ℕ). headerBytes + n) (c .total .ensures ∙ ap total (c .before .before .field-sizes .ensures))
 
 add-result : tie.Need-add-result
-add-result c = omega (arith, long c, length-most (c .before .before .before .args .map))
+add-result c = omega (arith, ap total (c .before .before .field-sizes .ensures), total-most (c .before .before .before .args .map), c .total .ensures)
 
 returns : tie.Need-returns
 returns c = long c

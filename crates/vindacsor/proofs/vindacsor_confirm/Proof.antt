@@ -1,7 +1,7 @@
 -- `vindacsor::vindacsor_confirm` meets its contract: the confirmation's answer is delivered. Assumes nothing.
 use mathlib.Core.Path.{ap, _∙_}
 use Rattle.records.specs.declared.First.{First}
-use Rattle.delivery.specs.Replies.{confirmation}
+use Rattle.replies.specs.Replies.{confirmation}
 use Rattle.delivery.proofs.Bytes.{delivered-as}
 use borrow.Author.Needs.{needs}
 use Rattle.vindacsor.proofs.vindacsor_confirm.Statement.{statement}

@@ -2,7 +2,7 @@
 use mathlib.Core.Path.{subst}
 use Rattle.records.specs.declared.First.{First}
 use Rattle.delivery.specs.Answer.{contentOf}
-use Rattle.delivery.specs.Replies.{OfRecord}
+use Rattle.replies.specs.Replies.{OfRecord}
 use borrow.Author.Needs.{needs}
 use Rattle.vindacsor.proofs.vindacsor_generate.Statement.{statement}
 use Rattle.vindacsor.proofs.vindacsor_generate.Tie as tie

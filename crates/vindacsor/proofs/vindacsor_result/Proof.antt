@@ -1,6 +1,6 @@
 -- `vindacsor::vindacsor_result` meets its contract: the reply's answer is delivered. Assumes nothing.
 use mathlib.Core.Path.{ap, _∙_}
-use Rattle.delivery.specs.Replies.{ofResult}
+use Rattle.replies.specs.Replies.{ofResult}
 use Rattle.delivery.proofs.Bytes.{delivered-as}
 use borrow.Author.Needs.{needs}
 use Rattle.vindacsor.proofs.vindacsor_result.Statement.{statement}

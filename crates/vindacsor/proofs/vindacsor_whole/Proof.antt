@@ -2,7 +2,7 @@
 use mathlib.Core.Path.{_≡_, subst}
 use Rattle.whole.specs.declared.Masks.{Masks}
 use Rattle.whole.specs.Reply.{Replied}
-use Rattle.delivery.specs.Replies.{maskFrom, masksOf, wordsOf, wholeJob}
+use Rattle.replies.specs.Replies.{maskFrom, masksOf, wordsOf, wholeJob}
 use Rattle.delivery.proofs.Bytes.{delivered-as}
 use borrow.Author.Needs.{needs}
 use Rattle.vindacsor.proofs.vindacsor_whole.Statement.{statement}

@@ -1,0 +1,2 @@
+pub mod ByMap
+pub mod JobLayout

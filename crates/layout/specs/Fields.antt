@@ -1,0 +1,70 @@
+-- The fields of a job record (document 01, "Job files"): its layout, the numbers of an entry in that layout and the entry of such numbers,
+-- with the map that goes with them. An entry is a job with its two random words. Assumes nothing.
+use Prim.Native.Nat.{ℕ, suc}
+use mathlib.Core.List.{List, [], _∷_, _++_}
+use lib.ListN.{getD}
+use Rattle.format.specs.declared.Format.{Format}
+use Rattle.mask.specs.declared.Mask.{Mask}
+use Rattle.layout.specs.Layout.{sizes, mapOf}
+use Rattle.layout.specs.declared.Slot.{Slot}
+use Rattle.layout.specs.declared.Entry.{Entry}
+
+-- a word is "4 bytes"
+abbrev pub wordBytes : ℕ
+wordBytes = 4
+
+-- bits 0 to 5 of the map stand for fields
+abbrev pub fieldCount : ℕ
+fieldCount = 6
+
+-- and have so many numbers together
+abbrev pub numberCount : ℕ
+numberCount = 11
+
+-- field i of one number of k bytes, and of two
+abbrev pub one : ℕ → ℕ → List Slot
+one i k = record { bit = i; size = k } ∷ []
+
+abbrev pub two : ℕ → ℕ → List Slot
+two i k = one i k ++ one i k
+
+-- "bits 0 to 3 the masks of a, b, c and carries, bit 4 the mode, bit 5 the random words"; a mask and the random words are two words each,
+-- "The mode is one byte"
+unfoldable pub layout : ℕ → List Slot
+layout word = two 0 word ++ (two 1 word ++ (two 2 word ++ (two 3 word ++ (one 4 1 ++ two 5 word))))
+
+-- "A mask is care, then value"
+abbrev pub maskNumbers : Mask → List ℕ
+maskNumbers m = m .care ∷ m .value ∷ []
+
+-- the numbers of an entry's fields, "in bit order"
+abbrev pub entryNumbers : Entry → List ℕ
+entryNumbers e =
+    maskNumbers (e .job .a .mask) ++ (maskNumbers (e .job .b .mask) ++ (maskNumbers (e .job .c .mask) ++ (maskNumbers (e .job .carries)
+    ++ (e .job .setting .mode ∷ e .r1 ∷ e .r2 ∷ []))))
+
+-- the mask whose care is number i
+abbrev pub maskAt : List ℕ → ℕ → Mask
+maskAt ns i = record { care = getD ns i 0; value = getD ns (suc i) 0 }
+
+-- the entry with these numbers
+abbrev pub entryWith : Format → ℕ → List ℕ → Entry
+entryWith format operation ns =
+    record {
+      job = record {
+        setting = record { format = format; operation = operation; mode = getD ns 8 0 };
+        a = record { mask = maskAt ns 0 };
+        b = record { mask = maskAt ns 2 };
+        c = record { mask = maskAt ns 4 };
+        carries = maskAt ns 6;
+      };
+      r1 = getD ns 9 0;
+      r2 = getD ns 10 0;
+    }
+
+-- the byte counts of the numbers in a record with the map m, and the map of an entry's record
+abbrev pub fieldSizes : ℕ → List ℕ
+fieldSizes m = sizes (layout wordBytes) m
+
+unfoldable pub entryMap : Entry → ℕ
+entryMap e = mapOf (layout wordBytes) (entryNumbers e)

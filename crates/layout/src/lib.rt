@@ -1,0 +1,158 @@
+// The layout of a job record: which numbers it has, in which order, and by its map.
+use bits::bit_at;
+use format::Format;
+use job::Job;
+use job::Setting;
+use job::Wanted;
+use mask::Mask;
+ghost use mathlib.Core.Path.{_≡_};
+ghost use Prim.Native.Nat.{_*_};
+ghost use Rattle.bits.specs.Bit.{bit};
+ghost use Rattle.layout.specs.Layout.{sizes, mapOf};
+ghost use Rattle.layout.specs.Fields.{wordBytes, layout, fieldSizes, entryNumbers, entryMap, entryWith};
+
+// How many bytes a word has.
+const WORD: usize = 4;
+// The map bits that stand for fields.
+pub const FIELDS: u64 = 6;
+// The numbers of all fields.
+pub const NUMBERS: usize = 11;
+
+// A job with its two random words: the content of a record.
+pub struct Entry {
+    pub job: Job,
+    pub r1: u64,
+    pub r2: u64,
+}
+
+// A number of a record: the map bit of its field, and how many bytes it has where that bit stands.
+pub struct Slot {
+    pub bit: u64,
+    pub size: usize,
+}
+
+// The numbers in bit order: care and value of the masks of a, b, c and carries, the mode, the random words.
+fn layout(word: usize) -> [Slot; NUMBERS]
+    ensures { λ r. ⌜ r ≡ layout word ⌝ }
+{
+    [
+        Slot { bit: 0, size: word },
+        Slot { bit: 0, size: word },
+        Slot { bit: 1, size: word },
+        Slot { bit: 1, size: word },
+        Slot { bit: 2, size: word },
+        Slot { bit: 2, size: word },
+        Slot { bit: 3, size: word },
+        Slot { bit: 3, size: word },
+        Slot { bit: 4, size: 1 },
+        Slot { bit: 5, size: word },
+        Slot { bit: 5, size: word },
+    ]
+}
+
+// How many bytes the number has in a record with this map.
+fn size(slot: Slot, map: u64) -> usize
+    ensures { λ r. ⌜ r ≡ bit map (slot .bit) * slot .size ⌝ }
+{
+    if bit_at(map, slot.bit) == 0 {
+        return 0;
+    }
+    slot.size
+}
+
+// How many bytes each number has in a record with this map.
+pub fn field_sizes(map: u64) -> [usize; NUMBERS]
+    ensures { λ r. ⌜ r ≡ fieldSizes map ⌝ }
+{
+    let slots = layout(WORD);
+    let mut sizes = [0; NUMBERS];
+    let mut i = 0;
+    while i < NUMBERS {
+        let slot = slots[i];
+        sizes[i] = size(slot, map);
+        i += 1;
+    }
+    sizes
+}
+
+// The map of a record with these numbers: each that is not 0 sets the bit of its field.
+fn map_of(numbers: [u64; NUMBERS]) -> u64
+    ensures { λ r. ⌜ r ≡ mapOf (layout wordBytes) numbers ⌝ }
+{
+    let slots = layout(WORD);
+    let mut map: u64 = 0;
+    let mut i = NUMBERS;
+    while 0 < i {
+        i -= 1;
+        let slot = slots[i];
+        if numbers[i] != 0 {
+            map = map | (1 << slot.bit);
+        }
+    }
+    map
+}
+
+// The numbers of an entry, in the order of the layout.
+pub fn entry_numbers(entry: Entry) -> [u64; NUMBERS]
+    ensures { λ r. ⌜ r ≡ entryNumbers entry ⌝ }
+{
+    [
+        entry.job.a.mask.care,
+        entry.job.a.mask.value,
+        entry.job.b.mask.care,
+        entry.job.b.mask.value,
+        entry.job.c.mask.care,
+        entry.job.c.mask.value,
+        entry.job.carries.care,
+        entry.job.carries.value,
+        entry.job.setting.mode,
+        entry.r1,
+        entry.r2,
+    ]
+}
+
+// The map of the entry's record.
+pub fn entry_map(entry: Entry) -> u64
+    ensures { λ r. ⌜ r ≡ entryMap entry ⌝ }
+{
+    map_of(entry_numbers(entry))
+}
+
+// The entry with these numbers.
+pub fn entry_with(format: Format, operation: u64, numbers: [u64; NUMBERS]) -> Entry
+    ensures { λ r. ⌜ r ≡ entryWith format operation numbers ⌝ }
+{
+    let setting = Setting {
+        format,
+        operation,
+        mode: numbers[8],
+    };
+    let a = Mask {
+        care: numbers[0],
+        value: numbers[1],
+    };
+    let b = Mask {
+        care: numbers[2],
+        value: numbers[3],
+    };
+    let c = Mask {
+        care: numbers[4],
+        value: numbers[5],
+    };
+    let carries = Mask {
+        care: numbers[6],
+        value: numbers[7],
+    };
+    let job = Job {
+        setting,
+        a: Wanted { mask: a },
+        b: Wanted { mask: b },
+        c: Wanted { mask: c },
+        carries,
+    };
+    Entry {
+        job,
+        r1: numbers[9],
+        r2: numbers[10],
+    }
+}
