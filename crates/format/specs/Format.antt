@@ -33,7 +33,7 @@ formatCause F =
 unfoldable pub operationCause : ℕ → ℕ
 operationCause op = unless (leb op mostOperation) cause.operation
 
--- mode above 3
+-- mode above 4
 unfoldable pub modeCause : ℕ → ℕ
 modeCause m = unless (leb m mostMode) cause.mode
 

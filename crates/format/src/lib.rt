@@ -61,7 +61,7 @@ pub fn operation_cause(operation: u64) -> u64
     unless(operation <= limits::MOST_OPERATION, cause::OPERATION)
 }
 
-// 4 where the mode is above 3.
+// 4 where the mode is above 4.
 pub fn mode_cause(mode: u64) -> u64
     ensures { λ r. ⌜ r ≡ modeCause mode ⌝ }
 {

@@ -20,12 +20,12 @@ direction mode s = cond (eqb mode 0) NearestEven (cond (eqb mode 4) NearestAway 
 unfoldable pub cancelledSign : ℕ → ℕ
 cancelledSign mode = cond (eqb mode 3) 1 0
 
--- 1 where the dropped part ρ is more than half of M, 0 where it is less, and for half of it, a tie, what the direction says
+-- the dropped part ρ against half of M: 1 where it is more, 0 where it is less, and `tie` where it is half
 abbrev pub toNearest : ℕ → ℕ → ℕ → ℕ
 toNearest tie ρ M = cond (ltb M (2 * ρ)) 1 (cond (eqb (2 * ρ) M) tie 0)
 
--- 1 where the kept part q goes to the next number up, for the dropped part ρ of M: to the nearest, a tie when q is odd, or always; away
--- from zero when anything is dropped
+-- 1 where the kept part q goes to the next number up, for the dropped part ρ of M: to the nearest when ρ is more than half of M, and a tie
+-- when q is odd, or always; away from zero when anything is dropped
 unfoldable pub increment : way.Direction → ℕ → ℕ → ℕ → ℕ
 increment NearestEven q ρ M = toNearest (q % 2) ρ M
 increment NearestAway q ρ M = toNearest 1 ρ M

@@ -1,4 +1,4 @@
-//! A second implementation of document 01, written from that document alone.
+//! A second implementation of documents 01 and 02, written from these alone.
 //!
 //! It exists to be compared with the first one, so it shares no code with it and
 //! prefers the obvious way to the fast one: exact sums on wide integers, rounding by
