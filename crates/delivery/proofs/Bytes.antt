@@ -71,3 +71,7 @@ module _ (ns s : List ℕ) where
 -- what is delivered as one content is delivered as an equal one
 pub delivered-as : {x y : Content} {s t : List ℕ} {n : ℕ} → x ≡ y → Delivered x s t n → Delivered y s t n
 delivered-as {x} {y} {s} {t} {n} e h = subst (λ (z : Content). Delivered z s t n) e h
+
+-- of one content the number and the buffer are one alone
+pub delivered-unique : {x : Content} {s t u : List ℕ} {m n : ℕ} → Delivered x s t m → Delivered x s u n → (m ≡ n) × (t ≡ u)
+delivered-unique p q = (p .number ∙ sym (q .number), p .buffer ∙ sym (q .buffer))

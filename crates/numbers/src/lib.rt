@@ -7,6 +7,7 @@ ghost use Rattle.numbers.specs.Number.{littleEndian, number, numberWithi
 // The bytes of a u64.
 const MOST_BYTES: usize = 8;
 
+// A byte as a number.
 pub fn wide(byte: u8) -> u64
     ensures { λ r. ⌜ r ≡ byte ⌝ }
 {

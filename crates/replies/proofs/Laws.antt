@@ -31,18 +31,14 @@ use Rattle.whole.specs.declared.Job as whole-job
 use Rattle.whole.specs.declared.Reply.the-variants as whole-is
 use Rattle.whole.specs.Reply as whole
 use Rattle.whole.proofs.Replies as whole-law
-use Rattle.delivery.specs.Answer.{Content, Delivered}
+use Rattle.delivery.specs.Answer.{Content}
 use Rattle.replies.specs.Replies.{ofCase, ofWhole, OfRecord, Generated, WholeGenerated}
-use Rattle.delivery.proofs.Bytes.{delivered-as}
+use Rattle.delivery.proofs.Bytes.{delivered-as, delivered-unique}
 
--- ---- one content, one buffer
-module _ {s t u : List ℕ} {m n : ℕ} where
-  pub delivered-unique : {x : Content} → Delivered x s t m → Delivered x s u n → (m ≡ n) × (t ≡ u)
-  delivered-unique p q = (p .number ∙ sym (q .number), p .buffer ∙ sym (q .buffer))
-
-  pub whole-unique : (j : whole-job.Job) → WholeGenerated j s t m → WholeGenerated j s u n → (m ≡ n) × (t ≡ u)
-  whole-unique j p q =
-      delivered-unique (delivered-as (ap ofWhole (whole-law.reply-unique j (p .reply) (q .reply) (p .replied) (q .replied))) (p .delivered)) (q .delivered)
+-- ---- one job, one buffer
+pub whole-unique : {s t u : List ℕ} {m n : ℕ} (j : whole-job.Job) → WholeGenerated j s t m → WholeGenerated j s u n → (m ≡ n) × (t ≡ u)
+whole-unique j p q =
+    delivered-unique (delivered-as (ap ofWhole (whole-law.reply-unique j (p .reply) (q .reply) (p .replied) (q .replied))) (p .delivered)) (q .delivered)
 
 pub content-unique : (r : First) (x y : Content) → OfRecord r x → OfRecord r y → x ≡ y
 content-unique first-is.End x y p q = p ∙ sym q
