@@ -10,10 +10,12 @@
  * answer are. Any numbers and any bytes may be given. A pointer is to as many bytes as the
  * length after it says, and is not null even where that is 0; out must not overlap a file.
  *
- * w is 2 to 8 exponent bits, f is 2 to 23 fraction bits; a word has w + f + 1 bits: the sign,
+ * w is 2 to 11 exponent bits, f is 2 to 52 fraction bits; a word has w + f + 1 bits: the sign,
  * the exponent field and the fraction, from the top. operation is 0 to add and 1 to subtract.
  * mode is 0 nearest with ties to even, 1 toward zero, 2 up, 3 down, 4 nearest with ties away from
  * zero. A mask is two words: care, with a 1 for each fixed bit, and value, with the fixed bits.
+ * In a job record every word, of a carry mask too, has 4 bytes where w + f + 1 is at most 32,
+ * else 8.
  */
 #ifndef VINDACSOR_H
 #define VINDACSOR_H
@@ -27,8 +29,8 @@ extern "C" {
 
 /* The refusals. */
 enum {
-    VINDACSOR_EXPONENT_BITS = 1, /* w below 2 or above 8 */
-    VINDACSOR_FRACTION_BITS = 2, /* f below 2 or above 23 */
+    VINDACSOR_EXPONENT_BITS = 1, /* w below 2 or above 11 */
+    VINDACSOR_FRACTION_BITS = 2, /* f below 2 or above 52 */
     VINDACSOR_OPERATION = 3,     /* operation above 1 */
     VINDACSOR_MODE = 4,          /* mode above 4 */
     VINDACSOR_MASK = 5,          /* mask bit above its width, or value outside care */

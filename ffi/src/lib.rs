@@ -2,9 +2,10 @@
 //! writes, behind safe ones. Documents 01 and 02 name the formats, operations, modes, masks, job
 //! records and refusals. [`buffer`] has the functions as the library has them.
 //!
-//! w is 2 to 8 exponent bits and f is 2 to 23 fraction bits. Operation 0 adds and 1 subtracts.
+//! w is 2 to 11 exponent bits and f is 2 to 52 fraction bits. Operation 0 adds and 1 subtracts.
 //! Mode 0 is nearest with ties to even, 1 toward zero, 2 up, 3 down, 4 nearest with ties away from
-//! zero.
+//! zero. In a job record every word, of a carry mask too, has 4 bytes where w + f + 1 is at most
+//! 32, else 8.
 
 pub mod buffer;
 
@@ -146,6 +147,30 @@ mod tests {
         };
         assert_eq!(generate(&CASE_1), Ok(found));
         assert_eq!(generate(&[]), Err(Refusal(8)));
+    }
+
+    /// Double precision, add, mode 0, with a and b fixed to 2: words of eight bytes.
+    #[test]
+    fn a_job_of_64_bits() {
+        let [two, four] = [0x4000_0000_0000_0000u64, 0x4010_0000_0000_0000];
+        let fixed = [[0xFF; 8], two.to_le_bytes()].concat();
+        let job = [&[0x03, 11, 52, 0], &fixed[..], &fixed].concat();
+        assert_eq!(read(&job), Ok(Some(36)));
+        assert_eq!(read(&job[..35]), Err(Refusal(8)));
+        let found = Case {
+            a: two,
+            b: two,
+            c: four,
+            row: Some(1 << 52),
+        };
+        assert_eq!(generate(&job), Ok(found));
+        assert_eq!(confirm(&job, two, two, four), Ok(true));
+        assert_eq!(confirm(&job, two, two, four + 1), Ok(false));
+        assert_eq!(result(11, 52, 0, 0, two, two), Ok(four));
+        assert_eq!(row(11, 52, 0, two, two), Ok(Some(1 << 52)));
+        // One more exponent or fraction bit is refused.
+        assert_eq!(result(12, 52, 0, 0, two, two), Err(Refusal(1)));
+        assert_eq!(result(11, 53, 0, 0, two, two), Err(Refusal(2)));
     }
 
     #[test]

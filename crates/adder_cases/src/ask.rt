@@ -5,6 +5,7 @@ use crate::line::put_reply;
 use crate::line::put_row;
 use crate::same::same_reply;
 use crate::same::same_row;
+use crate::words::Sized;
 use adder::Reply;
 use adder::Row;
 use adder::RowReply;
@@ -55,10 +56,6 @@ fn eight() -> Format {
     Format { w: 3, f: 4 }
 }
 
-fn single() -> Format {
-    Format { w: 8, f: 23 }
-}
-
 pub(crate) fn eight_sum(count: Count, mode: u64, a: u64, b: u64, c: u64) -> Count {
     result(count, eight(), ADD, mode, a, b, 2, Reply::Word(c))
 }
@@ -95,12 +92,21 @@ pub(crate) fn eight_difference_no_row(count: Count, a: u64, b: u64) -> Count {
     row(count, eight(), SUBTRACT, a, b, 2, RowReply::Row(Row::NoRow))
 }
 
-pub(crate) fn single_sum(count: Count, mode: u64, a: u64, b: u64, c: u64) -> Count {
-    result(count, single(), ADD, mode, a, b, 8, Reply::Word(c))
+pub(crate) fn sum(count: Count, z: Sized, mode: u64, a: u64, b: u64, c: u64) -> Count {
+    result(count, z.format, ADD, mode, a, b, z.digits, Reply::Word(c))
 }
 
-pub(crate) fn single_difference(count: Count, mode: u64, a: u64, b: u64, c: u64) -> Count {
-    result(count, single(), SUBTRACT, mode, a, b, 8, Reply::Word(c))
+pub(crate) fn difference(count: Count, z: Sized, mode: u64, a: u64, b: u64, c: u64) -> Count {
+    result(
+        count,
+        z.format,
+        SUBTRACT,
+        mode,
+        a,
+        b,
+        z.digits,
+        Reply::Word(c),
+    )
 }
 
 // 0 + 0 in a format of these widths: accepted.

@@ -68,20 +68,20 @@ pub(crate) fn eight_bit_cases(count: Count) -> Count {
     ties_away(case_10(case_9(cases_7_and_8(case_6(case_5(case_1(count)))))))
 }
 
-// 12. w = 2 and 8 accepted, 1 and 9 refused; f = 2 and 23 accepted, 1 and 24 refused.
+// 12, as W-202 moves it. w = 2 and 11 accepted, 1 and 12 refused; f = 2 and 52 accepted, 1 and 53 refused.
 pub(crate) fn limits(count: Count) -> Count {
-    let one = accepted(accepted(count, 2, 4), 8, 4);
+    let one = accepted(accepted(count, 2, 4), 11, 4);
     let two = refused(
         refused(one, 1, 4, cause::EXPONENT_BITS),
-        9,
+        12,
         4,
         cause::EXPONENT_BITS,
     );
-    let three = accepted(accepted(two, 3, 2), 3, 23);
+    let three = accepted(accepted(two, 3, 2), 3, 52);
     refused(
         refused(three, 3, 1, cause::FRACTION_BITS),
         3,
-        24,
+        53,
         cause::FRACTION_BITS,
     )
 }

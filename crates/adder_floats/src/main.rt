@@ -1,10 +1,16 @@
-// Compares single-precision addition in mode 0 with the language's own, on 131,072 pairs from a fixed generator: 16,384 of each class.
+// Compares addition in mode 0 with the language's own, in single and in double precision, on 131,072 pairs each from a fixed generator: 16,384
+// of each class.
 mod compare;
 mod pairs;
 
+use crate::compare::Precision;
 use crate::compare::Verdict;
 use crate::compare::compared;
+use crate::compare::format_of;
+use crate::pairs::Draw;
 use crate::pairs::Pair;
+use bits::minus;
+use format::Format;
 use libc::STDOUT_FILENO;
 
 const PAIRS: u64 = 16384;
@@ -20,6 +26,18 @@ struct Tally {
 struct Run {
     state: u64,
     tally: Tally,
+}
+
+// A run in which nothing is counted yet.
+fn start(state: u64) -> Run {
+    Run {
+        state,
+        tally: Tally {
+            equal: 0,
+            nan: 0,
+            unlike: 0,
+        },
+    }
 }
 
 fn counted(tally: Tally, verdict: Verdict) -> Tally {
@@ -43,43 +61,36 @@ fn counted(tally: Tally, verdict: Verdict) -> Tally {
 }
 
 // The pair of a class.
-fn pair_of(class: u64, state: u64) -> Pair {
+fn pair_of(format: Format, class: u64, draw: Draw) -> Pair {
     match class {
-        0 => pairs::any(state),
-        1 => pairs::apart(state, 0),
-        2 => pairs::apart(state, 20),
-        3 => pairs::tied(state),
-        4 => pairs::cancelled(state),
-        5 => pairs::small(state),
-        6 => pairs::large(state),
-        _ => pairs::special(state),
+        0 => pairs::any(format, draw),
+        1 => pairs::apart(format, draw, 0),
+        2 => pairs::apart(format, draw, minus(format.f, 3)),
+        3 => pairs::tied(format, draw),
+        4 => pairs::cancelled(format, draw),
+        5 => pairs::small(format, draw),
+        6 => pairs::large(format, draw),
+        _ => pairs::special(format, draw),
     }
 }
 
 // All pairs of a class.
-fn run_class(class: u64, state: u64) -> Run {
-    let mut run = Run {
-        state,
-        tally: Tally {
-            equal: 0,
-            nan: 0,
-            unlike: 0,
-        },
-    };
+fn run_class(precision: Precision, class: u64, state: u64) -> Run {
+    let mut run = start(state);
     let mut i = 0u64;
     while i < PAIRS {
-        run = one_more(class, run);
+        run = one_more(precision, class, run);
         i += 1;
     }
     run
 }
 
-fn one_more(class: u64, run: Run) -> Run {
-    let state = pairs::next(run.state);
-    let pair = pair_of(class, state);
+fn one_more(precision: Precision, class: u64, run: Run) -> Run {
+    let draw = pairs::next_draw(run.state);
+    let pair = pair_of(format_of(precision), class, draw);
     Run {
-        state,
-        tally: counted(run.tally, compared(pair.a, pair.b)),
+        state: draw.common,
+        tally: counted(run.tally, compared(precision, pair.a, pair.b)),
     }
 }
 
@@ -87,7 +98,7 @@ fn put_class(class: u64) {
     match class {
         0 => io::write_all(STDOUT_FILENO, b"any words"),
         1 => io::write_all(STDOUT_FILENO, b"exponents 0 to 7 apart"),
-        2 => io::write_all(STDOUT_FILENO, b"exponents 20 to 27 apart"),
+        2 => io::write_all(STDOUT_FILENO, b"exponents p - 4 to p + 3 apart"),
         3 => io::write_all(STDOUT_FILENO, b"ties and near ties"),
         4 => io::write_all(STDOUT_FILENO, b"cancellations"),
         5 => io::write_all(STDOUT_FILENO, b"subnormal and least normal"),
@@ -116,8 +127,8 @@ fn summed(one: Tally, other: Tally) -> Tally {
 }
 
 // A line for a class, and the run so far with it.
-fn show_class(class: u64, before: Run) -> Run {
-    let run = run_class(class, before.state);
+fn show_class(precision: Precision, class: u64, before: Run) -> Run {
+    let run = run_class(precision, class, before.state);
     put_class(class);
     put_tally(run.tally);
     Run {
@@ -126,19 +137,27 @@ fn show_class(class: u64, before: Run) -> Run {
     }
 }
 
-fn main() {
-    let none = Run {
-        state: 88172645463325252,
-        tally: Tally {
-            equal: 0,
-            nan: 0,
-            unlike: 0,
-        },
-    };
-    let near = show_class(1, show_class(0, none));
-    let far = show_class(3, show_class(2, near));
-    let small = show_class(5, show_class(4, far));
-    let all = show_class(7, show_class(6, small));
+fn put_precision(precision: Precision) {
+    match precision {
+        Precision::Single => io::write_all(STDOUT_FILENO, b"single precision\n"),
+        Precision::Double => io::write_all(STDOUT_FILENO, b"double precision\n"),
+    }
+    ;
+}
+
+// The lines of all classes and of their sum, and the generator's state after them.
+fn show(precision: Precision, state: u64) -> u64 {
+    put_precision(precision);
+    let near = show_class(precision, 1, show_class(precision, 0, start(state)));
+    let far = show_class(precision, 3, show_class(precision, 2, near));
+    let small = show_class(precision, 5, show_class(precision, 4, far));
+    let all = show_class(precision, 7, show_class(precision, 6, small));
     io::write_all(STDOUT_FILENO, b"all pairs");
     put_tally(all.tally);
+    all.state
+}
+
+fn main() {
+    let state = show(Precision::Single, 88172645463325252);
+    show(Precision::Double, state);
 }

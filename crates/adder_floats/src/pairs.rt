@@ -1,45 +1,85 @@
-// Pairs of single-precision words from a fixed generator, by classes in which adders go wrong.
+// Pairs of words of a format from a fixed generator, by classes in which adders go wrong.
+use bits::low;
+use bits::minus;
+use bits::power;
+use format::Format;
+use word::pack::signed;
+use word::pack::word_of;
 
-// The words of a pair, 32 bits each.
+// The words of a pair.
 pub struct Pair {
     pub a: u64,
     pub b: u64,
 }
 
+// Three numbers of the generator: one for the bits of each word, and the last, which is also its state, for what the words have in common.
+pub struct Draw {
+    pub a: u64,
+    pub b: u64,
+    pub common: u64,
+}
+
 // Marsaglia's 64-bit xorshift, with the shifts 13, 7 and 17.
-pub(crate) fn next(state: u64) -> u64 {
+fn next(state: u64) -> u64 {
     let one = state ^ (state << 13);
     let two = one ^ (one >> 7);
     two ^ (two << 17)
 }
 
-// A word of a sign, a biased exponent and a fraction, each taken from the low bits of a number.
-fn word(sign: u64, exponent: u64, fraction: u64) -> u64 {
-    (sign % 2) * 2147483648 + (exponent % 256) * 8388608 + fraction % 8388608
+// The three numbers after a state.
+pub(crate) fn next_draw(state: u64) -> Draw {
+    let a = next(state);
+    let b = next(a);
+    Draw {
+        a,
+        b,
+        common: next(b),
+    }
+}
+
+// A word of a sign, an exponent field and a fraction, each taken from the low bits of a number.
+fn word(format: Format, sign: u64, exponent: u64, fraction: u64) -> u64 {
+    word_of(
+        format,
+        sign % 2,
+        low(exponent, format.w),
+        low(fraction, format.f),
+    )
+}
+
+// The word of an exponent field whose sign and fraction are the top bit and the low bits of a number.
+fn drawn(format: Format, bits: u64, exponent: u64) -> u64 {
+    word(format, bits >> 63, exponent, bits)
 }
 
 // Words with any bits.
-pub(crate) fn any(state: u64) -> Pair {
+pub(crate) fn any(format: Format, draw: Draw) -> Pair {
     Pair {
-        a: state % 4294967296,
-        b: state >> 32,
+        a: drawn(format, draw.a, draw.a >> 52),
+        b: drawn(format, draw.b, draw.b >> 52),
     }
 }
 
-// Exponents that differ by `least` to `least + 7`: a's is a random one that leaves room below.
-pub(crate) fn apart(state: u64, least: u64) -> Pair {
-    let gap = (state >> 48) % 8 + least % 64;
-    let exponent = 80 + (state >> 51) % 128;
+// An exponent field from the middle half of all, which leaves room on either side.
+fn middle(format: Format, chance: u64) -> u64 {
+    power(minus(format.w, 1 + chance % 2)) | low(chance >> 1, minus(format.w, 2))
+}
+
+// Exponents that differ by `least` to `least + 7`, a's the larger.
+pub(crate) fn apart(format: Format, draw: Draw, least: u64) -> Pair {
+    let exponent = middle(format, draw.common >> 8);
+    let highest = minus(exponent, least);
     Pair {
-        a: word(state >> 63, exponent, state),
-        b: word(state >> 62, exponent - gap, state >> 23),
+        a: drawn(format, draw.a, exponent),
+        b: drawn(format, draw.b, minus(highest, draw.common % 8)),
     }
 }
 
-// A fraction, one time in four within 4 of a power of two on either side, where rounding and borrowing change the exponent.
+// A fraction, one time in four within 4 of a power of two on either side, where rounding and borrowing change the exponent: of a number below 0
+// a word takes the low bits, which end in ones.
 fn edged(chance: u64, fraction: u64) -> u64 {
     if chance % 4 == 0 {
-        8388604 + fraction % 8
+        std::num::wrapping_sub_u64(fraction % 8, 4)
     } else {
         fraction
     }
@@ -47,43 +87,70 @@ fn edged(chance: u64, fraction: u64) -> u64 {
 
 // An operand with a fraction of two bits, and perhaps the lowest one, that ends at the last place of the other or just below it: ties, and
 // sums just off a tie.
-pub(crate) fn tied(state: u64) -> Pair {
-    let gap = 22 + (state >> 48) % 4;
-    let exponent = 80 + (state >> 51) % 128;
+pub(crate) fn tied(format: Format, draw: Draw) -> Pair {
+    let exponent = middle(format, draw.common >> 8);
+    let last_place = minus(exponent, minus(format.f, 1));
+    let two_bits = power(minus(format.f, 1)) | power(minus(format.f, 2));
     Pair {
-        a: word(state >> 63, exponent, edged(state >> 26, state)),
+        a: word(
+            format,
+            draw.a >> 63,
+            exponent,
+            edged(draw.common >> 2, draw.a),
+        ),
         b: word(
-            state >> 62,
-            exponent - gap,
-            (state >> 23) % 4 * 2097152 + (state >> 25) % 2,
+            format,
+            draw.b >> 63,
+            minus(last_place, draw.common % 4),
+            draw.b & (two_bits | 1),
         ),
     }
 }
 
-// Unlike signs, and magnitudes that differ by 7 at most in their words.
-pub(crate) fn cancelled(state: u64) -> Pair {
-    let magnitude = 8 + state % 2139095024;
+// Unlike signs, and magnitudes that differ by 7 at most in their words. The exponent field is one below a drawn one, so never all ones.
+pub(crate) fn cancelled(format: Format, draw: Draw) -> Pair {
+    let exponent = minus(low(draw.a >> 52, format.w), 1);
+    let magnitude = word(format, 0, exponent, draw.a);
     Pair {
-        a: (state >> 63) * 2147483648 + magnitude,
-        b: (1 - (state >> 63)) * 2147483648 + magnitude - (state >> 60) % 8,
+        a: signed(format, draw.a >> 63, magnitude),
+        b: signed(
+            format,
+            1 - (draw.a >> 63),
+            minus(magnitude, draw.common % 8),
+        ),
     }
 }
 
 // Exponent fields 0 to 3.
-pub(crate) fn small(state: u64) -> Pair {
+pub(crate) fn small(format: Format, draw: Draw) -> Pair {
     Pair {
-        a: word(state >> 63, (state >> 48) % 4, state),
-        b: word(state >> 62, (state >> 50) % 4, state >> 23),
+        a: drawn(format, draw.a, draw.common % 4),
+        b: drawn(format, draw.b, (draw.common >> 2) % 4),
     }
 }
 
-// Exponent fields 251 to 254, and mostly like signs.
-pub(crate) fn large(state: u64) -> Pair {
-    let unlike = (state >> 52) % 8 / 7;
+// One of the last four exponent fields below all ones.
+fn last_fields(format: Format, chance: u64) -> u64 {
+    minus(power(format.w), 2 + chance % 4)
+}
+
+// The last four exponent fields, and mostly like signs.
+pub(crate) fn large(format: Format, draw: Draw) -> Pair {
+    let unlike = (draw.common >> 4) % 8 / 7;
     Pair {
-        a: word(state >> 63, 251 + (state >> 48) % 4, state),
-        b: word((state >> 63) ^ unlike, 251 + (state >> 50) % 4, state >> 23),
+        a: drawn(format, draw.a, last_fields(format, draw.common)),
+        b: word(
+            format,
+            (draw.a >> 63) ^ unlike,
+            last_fields(format, draw.common >> 2),
+            draw.b,
+        ),
     }
+}
+
+// Exponent field 0, 1 or, as one below 0, all ones.
+fn end_fields(chance: u64) -> u64 {
+    std::num::wrapping_sub_u64(chance % 2, (chance >> 1) % 2)
 }
 
 // The number one time in four, else 0.
@@ -91,18 +158,20 @@ fn sometimes(chance: u64, x: u64) -> u64 {
     if chance % 4 == 0 { x } else { 0 }
 }
 
-// Exponent fields 0, 1, 255, and mostly fractions of 0: zeros, infinities, NaNs.
-pub(crate) fn special(state: u64) -> Pair {
+// The first two exponent fields and the last, and mostly fractions of 0: zeros, infinities, NaNs.
+pub(crate) fn special(format: Format, draw: Draw) -> Pair {
     Pair {
         a: word(
-            state >> 63,
-            255 * ((state >> 48) % 2) + (state >> 49) % 2,
-            sometimes(state >> 50, state),
+            format,
+            draw.a >> 63,
+            end_fields(draw.common),
+            sometimes(draw.common >> 2, draw.a),
         ),
         b: word(
-            state >> 62,
-            255 * ((state >> 52) % 2) + (state >> 53) % 2,
-            sometimes(state >> 54, state >> 23),
+            format,
+            draw.b >> 63,
+            end_fields(draw.common >> 4),
+            sometimes(draw.common >> 6, draw.b),
         ),
     }
 }

@@ -22,7 +22,7 @@ pub record Supported (F : Format) : Type 0 where
   pub f-least : leastFractionBits ≤ F .f
   pub f-most : F .f ≤ mostFractionBits
 
--- w below 2 or above 8; f below 2 or above 23
+-- w below 2 or above 11; f below 2 or above 52
 unfoldable pub formatCause : Format → ℕ
 formatCause F =
     first

@@ -4,19 +4,19 @@ use mathlib.Core.Bool.{Bool, _&&_}
 use Prim.Native.Nat.{ℕ}
 use lib.Dec.{leb}
 
--- w exponent bits (2 to 8)
+-- w exponent bits (2 to 11: document 02, W-202)
 abbrev pub leastExponentBits : ℕ
 leastExponentBits = 2
 
 abbrev pub mostExponentBits : ℕ
-mostExponentBits = 8
+mostExponentBits = 11
 
--- f fraction bits (2 to 23)
+-- f fraction bits (2 to 52)
 abbrev pub leastFractionBits : ℕ
 leastFractionBits = 2
 
 abbrev pub mostFractionBits : ℕ
-mostFractionBits = 23
+mostFractionBits = 52
 
 -- operation 0 adds, 1 subtracts
 abbrev pub mostOperation : ℕ

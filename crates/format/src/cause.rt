@@ -1,8 +1,8 @@
 // The numbers of document 01's table "Causes and replies". 0 stands for no cause.
 
-// w below 2 or above 8
+// w below 2 or above 11
 pub const EXPONENT_BITS: u64 = 1;
-// f below 2 or above 23
+// f below 2 or above 52
 pub const FRACTION_BITS: u64 = 2;
 // operation above 1
 pub const OPERATION: u64 = 3;

@@ -1,11 +1,11 @@
 // The limits of the plain numbers, each in this one place.
 pub const LEAST_EXPONENT_BITS: u64 = 2;
 
-pub const MOST_EXPONENT_BITS: u64 = 8;
+pub const MOST_EXPONENT_BITS: u64 = 11;
 
 pub const LEAST_FRACTION_BITS: u64 = 2;
 
-pub const MOST_FRACTION_BITS: u64 = 23;
+pub const MOST_FRACTION_BITS: u64 = 52;
 
 pub const MOST_OPERATION: u64 = 1;
 

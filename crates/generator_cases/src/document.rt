@@ -1,4 +1,4 @@
-// The cases of document 01, "Cases, in hexadecimal", and its causes 1 to 6; with mode 4 of document 02, W-201.
+// The cases of document 01, "Cases, in hexadecimal", and its causes 1 to 6; with mode 4 of document 02, W-201, and the widths of W-202.
 use crate::line::ask;
 use crate::line::put_reply;
 use crate::same::same_reply;
@@ -96,35 +96,80 @@ fn refused(count: Count, w: u64, f: u64, number: u64) -> Count {
     asked(count, open(w, f), 0, 0, Reply::Refused(number))
 }
 
-// 12. w = 2 and 8 accepted, 1 and 9 refused; f = 2 and 23 accepted, 1 and 24 refused.
+// 12, as W-202 moves it. w = 2 and 11 accepted, 1 and 12 refused; f = 2 and 52 accepted, 1 and 53 refused.
 pub(crate) fn limits(count: Count) -> Count {
-    let one = accepted(accepted(count, 2, 4), 8, 4);
+    let one = accepted(accepted(count, 2, 4), 11, 4);
     let two = refused(
         refused(one, 1, 4, cause::EXPONENT_BITS),
-        9,
+        12,
         4,
         cause::EXPONENT_BITS,
     );
-    let three = accepted(accepted(two, 3, 2), 3, 23);
+    let three = accepted(accepted(two, 3, 2), 3, 52);
     refused(
         refused(three, 3, 1, cause::FRACTION_BITS),
         3,
-        24,
+        53,
         cause::FRACTION_BITS,
     )
 }
 
-// Two positive operands and a negative sum.
-fn signs(count: Count, mode: u64) -> Count {
-    let plus = mask(0x80000000, 0);
-    let minus = mask(0x80000000, 0x80000000);
-    let job = masked_job(adding(8, 23, mode), plus, plus, minus, free());
+// Two positive operands and a negative sum, in the format whose words have this sign bit.
+fn signs(count: Count, w: u64, f: u64, sign: u64, mode: u64) -> Count {
+    let plus = mask(sign, 0);
+    let minus = mask(sign, sign);
+    let job = masked_job(adding(w, f, mode), plus, plus, minus, free());
     asked(count, job, 0, 0, Reply::Refused(cause::NO_CASE))
 }
 
-// 13. In each mode no case fits.
+// In each mode no case fits.
+fn every_mode(count: Count, w: u64, f: u64, sign: u64) -> Count {
+    let one = signs(signs(count, w, f, sign, 0), w, f, sign, 1);
+    let two = signs(signs(one, w, f, sign, 2), w, f, sign, 3);
+    signs(two, w, f, sign, 4)
+}
+
+// 13. In single precision, and in words of 33 and 64 bits.
 pub(crate) fn impossible_signs(count: Count) -> Count {
-    signs(signs(signs(signs(signs(count, 0), 1), 2), 3), 4)
+    let single = every_mode(count, 8, 23, 0x80000000);
+    let wider = every_mode(single, 8, 24, 0x100000000);
+    every_mode(wider, 11, 52, 0x8000000000000000)
+}
+
+// Double precision, 1 plus a half of its last place: a tie, which goes to 1 in mode 0 and to the next number in mode 4; c fixed to that
+// number has no case in mode 0.
+pub(crate) fn double_tie(count: Count) -> Count {
+    let all = mask(0xFFFFFFFFFFFFFFFF, 0x3FF0000000000000);
+    let half = mask(0xFFFFFFFFFFFFFFFF, 0x3CA0000000000000);
+    let next = mask(0xFFFFFFFFFFFFFFFF, 0x3FF0000000000001);
+    let even = masked_job(adding(11, 52, 0), all, half, free(), free());
+    let away = masked_job(adding(11, 52, 4), all, half, next, free());
+    let none = masked_job(adding(11, 52, 0), all, half, next, free());
+    let one = asked(
+        count,
+        even,
+        0,
+        0,
+        found(
+            0x3FF0000000000000,
+            0x3CA0000000000000,
+            0x3FF0000000000000,
+            0,
+        ),
+    );
+    let two = asked(
+        one,
+        away,
+        0,
+        0,
+        found(
+            0x3FF0000000000000,
+            0x3CA0000000000000,
+            0x3FF0000000000001,
+            0,
+        ),
+    );
+    asked(two, none, 0, 0, Reply::Refused(cause::NO_CASE))
 }
 
 // A line for a job of these numbers and masks that is refused, with both random words the same.

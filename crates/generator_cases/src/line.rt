@@ -6,10 +6,10 @@ use job::Job;
 use libc::STDOUT_FILENO;
 use mask::Mask;
 
-// A space and a word.
+// A space and a word, in the digits of the widest.
 fn put_word(word: u64) {
     io::write_all(STDOUT_FILENO, b" ");
-    io::print_hex(STDOUT_FILENO, word, 8);
+    io::print_hex(STDOUT_FILENO, word, 16);
 }
 
 // The care and the value of the mask of this name; nothing where both are 0.

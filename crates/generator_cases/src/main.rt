@@ -1,4 +1,4 @@
-// Cases 1 to 4, 12 and 13 of document 01 and one job for each cause of bad input, through the case generator.
+// Cases 1 to 4, 12 and 13 of document 01, a tie in double precision and one job for each cause of bad input, through the case generator.
 mod document;
 mod line;
 mod same;
@@ -10,5 +10,6 @@ fn main() {
     let masked = document::carry_fixed(document::masked_cases(none));
     let limits = document::limits(masked);
     let signs = document::impossible_signs(limits);
-    tally::put_count(document::bad_input(signs));
+    let double = document::double_tie(signs);
+    tally::put_count(document::bad_input(double));
 }

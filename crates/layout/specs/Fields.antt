@@ -1,17 +1,20 @@
 -- The fields of a job record (document 01, "Job files"): its layout, the numbers of an entry in that layout and the entry of such numbers,
 -- with the map that goes with them. An entry is a job with its two random words. Assumes nothing.
+use mathlib.Core.Bool.{cond}
 use Prim.Native.Nat.{ℕ, suc}
 use mathlib.Core.List.{List, [], _∷_, _++_}
 use lib.ListN.{getD}
+use lib.Dec.{leb}
 use Rattle.format.specs.declared.Format.{Format}
+use Rattle.format.specs.Format.{wordBits}
 use Rattle.mask.specs.declared.Mask.{Mask}
 use Rattle.layout.specs.Layout.{sizes, mapOf}
 use Rattle.layout.specs.declared.Slot.{Slot}
 use Rattle.layout.specs.declared.Entry.{Entry}
 
--- a word is "4 bytes"
-abbrev pub wordBytes : ℕ
-wordBytes = 4
+-- document 02, W-202: "whatever w and f, a word, for the carries too, has 4 bytes where w + f + 1 is at most 32, and 8 bytes above that"
+unfoldable pub wordBytes : Format → ℕ
+wordBytes F = cond (leb (wordBits F) 32) 4 8
 
 -- bits 0 to 5 of the map stand for fields
 abbrev pub fieldCount : ℕ
@@ -28,7 +31,7 @@ one i k = record { bit = i; size = k } ∷ []
 abbrev pub two : ℕ → ℕ → List Slot
 two i k = one i k ++ one i k
 
--- "bits 0 to 3 the masks of a, b, c and carries, bit 4 the mode, bit 5 the random words"; a mask and the random words are two words each,
+-- with words of `word` bytes: "bits 0 to 3 the masks of a, b, c and carries, bit 4 the mode, bit 5 the random words"; a mask and the random words are two words each,
 -- "The mode is one byte"
 unfoldable pub layout : ℕ → List Slot
 layout word = two 0 word ++ (two 1 word ++ (two 2 word ++ (two 3 word ++ (one 4 1 ++ two 5 word))))
@@ -62,9 +65,13 @@ entryWith format operation ns =
       r2 = getD ns 10 0;
     }
 
--- the byte counts of the numbers in a record with the map m, and the map of an entry's record
-abbrev pub fieldSizes : ℕ → List ℕ
-fieldSizes m = sizes (layout wordBytes) m
+-- the byte counts of the numbers in a record with words of `word` bytes and the map m
+abbrev pub fieldSizes : ℕ → ℕ → List ℕ
+fieldSizes word m = sizes (layout word) m
+
+-- the byte count of a word of an entry's record, and the map of that record
+abbrev pub entryWord : Entry → ℕ
+entryWord e = wordBytes (e .job .setting .format)
 
 unfoldable pub entryMap : Entry → ℕ
-entryMap e = mapOf (layout wordBytes) (entryNumbers e)
+entryMap e = mapOf (layout (entryWord e)) (entryNumbers e)

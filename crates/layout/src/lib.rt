@@ -11,8 +11,12 @@ ghost use Rattle.bits.specs.Bit.{bit};
 ghost use Rattle.layout.specs.Layout.{sizes, mapOf};
 ghost use Rattle.layout.specs.Fields.{wordBytes, layout, fieldSizes, entryNumbers, entryMap, entryWith};
 
-// How many bytes a word has.
-const WORD: usize = 4;
+// A word of up to so many bits is narrow.
+const NARROW_BITS: u64 = 32;
+// How many bytes a narrow word has, and any other.
+const NARROW: usize = 4;
+
+const WIDE: usize = 8;
 // The map bits that stand for fields.
 pub const FIELDS: u64 = 6;
 // The numbers of all fields.
@@ -29,6 +33,20 @@ pub struct Entry {
 pub struct Slot {
     pub bit: u64,
     pub size: usize,
+}
+
+// How many bytes a word has in a record with these widths, whatever they are. The sign is a bit of the word too, so a narrow word has one bit
+// less for its fields, and no sum can overflow.
+pub fn word_bytes(format: Format) -> usize
+    ensures { λ r. ⌜ r ≡ wordBytes format ⌝ }
+{
+    if NARROW_BITS <= format.w {
+        return WIDE;
+    }
+    if NARROW_BITS - format.w <= format.f {
+        return WIDE;
+    }
+    NARROW
 }
 
 // The numbers in bit order: care and value of the masks of a, b, c and carries, the mode, the random words.
@@ -60,11 +78,11 @@ fn size(slot: Slot, map: u64) -> usize
     slot.size
 }
 
-// How many bytes each number has in a record with this map.
-pub fn field_sizes(map: u64) -> [usize; NUMBERS]
-    ensures { λ r. ⌜ r ≡ fieldSizes map ⌝ }
+// How many bytes each number has in a record with words of so many bytes and this map.
+pub fn field_sizes(word: usize, map: u64) -> [usize; NUMBERS]
+    ensures { λ r. ⌜ r ≡ fieldSizes word map ⌝ }
 {
-    let slots = layout(WORD);
+    let slots = layout(word);
     let mut sizes = [0; NUMBERS];
     let mut i = 0;
     while i < NUMBERS {
@@ -76,10 +94,10 @@ pub fn field_sizes(map: u64) -> [usize; NUMBERS]
 }
 
 // The map of a record with these numbers: each that is not 0 sets the bit of its field.
-fn map_of(numbers: [u64; NUMBERS]) -> u64
-    ensures { λ r. ⌜ r ≡ mapOf (layout wordBytes) numbers ⌝ }
+fn map_of(word: usize, numbers: [u64; NUMBERS]) -> u64
+    ensures { λ r. ⌜ r ≡ mapOf (layout word) numbers ⌝ }
 {
-    let slots = layout(WORD);
+    let slots = layout(word);
     let mut map: u64 = 0;
     let mut i = NUMBERS;
     while 0 < i {
@@ -115,7 +133,7 @@ pub fn entry_numbers(entry: Entry) -> [u64; NUMBERS]
 pub fn entry_map(entry: Entry) -> u64
     ensures { λ r. ⌜ r ≡ entryMap entry ⌝ }
 {
-    map_of(entry_numbers(entry))
+    map_of(word_bytes(entry.job.setting.format), entry_numbers(entry))
 }
 
 // The entry with these numbers.

@@ -103,7 +103,7 @@ lists-unique {s} {p} (answered {e} {n} r short on q replied) (answered {e = d} {
     let same-entry : e ≡ d = cc in
     let same-length : n ≡ m = cc in
     let same : r ≡ r₂ = reply-unique (e .job) (e .r1) (e .r2) r r₂ replied (subst (λ (x : Entry). Replied (x .job) (x .r1) (x .r2) r₂) (sym same-entry) replied₂) in (
-      ap (replyLine (p .lines + 1)) same,
+      ap₂ (λ (d : Entry) (x : Reply). replyLine (d .job .setting .format) (p .lines + 1) x) same-entry same,
       ap₂ (λ (i : ℕ) (x : Reply). On (record { at = p .at + i; lines = p .lines + 1; stopped = stops x })) same-length same,
     )
 

@@ -10,8 +10,10 @@ use lib.ListN.{length, take, set, length-append, length-set}
 use lib.Seq.{take-suc-set}
 use lib.Dec.{ltb}
 use borrow.Author.Tests.{lt-ltb, le-ltb, eq-eqb, ne-eqb, ltb-true, ltb-false}
-use Rattle.lines.specs.Text.{glyph, digits, places, decimal, word, rowText, noneLine, refusedLine, replyLine, text, Empty, Room, Grown, Says}
+use Rattle.lines.specs.Text.{glyph, digits, places, decimal, wordDigits, word, rowText, noneLine, refusedLine, replyLine, text, Empty, Room, Grown, Says}
 use Rattle.format.specs.Cause as cause
+use Rattle.format.specs.declared.Format.{Format}
+use Rattle.layout.proofs.JobLayout.{by-width}
 use Rattle.generator.specs.declared.Reply.the-variants.{Refused}
 use Rattle.adder.specs.declared.Row.{Row}
 use Rattle.adder.specs.declared.Row.the-variants.{Carries, NoRow}
@@ -109,14 +111,19 @@ room-left k n room g h = record { whole = g .whole; enough = omega (arith, room 
 
 -- ---- lines
 
-pub length-word : (x : ℕ) → length (word x) ≡ 9
-unfolding word
-length-word x = ap (λ (n : ℕ). suc n) (length-digits 16 8 x)
+-- a word has 16 digits at most
+pub word-digits-most : (F : Format) → wordDigits F ≤ 16
+unfolding wordDigits
+word-digits-most F = by-width (λ (k : ℕ). 2 * k ≤ 16) F (λ n. omega arith) (λ w. omega arith)
 
-pub row-most : (row : Row) → length (rowText row) ≤ 9
+pub length-word : (k x : ℕ) → length (word k x) ≡ suc k
+unfolding word
+length-word k x = ap (λ (n : ℕ). suc n) (length-digits 16 k x)
+
+pub row-most : (k : ℕ) (row : Row) → k ≤ 16 → length (rowText k row) ≤ 17
 unfolding rowText
-row-most (Carries x) = omega (arith, length-word x)
-row-most NoRow = omega arith
+row-most k (Carries x) h = omega (arith, length-word k x, h)
+row-most k NoRow h = omega arith
 
 -- what an empty line has grown to
 pub says-grown : {l r : Line} {bs : List ℕ} → Empty l → Grown l r bs → length bs ≤ 128 → Says r bs
@@ -124,10 +131,10 @@ says-grown {l} {r} {bs} e g h =
     record { most = omega (arith, g .len, g .whole, e .len, h); text = g .text ∙ ap (λ (n : ℕ). take n (l .bytes) ++ bs) (e .len) }
 
 -- the line for a number: 7, or another
-pub reply-none : (n k : ℕ) → k ≡ cause.noCase → replyLine n (Refused k) ≡ noneLine n
+pub reply-none : (F : Format) (n k : ℕ) → k ≡ cause.noCase → replyLine F n (Refused k) ≡ noneLine n
 unfolding replyLine
-reply-none n k e = ap (λ (t : Bool). cond t (noneLine n) (refusedLine n k)) (eq-eqb k cause.noCase e)
+reply-none F n k e = ap (λ (t : Bool). cond t (noneLine n) (refusedLine n k)) (eq-eqb k cause.noCase e)
 
-pub reply-refused : (n k : ℕ) → (k ≡ cause.noCase → ⊥) → replyLine n (Refused k) ≡ refusedLine n k
+pub reply-refused : (F : Format) (n k : ℕ) → (k ≡ cause.noCase → ⊥) → replyLine F n (Refused k) ≡ refusedLine n k
 unfolding replyLine
-reply-refused n k h = ap (λ (t : Bool). cond t (noneLine n) (refusedLine n k)) (ne-eqb k cause.noCase h)
+reply-refused F n k h = ap (λ (t : Bool). cond t (noneLine n) (refusedLine n k)) (ne-eqb k cause.noCase h)

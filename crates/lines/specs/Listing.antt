@@ -48,7 +48,7 @@ pub data Lists (s : List ℕ) (p : Place) : List ℕ → Then → Type 0 where
       → Lists s p (refusedLine (p .lines + 1) k) (On (record { at = p .at; lines = p .lines + 1; stopped = true }))
   -- a job: the line for the generator's reply to it
   answered : {e : Entry} {n : ℕ} (r : Reply) → length s ≤ longest → Reading p → firstIn (drop (p .at) s) ≡ found.Job e n → Replied (e .job) (e .r1) (e .r2) r
-      → Lists s p (replyLine (p .lines + 1) r) (On (record { at = p .at + n; lines = p .lines + 1; stopped = stops r }))
+      → Lists s p (replyLine (e .job .setting .format) (p .lines + 1) r) (On (record { at = p .at + n; lines = p .lines + 1; stopped = stops r }))
 
 -- all the text from the place p on
 pub data Listed (s : List ℕ) : Place → List ℕ → Type 0 where
@@ -67,4 +67,4 @@ Listing s t = Listed s start t
 pub data Lines : ℕ → List Entry → List ℕ → Type 0 where
   none : {n : ℕ} → Lines n [] (endLine n)
   next : {n : ℕ} {e : Entry} {es : List Entry} {t : List ℕ} (r : Reply) → Replied (e .job) (e .r1) (e .r2) r → Lines (n + 1) es t
-      → Lines n (e ∷ es) (replyLine (n + 1) r ++ t)
+      → Lines n (e ∷ es) (replyLine (e .job .setting .format) (n + 1) r ++ t)

@@ -21,5 +21,5 @@ pub record Steps (s : List ℕ) (p : Place) (r : Step) : Type 0 where
 pub record Answers (e : Entry) (n next : ℕ) (r : Step) : Type 0 where
   pub reply : Reply
   pub replied : Replied (e .job) (e .r1) (e .r2) reply
-  pub says : Says (r .line) (replyLine n reply)
+  pub says : Says (r .line) (replyLine (e .job .setting .format) n reply)
   pub then : r .then ≡ On (record { at = next; lines = n; stopped = stops reply })

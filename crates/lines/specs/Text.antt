@@ -1,13 +1,15 @@
 -- The text of the listing's lines as bytes of ASCII (document 01, "Cases, in hexadecimal", from "The listing program" on). Assumes nothing.
 use mathlib.Core.Path.{_≡_}
 use mathlib.Core.Bool.{cond}
-use Prim.Native.Nat.{ℕ, zero, suc, _+_, _/_, _%_, _≤_}
+use Prim.Native.Nat.{ℕ, zero, suc, _+_, _*_, _/_, _%_, _≤_}
 use mathlib.Core.List.{List, [], _∷_, _++_}
 use lib.ListN.{length, take}
 use lib.Dec.{ltb, eqb}
 use Rattle.adder.specs.declared.Row.{Row}
 use Rattle.adder.specs.declared.Row.the-variants.{Carries, NoRow}
 use Rattle.format.specs.Cause as cause
+use Rattle.format.specs.declared.Format.{Format}
+use Rattle.layout.specs.Fields.{wordBytes}
 use Rattle.generator.specs.declared.Case.{Case}
 use Rattle.generator.specs.declared.Reply.{Reply}
 use Rattle.generator.specs.declared.Reply.the-variants.{Found, Refused}
@@ -33,9 +35,14 @@ places (suc k) n = cond (ltb n 10) 1 (places k (n / 10) + 1)
 unfoldable pub decimal : ℕ → List ℕ
 decimal n = digits 10 (places n n) n
 
--- a space and "eight hexadecimal digits"
-unfoldable pub word : ℕ → List ℕ
-word x = 32 ∷ digits 16 8 x
+-- "eight hexadecimal digits", and where a word has 8 bytes "the listing prints 16 digits for such jobs" (document 02, W-202): two for each
+-- byte, by the format and not by the value
+unfoldable pub wordDigits : Format → ℕ
+wordDigits F = 2 * wordBytes F
+
+-- a space and k hexadecimal digits
+unfoldable pub word : ℕ → ℕ → List ℕ
+word k x = 32 ∷ digits 16 k x
 
 -- ---- lines
 
@@ -43,18 +50,18 @@ word x = 32 ∷ digits 16 8 x
 abbrev pub feed : List ℕ
 feed = 10 ∷ []
 
--- a space, and the row or "`-` where there is none"
-unfoldable pub rowText : Row → List ℕ
-rowText (Carries x) = word x
-rowText NoRow = 32 ∷ 45 ∷ []
+-- a space, and the row in k digits or "`-` where there is none"
+unfoldable pub rowText : ℕ → Row → List ℕ
+rowText k (Carries x) = word k x
+rowText k NoRow = 32 ∷ 45 ∷ []
 
 -- " found"
 abbrev pub foundWord : List ℕ
 foundWord = 32 ∷ 102 ∷ 111 ∷ 117 ∷ 110 ∷ 100 ∷ []
 
--- "`n found a b c row`"
-unfoldable pub foundLine : ℕ → Case → List ℕ
-foundLine n x = decimal n ++ (foundWord ++ (word (x .a) ++ (word (x .b) ++ (word (x .c) ++ (rowText (x .row) ++ feed)))))
+-- "`n found a b c row`", each in k digits
+unfoldable pub foundLine : ℕ → ℕ → Case → List ℕ
+foundLine k n x = decimal n ++ (foundWord ++ (word k (x .a) ++ (word k (x .b) ++ (word k (x .c) ++ (rowText k (x .row) ++ feed)))))
 
 -- " none" and the end of the line
 abbrev pub noneWord : List ℕ
@@ -72,10 +79,10 @@ refusedWord = 32 ∷ 114 ∷ 101 ∷ 102 ∷ 117 ∷ 115 ∷ 101 ∷ 100 ∷ 32 
 unfoldable pub refusedLine : ℕ → ℕ → List ℕ
 refusedLine n k = decimal n ++ (refusedWord ++ (decimal k ++ feed))
 
--- the line for the reply to job n: 7 is "`n none`"
-unfoldable pub replyLine : ℕ → Reply → List ℕ
-replyLine n (Found x) = foundLine n x
-replyLine n (Refused k) = cond (eqb k cause.noCase) (noneLine n) (refusedLine n k)
+-- the line for the reply to job n, in the job's format: 7 is "`n none`"
+unfoldable pub replyLine : Format → ℕ → Reply → List ℕ
+replyLine F n (Found x) = foundLine (wordDigits F) n x
+replyLine F n (Refused k) = cond (eqb k cause.noCase) (noneLine n) (refusedLine n k)
 
 -- "end "
 abbrev pub endWord : List ℕ

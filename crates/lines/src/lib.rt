@@ -71,7 +71,7 @@ fn answered(entry: Entry, n: u64, next: usize) -> Step
 {
     let reply = generate(entry.job, entry.r1, entry.r2);
     let stopped = stops(reply);
-    let line = reply_line(n, reply);
+    let line = reply_line(entry.job.setting.format, n, reply);
     let place = Place {
         at: next,
         lines: n,

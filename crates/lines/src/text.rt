@@ -1,9 +1,11 @@
 // A line of text, put together from the left.
+use format::Format;
+use layout::word_bytes;
 ghost use mathlib.Core.Path.{_≡_};
 ghost use mathlib.Core.List.{[], _∷_};
 ghost use Prim.Native.Nat.{_+_, _≤_, _<_};
 ghost use lib.ListN.{length};
-ghost use Rattle.lines.specs.Text.{Empty, Room, Grown, glyph, digits, places, decimal, word};
+ghost use Rattle.lines.specs.Text.{Empty, Room, Grown, glyph, digits, places, decimal, wordDigits, word};
 
 // The first `len` of the bytes.
 pub struct Line {
@@ -85,10 +87,17 @@ pub(crate) fn with_decimal(line: Line, n: u64) -> Line
     with_digits(line, 10, places(n), n)
 }
 
-// With a space and a word of eight hexadecimal digits.
-pub(crate) fn with_word(line: Line, x: u64) -> Line
-    requires { ⌜ Room line 9 ⌝ }
-    ensures { λ r. ⌜ Grown line r (word x) ⌝ }
+// How many hexadecimal digits a word of a job's format has: two for each byte.
+pub(crate) fn word_digits(format: Format) -> u64
+    ensures { λ r. ⌜ (r ≡ wordDigits format) × (r ≤ 16) ⌝ }
 {
-    with_digits(with_byte(line, b' '), 16, 8, x)
+    2 * (word_bytes(format) as u64)
+}
+
+// With a space and a word of k hexadecimal digits.
+pub(crate) fn with_word(line: Line, k: u64, x: u64) -> Line
+    requires { ⌜ (k ≤ 16) × Room line 17 ⌝ }
+    ensures { λ r. ⌜ Grown line r (word k x) ⌝ }
+{
+    with_digits(with_byte(line, b' '), 16, k, x)
 }

@@ -37,10 +37,25 @@ fn listed() {
     );
 }
 
+// Eight digits in a format of 32 bits and 16 in one of 33, whatever the values; in double precision a half of the last place of 1 and 1, in
+// mode 4, and the largest number and infinity, which have no row.
+fn word_sizes() {
+    list(b"32 bits\n", b"\x00\x08\x17\x00");
+    list(b"33 bits\n", b"\x00\x08\x18\x00");
+    list(
+        b"64 bits\n",
+        b"\x13\x0b\x34\x00\xff\xff\xff\xff\xff\xff\xff\xff\x00\x00\x00\x00\x00\x00\xa0\x3c\xff\xff\xff\xff\xff\xff\xff\xff\x00\x00\x00\x00\x00\x00\xf0\x3f\x04",
+    );
+    list(
+        b"64 bits, infinite operand\n",
+        b"\x03\x0b\x34\x00\xff\xff\xff\xff\xff\xff\xff\xff\xff\xff\xff\xff\xff\xff\xef\x7f\xff\xff\xff\xff\xff\xff\xff\xff\x00\x00\x00\x00\x00\x00\xf0\x7f",
+    );
+}
+
 // A record for each cause that reading finds.
 fn refused() {
     list(b"w too small\n", b"\x00\x01\x04\x00");
-    list(b"f too large\n", b"\x00\x03\x18\x00");
+    list(b"f too large\n", b"\x00\x03\x35\x00");
     list(b"operation\n", b"\x00\x03\x04\x02");
     list(b"mode\n", b"\x10\x03\x04\x00\x05");
     list(
@@ -63,5 +78,6 @@ fn refused() {
 fn main() {
     lengths();
     listed();
+    word_sizes();
     refused();
 }

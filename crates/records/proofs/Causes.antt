@@ -1,6 +1,6 @@
 -- What it means that no cause stands against an entry: the job is valid and the random words have their width, so every number fits its
 -- byte count. And what a reply of reading says of the bytes. Assumes nothing.
-use mathlib.Core.Path.{_≡_, refl, sym, ap, _∙_}
+use mathlib.Core.Path.{_≡_, refl, sym, ap, ap₂, _∙_}
 use mathlib.Core.Logic.{_↔_}
 use mathlib.Core.Bool.{Bool, false, not}
 use Prim.Native.Nat.{ℕ, zero, suc, _*_, _^_, _≤_, _<_}
@@ -16,32 +16,37 @@ use Rattle.format.specs.Cause.{unless, first}
 use Rattle.format.specs.Format.{wordBits, precision, Supported}
 use Rattle.format.specs.declared.Format.{Format}
 use Rattle.format.proofs.Laws.{first-none, unless-none, first-some}
+use Rattle.format.proofs.Room.{word-room}
 use Rattle.mask.specs.declared.Mask.{Mask}
 use Rattle.mask.specs.Mask.{WellFormed}
 use Rattle.mask.proofs.ByBits.{value-below}
 use Rattle.job.specs.Job.{Request}
 use Rattle.job.proofs.Laws.{request-none}
 use Rattle.layout.specs.Layout.{saysDefault}
-use Rattle.layout.specs.Fields.{wordBytes, fieldCount, layout, entryNumbers, fieldSizes, entryMap}
-use Rattle.records.specs.Record.{recordCause, recordBytes, recordLength, numbersIn, entryIn, readCause, readReply, firstIn}
+use Rattle.layout.specs.Fields.{wordBytes, fieldCount, layout, entryNumbers, fieldSizes, entryWord, entryMap}
+use Rattle.records.specs.Record.{recordCause, recordBytes, recordLength, numbersIn, entryIn, readCause, readReply, formatIn, firstWith, firstIn}
 use Rattle.layout.specs.declared.Entry.{Entry}
 use Rattle.records.specs.declared.First.the-variants as found
 use Rattle.numbers.proofs.BySizes.{Fits, none, more, length-bytes}
 use Rattle.layout.proofs.ByMap.{counts, map-absent, fits-map}
+use Rattle.layout.proofs.JobLayout.{by-width}
 
 -- ---- every number fits its byte count
 
 -- a word of a supported format
-word-fits : (F : Format) → Supported F → (width x : ℕ) → width ≤ wordBits F → x < 2 ^ width → x < 256 ^ wordBytes
-word-fits F h width x le lt = lt-of-lt-of-le lt (pow-mono {i = width} {j = 8 * wordBytes} (omega arith))
+word-fits : (F : Format) → Supported F → (width x : ℕ) → width ≤ wordBits F → x < 2 ^ width → x < 256 ^ wordBytes F
+word-fits F h width x le lt =
+    by-width (λ (k : ℕ). x < 256 ^ k) F
+    (λ narrow. lt-of-lt-of-le lt (pow-mono {i = width} {j = 8 * 4} (omega (arith, le, narrow))))
+    (λ wide. lt-of-lt-of-le lt (pow-mono {i = width} {j = 8 * 8} (omega (arith, le, word-room F h))))
 
 -- the two numbers of a mask, before others
 mask-fits : (F : Format) → Supported F → (width : ℕ) (m : Mask) → width ≤ wordBits F → WellFormed width m
-    → {ks ns : List ℕ} → Fits ks ns → Fits (wordBytes ∷ wordBytes ∷ ks) (m .care ∷ m .value ∷ ns)
+    → {ks ns : List ℕ} → Fits ks ns → Fits (wordBytes F ∷ wordBytes F ∷ ks) (m .care ∷ m .value ∷ ns)
 mask-fits F h width m le w f =
     more (word-fits F h width (m .care) le (w .below)) (more (word-fits F h width (m .value) le (value-below width m w)) f)
 
-pub entry-fits : (e : Entry) → Request (e .job) (e .r1) (e .r2) → Fits (counts (layout wordBytes)) (entryNumbers e)
+pub entry-fits : (e : Entry) → Request (e .job) (e .r1) (e .r2) → Fits (counts (layout (entryWord e))) (entryNumbers e)
 unfolding layout
 entry-fits e v =
     let F : Format = e .job .setting .format in
@@ -55,89 +60,19 @@ entry-fits e v =
     (more (word-fits F h W (e .r1) (omega arith) (v .first-word)) (more (word-fits F h W (e .r2) (omega arith) (v .second-word)) none))))))
 
 -- in a record it has these bytes, or it is 0
-pub record-fits : (e : Entry) → recordCause e ≡ 0 → Fits (fieldSizes (entryMap e)) (entryNumbers e)
+pub record-fits : (e : Entry) → recordCause e ≡ 0 → Fits (fieldSizes (entryWord e) (entryMap e)) (entryNumbers e)
 unfolding entryMap
 record-fits e ok =
     let ns : List ℕ = entryNumbers e in
-    fits-map (entryMap e) (layout wordBytes) ns (entry-fits e (request-none (e .job) (e .r1) (e .r2) .0 ok)) (map-absent (layout wordBytes) ns)
+    let ps = layout (entryWord e) in
+    fits-map (entryMap e) ps ns (entry-fits e (request-none (e .job) (e .r1) (e .r2) .0 ok)) (map-absent ps ns)
 
--- the length by the map is the record's length, 45 at most
-pub record-length : (e : Entry) → recordCause e ≡ 0 → recordLength (entryMap e) ≡ length (recordBytes e)
+-- the length by the map is the record's length, 85 at most
+pub record-length : (e : Entry) → recordCause e ≡ 0 → recordLength (entryWord e) (entryMap e) ≡ length (recordBytes e)
 unfolding recordLength recordBytes
 record-length e ok = omega (arith, length-bytes (record-fits e ok))
 
--- ---- what reading says
-
--- no cause stands against reading these bytes
-pub record Readable (s : List ℕ) : Type 0 where
-  pub map : getD s 0 0 < 2 ^ fieldCount
-  pub whole : recordLength (getD s 0 0) ≤ length s
-  pub sound : recordCause (entryIn s) ≡ 0
-  pub no-default : saysDefault fieldCount (getD s 0 0) (layout wordBytes) (numbersIn s) ≡ false
-
-pub read-none : (s : List ℕ) → (readCause s ≡ 0) ↔ Readable s
-unfolding readCause
-read-none s =
-    let m : ℕ = getD s 0 0 in
-    let d : Bool = saysDefault fieldCount m (layout wordBytes) (numbersIn s) in
-    let n : ℕ = recordLength m in
-    let last = first-none (recordCause (entryIn s)) (unless (not d) cause.defaultField) in
-    let cut = first-none (unless (leb n (length s)) cause.cut) (first (recordCause (entryIn s)) (unless (not d) cause.defaultField)) in
-    let map = first-none (unless (ltb m (2 ^ fieldCount)) cause.mapBits) (first (unless (leb n (length s)) cause.cut) (first (recordCause (entryIn s)) (unless (not d) cause.defaultField))) in (
-      (λ z.
-          let y = map .0 z in
-          let x = cut .0 (y .1) in
-          let w = last .0 (x .1) in
-          record {
-            map = ltb-true m (2 ^ fieldCount) (unless-none (ltb m (2 ^ fieldCount)) 8 .0 (y .0));
-            whole = leb-true n (length s) (unless-none (leb n (length s)) 7 .0 (x .0));
-            sound = w .0;
-            no-default = not-true d (unless-none (not d) 9 .0 (w .1));
-          }),
-      λ r.
-          map .1 (
-            unless-none (ltb m (2 ^ fieldCount)) 8 .1 (lt-ltb m (2 ^ fieldCount) (r .map)),
-            cut .1 (
-              unless-none (leb n (length s)) 7 .1 (le-leb n (length s) (r .whole)),
-              last .1 (r .sound, unless-none (not d) 9 .1 (ap not (r .no-default))),
-            ),
-          ),
-    )
-
--- a reply with a job
-pub record Taken (s : List ℕ) (e : Entry) (n : ℕ) : Type 0 where
-  pub readable : Readable s
-  pub entry : entryIn s ≡ e
-  pub count : recordLength (getD s 0 0) ≡ n
-
-pub first-job : (s : List ℕ) (e : Entry) (n : ℕ) → firstIn s ≡ found.Job e n → Taken s e n
-unfolding firstIn
-first-job [] e n q = absurd (let z : _≡_ {A = ℕ} 0 1 = cc in omega arith)
-first-job (b ∷ bs) e n q = go (readCause (b ∷ bs)) refl q
-  where
-    go : (k : ℕ) → readCause (b ∷ bs) ≡ k → readReply k (entryIn (b ∷ bs)) (recordLength b) ≡ found.Job e n → Taken (b ∷ bs) e n
-    go zero z q = record { readable = read-none (b ∷ bs) .0 z; entry = cc; count = cc }
-    go (suc k) z q = absurd (let z : _≡_ {A = ℕ} 0 1 = cc in omega arith)
-
-pub first-end : (s : List ℕ) → firstIn s ≡ found.End → s ≡ []
-unfolding firstIn
-first-end [] q = refl
-first-end (b ∷ bs) q = go (readCause (b ∷ bs)) q
-  where
-    go : (k : ℕ) → readReply k (entryIn (b ∷ bs)) (recordLength b) ≡ found.End → b ∷ bs ≡ []
-    go zero q = absurd (let z : _≡_ {A = ℕ} 0 1 = cc in omega arith)
-    go (suc k) q = absurd (let z : _≡_ {A = ℕ} 0 1 = cc in omega arith)
-
--- ---- reading, test by test
-pub first-none-left : (s : List ℕ) → length s ≡ 0 → firstIn s ≡ found.End
-unfolding firstIn
-first-none-left [] e = refl
-first-none-left (b ∷ bs) e = absurd (omega arith)
-
-first-some-left : (s : List ℕ) → (length s ≡ 0 → ⊥) → firstIn s ≡ readReply (readCause s) (entryIn s) (recordLength (getD s 0 0))
-unfolding firstIn
-first-some-left [] h = absurd (h refl)
-first-some-left (b ∷ bs) h = refl
+-- ---- replies
 
 pub reply-refused : (k : ℕ) (e : Entry) (n : ℕ) → (k ≡ 0 → ⊥) → found.Refused k ≡ readReply k e n
 reply-refused zero e n h = absurd (h refl)
@@ -147,32 +82,146 @@ first-assoc : (k m n : ℕ) → first k (first m n) ≡ first (first k m) n
 first-assoc zero m n = refl
 first-assoc (suc k) m n = refl
 
--- a map with a bit above those of the fields, or a record that is cut short; and any other
-abbrev pub earlyCause : List ℕ → ℕ
-earlyCause s = first (unless (ltb (getD s 0 0) (2 ^ fieldCount)) cause.mapBits) (unless (leb (recordLength (getD s 0 0)) (length s)) cause.cut)
+-- a cause other than a map with a bit above those of the fields or a record that is cut short
+abbrev pub lateCause : ℕ → List ℕ → ℕ
+lateCause word s = first (recordCause (entryIn word s)) (unless (not (saysDefault fieldCount (getD s 0 0) (layout word) (numbersIn word s))) cause.defaultField)
 
-abbrev pub lateCause : List ℕ → ℕ
-lateCause s = first (recordCause (entryIn s)) (unless (not (saysDefault fieldCount (getD s 0 0) (layout wordBytes) (numbersIn s))) cause.defaultField)
+-- ---- what reading says, where so many map bits stand for fields and a word has so many bytes
+module _ (fields word : ℕ) where
+  -- no cause stands against reading these bytes
+  pub record Readable (s : List ℕ) : Type 0 where
+    pub map : getD s 0 0 < 2 ^ fields
+    pub whole : recordLength word (getD s 0 0) ≤ length s
+    pub sound : recordCause (entryIn word s) ≡ 0
+    pub no-default : saysDefault fieldCount (getD s 0 0) (layout word) (numbersIn word s) ≡ false
 
-cause-split : (s : List ℕ) → readCause s ≡ first (earlyCause s) (lateCause s)
-unfolding readCause
-cause-split s = first-assoc (unless (ltb (getD s 0 0) (2 ^ fieldCount)) cause.mapBits) (unless (leb (recordLength (getD s 0 0)) (length s)) cause.cut) (lateCause s)
+  pub read-none : (s : List ℕ) → (readCause fields word s ≡ 0) ↔ Readable s
+  unfolding readCause
+  read-none s =
+      let m : ℕ = getD s 0 0 in
+      let d : Bool = saysDefault fieldCount m (layout word) (numbersIn word s) in
+      let n : ℕ = recordLength word m in
+      let last = first-none (recordCause (entryIn word s)) (unless (not d) cause.defaultField) in
+      let cut = first-none (unless (leb n (length s)) cause.cut) (first (recordCause (entryIn word s)) (unless (not d) cause.defaultField)) in
+      let map = first-none (unless (ltb m (2 ^ fields)) cause.mapBits) (first (unless (leb n (length s)) cause.cut) (first (recordCause (entryIn word s)) (unless (not d) cause.defaultField))) in (
+        (λ z.
+            let y = map .0 z in
+            let x = cut .0 (y .1) in
+            let w = last .0 (x .1) in
+            record {
+              map = ltb-true m (2 ^ fields) (unless-none (ltb m (2 ^ fields)) 8 .0 (y .0));
+              whole = leb-true n (length s) (unless-none (leb n (length s)) 7 .0 (x .0));
+              sound = w .0;
+              no-default = not-true d (unless-none (not d) 9 .0 (w .1));
+            }),
+        λ r.
+            map .1 (
+              unless-none (ltb m (2 ^ fields)) 8 .1 (lt-ltb m (2 ^ fields) (r .map)),
+              cut .1 (
+                unless-none (leb n (length s)) 7 .1 (le-leb n (length s) (r .whole)),
+                last .1 (r .sound, unless-none (not d) 9 .1 (ap not (r .no-default))),
+              ),
+            ),
+      )
 
-module _ (s : List ℕ) (some : length s ≡ 0 → ⊥) where
-  by-cause : (k : ℕ) → readCause s ≡ k → firstIn s ≡ readReply k (entryIn s) (recordLength (getD s 0 0))
-  by-cause k e = first-some-left s some ∙ ap (λ (j : ℕ). readReply j (entryIn s) (recordLength (getD s 0 0))) e
+  -- a reply with a job
+  pub record Taken (s : List ℕ) (e : Entry) (n : ℕ) : Type 0 where
+    pub readable : Readable s
+    pub entry : entryIn word s ≡ e
+    pub count : recordLength word (getD s 0 0) ≡ n
 
-  pub first-early : (earlyCause s ≡ 0 → ⊥) → firstIn s ≡ found.Refused (earlyCause s)
-  first-early h =
-      by-cause (earlyCause s) (cause-split s ∙ first-some (earlyCause s) (lateCause s) h)
-      ∙ sym (reply-refused (earlyCause s) (entryIn s) (recordLength (getD s 0 0)) h)
+  pub job-with : (s : List ℕ) (e : Entry) (n : ℕ) → firstWith fields word s ≡ found.Job e n → Taken s e n
+  unfolding firstWith
+  job-with [] e n q = absurd (let z : _≡_ {A = ℕ} 0 1 = cc in omega arith)
+  job-with (b ∷ bs) e n q = go (readCause fields word (b ∷ bs)) refl q
+    where
+      go : (k : ℕ) → readCause fields word (b ∷ bs) ≡ k → readReply k (entryIn word (b ∷ bs)) (recordLength word b) ≡ found.Job e n → Taken (b ∷ bs) e n
+      go zero z q = record { readable = read-none (b ∷ bs) .0 z; entry = cc; count = cc }
+      go (suc k) z q = absurd (let z : _≡_ {A = ℕ} 0 1 = cc in omega arith)
 
-  pub first-late : earlyCause s ≡ 0 → firstIn s ≡ readReply (lateCause s) (entryIn s) (recordLength (getD s 0 0))
-  first-late e = by-cause (lateCause s) (cause-split s ∙ ap (λ (k : ℕ). first k (lateCause s)) e)
+  -- and back
+  pub taken-job : (s : List ℕ) (e : Entry) (n : ℕ) → Taken s e n → firstWith fields word s ≡ found.Job e n
+  unfolding firstWith recordLength
+  taken-job [] e n t = absurd (omega (arith, t .readable .whole))
+  taken-job (b ∷ bs) e n t =
+      ap (λ (k : ℕ). readReply k (entryIn word (b ∷ bs)) (recordLength word b)) (read-none (b ∷ bs) .1 (t .readable)) ∙ ap₂ found.Job (t .entry) (t .count)
 
-pub early-none : (s : List ℕ) → earlyCause s ≡ 0 → (getD s 0 0 < 2 ^ fieldCount) × (recordLength (getD s 0 0) ≤ length s)
-early-none s e =
-    let m : ℕ = getD s 0 0 in
-    let n : ℕ = recordLength m in
-    let both = first-none (unless (ltb m (2 ^ fieldCount)) cause.mapBits) (unless (leb n (length s)) cause.cut) .0 e in
-    (ltb-true m (2 ^ fieldCount) (unless-none (ltb m (2 ^ fieldCount)) 8 .0 (both .0)), leb-true n (length s) (unless-none (leb n (length s)) 7 .0 (both .1)))
+  pub end-with : (s : List ℕ) → firstWith fields word s ≡ found.End → s ≡ []
+  unfolding firstWith
+  end-with [] q = refl
+  end-with (b ∷ bs) q = go (readCause fields word (b ∷ bs)) q
+    where
+      go : (k : ℕ) → readReply k (entryIn word (b ∷ bs)) (recordLength word b) ≡ found.End → b ∷ bs ≡ []
+      go zero q = absurd (let z : _≡_ {A = ℕ} 0 1 = cc in omega arith)
+      go (suc k) q = absurd (let z : _≡_ {A = ℕ} 0 1 = cc in omega arith)
+
+  -- the number of a refusal is one of the table
+  pub refused-with : (s : List ℕ) (k : ℕ) → firstWith fields word s ≡ found.Refused k → 0 < k
+  unfolding firstWith
+  refused-with [] k q = absurd (let z : _≡_ {A = ℕ} 0 1 = cc in omega arith)
+  refused-with (b ∷ bs) k q = go (readCause fields word (b ∷ bs)) q
+    where
+      go : (j : ℕ) → readReply j (entryIn word (b ∷ bs)) (recordLength word b) ≡ found.Refused k → 0 < k
+      go zero q = absurd (let z : _≡_ {A = ℕ} 0 1 = cc in omega arith)
+      go (suc j) q = let p : suc j ≡ k = cc in omega arith
+
+  -- ---- reading, test by test
+  pub none-left-with : (s : List ℕ) → length s ≡ 0 → firstWith fields word s ≡ found.End
+  unfolding firstWith
+  none-left-with [] e = refl
+  none-left-with (b ∷ bs) e = absurd (omega arith)
+
+  first-some-left : (s : List ℕ) → (length s ≡ 0 → ⊥) → firstWith fields word s ≡ readReply (readCause fields word s) (entryIn word s) (recordLength word (getD s 0 0))
+  unfolding firstWith
+  first-some-left [] h = absurd (h refl)
+  first-some-left (b ∷ bs) h = refl
+
+  -- a map with a bit above those of the fields, or a record that is cut short
+  abbrev pub earlyCause : List ℕ → ℕ
+  earlyCause s = first (unless (ltb (getD s 0 0) (2 ^ fields)) cause.mapBits) (unless (leb (recordLength word (getD s 0 0)) (length s)) cause.cut)
+
+  cause-split : (s : List ℕ) → readCause fields word s ≡ first (earlyCause s) (lateCause word s)
+  unfolding readCause
+  cause-split s = first-assoc (unless (ltb (getD s 0 0) (2 ^ fields)) cause.mapBits) (unless (leb (recordLength word (getD s 0 0)) (length s)) cause.cut) (lateCause word s)
+
+  module _ (s : List ℕ) (some : length s ≡ 0 → ⊥) where
+    by-cause : (k : ℕ) → readCause fields word s ≡ k → firstWith fields word s ≡ readReply k (entryIn word s) (recordLength word (getD s 0 0))
+    by-cause k e = first-some-left s some ∙ ap (λ (j : ℕ). readReply j (entryIn word s) (recordLength word (getD s 0 0))) e
+
+    pub early-with : (earlyCause s ≡ 0 → ⊥) → firstWith fields word s ≡ found.Refused (earlyCause s)
+    early-with h =
+        by-cause (earlyCause s) (cause-split s ∙ first-some (earlyCause s) (lateCause word s) h)
+        ∙ sym (reply-refused (earlyCause s) (entryIn word s) (recordLength word (getD s 0 0)) h)
+
+    pub late-with : earlyCause s ≡ 0 → firstWith fields word s ≡ readReply (lateCause word s) (entryIn word s) (recordLength word (getD s 0 0))
+    late-with e = by-cause (lateCause word s) (cause-split s ∙ ap (λ (k : ℕ). first k (lateCause word s)) e)
+
+  pub early-none : (s : List ℕ) → earlyCause s ≡ 0 → (getD s 0 0 < 2 ^ fields) × (recordLength word (getD s 0 0) ≤ length s)
+  early-none s e =
+      let m : ℕ = getD s 0 0 in
+      let n : ℕ = recordLength word m in
+      let both = first-none (unless (ltb m (2 ^ fields)) cause.mapBits) (unless (leb n (length s)) cause.cut) .0 e in
+      (ltb-true m (2 ^ fields) (unless-none (ltb m (2 ^ fields)) 8 .0 (both .0)), leb-true n (length s) (unless-none (leb n (length s)) 7 .0 (both .1)))
+
+-- ---- the same for this version of the job files
+
+-- the byte count of a word of the record that stands first
+abbrev pub wordIn : List ℕ → ℕ
+wordIn s = wordBytes (formatIn s)
+
+pub first-job : (s : List ℕ) (e : Entry) (n : ℕ) → firstIn s ≡ found.Job e n → Taken fieldCount (wordIn s) s e n
+unfolding firstIn
+first-job s = job-with fieldCount (wordIn s) s
+
+pub first-end : (s : List ℕ) → firstIn s ≡ found.End → s ≡ []
+unfolding firstIn
+first-end s = end-with fieldCount (wordIn s) s
+
+-- a number of the table
+pub first-refused : (s : List ℕ) (k : ℕ) → firstIn s ≡ found.Refused k → 0 < k
+unfolding firstIn
+first-refused s = refused-with fieldCount (wordIn s) s
+
+pub first-none-left : (s : List ℕ) → length s ≡ 0 → firstIn s ≡ found.End
+unfolding firstIn
+first-none-left s = none-left-with fieldCount (wordIn s) s

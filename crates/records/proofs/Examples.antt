@@ -10,7 +10,7 @@ use Rattle.job.specs.Job.{settingCause, masksCause, jobCause, requestCause}
 use Rattle.numbers.specs.Number.{littleEndian}
 use Rattle.numbers.specs.Numbers.{numberBytes}
 use Rattle.layout.specs.Layout.{sizes, mapOf}
-use Rattle.layout.specs.Fields.{layout, entryMap}
+use Rattle.layout.specs.Fields.{wordBytes, layout, entryMap}
 use Rattle.records.specs.Record.{recordBytes}
 use Rattle.records.specs.File.{fileBytes, Reads, Writable, none, more}
 use Rattle.layout.specs.declared.Entry.{Entry}
@@ -41,7 +41,7 @@ file =
     ∷ 0x02 ∷ 0 ∷ 0 ∷ 0 ∷ 0x02 ∷ 0 ∷ 0 ∷ 0 ∷ []
 
 pub example-bytes : fileBytes jobs ≡ file
-unfolding fileBytes recordBytes entryMap layout sizes mapOf numberBytes littleEndian
+unfolding fileBytes recordBytes wordBytes entryMap layout sizes mapOf numberBytes littleEndian
 example-bytes = refl
 
 writable : Writable jobs
@@ -49,5 +49,5 @@ unfolding requestCause jobCause settingCause masksCause formatCause operationCau
 writable = more refl (more refl none)
 
 pub example-read : Reads file jobs
-unfolding fileBytes recordBytes entryMap layout sizes mapOf numberBytes littleEndian
+unfolding fileBytes recordBytes wordBytes entryMap layout sizes mapOf numberBytes littleEndian
 example-read = file-read writable

@@ -7,7 +7,7 @@ use mathlib.Core.List.{List, _∷_, _++_}
 use lib.ListN.{drop, take-append-drop}
 use lib.Seq.{drop-append-seam}
 use Rattle.numbers.specs.Number.{Bytes}
-use Rattle.records.specs.Record.{recordBytes, firstIn}
+use Rattle.records.specs.Record.{recordBytes, firstWith, firstIn}
 use Rattle.records.specs.File.{fileBytes, Reads, end, next, Writable, none, more}
 use Rattle.layout.specs.declared.Entry.{Entry}
 use Rattle.records.specs.declared.First.the-variants as found
@@ -34,7 +34,7 @@ file-writable (next {s = s} {e = e} {n = n} q rest) b = more (written-read s b e
 
 -- bytes are accepted as one list of entries at most
 pub file-unique : {s : List ℕ} {es ds : List Entry} → Reads s es → Reads s ds → es ≡ ds
-unfolding firstIn
+unfolding firstIn firstWith
 file-unique end end = refl
 file-unique end (next q rest) = absurd (let z : _≡_ {A = ℕ} 0 1 = cc in omega arith)
 file-unique (next q rest) end = absurd (let z : _≡_ {A = ℕ} 0 1 = cc in omega arith)

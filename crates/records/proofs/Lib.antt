@@ -1,5 +1,6 @@
 pub mod Causes
 pub mod RoundTrip
 pub mod Files
+pub mod Versions
 pub mod Replies
 pub mod Examples

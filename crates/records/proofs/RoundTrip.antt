@@ -14,39 +14,43 @@ use Rattle.format.specs.declared.Format.{Format}
 use Rattle.numbers.specs.Number.{Bytes}
 use Rattle.numbers.specs.Numbers.{total, numberBytes, numbers}
 use Rattle.layout.specs.Layout.{sizes, mapOf, saysDefault}
-use Rattle.layout.specs.Fields.{wordBytes, fieldCount, layout, entryNumbers, entryWith, fieldSizes, entryMap}
-use Rattle.records.specs.Record.{headerBytes, recordCause, recordBytes, recordLength, numbersIn, entryIn, readCause, readReply, firstIn, rest, restAfter}
+use Rattle.layout.specs.Fields.{fieldCount, layout, entryNumbers, entryWith, fieldSizes, entryWord, entryMap}
+use Rattle.records.specs.Record.{headerBytes, recordCause, recordBytes, recordLength, formatIn, numbersIn, entryIn, readCause, readReply, firstWith, firstIn, rest, restAfter}
+use Rattle.layout.specs.declared.Slot.{Slot}
 use Rattle.layout.specs.declared.Entry.{Entry}
 use Rattle.records.specs.declared.First.{First}
 use Rattle.records.specs.declared.First.the-variants as found
 use Rattle.numbers.proofs.BySizes.{numbers-back, bytes-back}
 use Rattle.layout.proofs.ByMap.{map-lt, map-no-default, read-absent, map-back, default-map}
 use Rattle.layout.proofs.JobLayout.{layout-bits}
-use Rattle.records.proofs.Causes.{record-fits, record-length, read-none, Readable, first-job, lateCause}
+use Rattle.records.proofs.Causes.{record-fits, record-length, read-none, Readable, wordIn, first-job, lateCause}
 
 -- ---- written and read back
 module _ (e : Entry) (t : List ℕ) (ok : recordCause e ≡ 0) where
-  same-numbers : numbers (fieldSizes (entryMap e)) (numberBytes (fieldSizes (entryMap e)) (entryNumbers e) ++ t) ≡ entryNumbers e
+  same-numbers : numbers (fieldSizes (entryWord e) (entryMap e)) (numberBytes (fieldSizes (entryWord e) (entryMap e)) (entryNumbers e) ++ t) ≡ entryNumbers e
   same-numbers = numbers-back (record-fits e ok) t
 
-  same-entry : entryIn (recordBytes e ++ t) ≡ e
+  same-entry : entryIn (entryWord e) (recordBytes e ++ t) ≡ e
   unfolding recordBytes entryIn
   same-entry = ap (entryWith (e .job .setting .format) (e .job .setting .operation)) same-numbers
 
-  no-cause : readCause (recordBytes e ++ t) ≡ 0
+  no-cause : readCause fieldCount (entryWord e) (recordBytes e ++ t) ≡ 0
   unfolding recordBytes entryMap
   no-cause =
-      read-none (recordBytes e ++ t) .1
+      let ps : List Slot = layout (entryWord e) in
+      read-none fieldCount (entryWord e) (recordBytes e ++ t) .1
       (record {
-        map = map-lt fieldCount (layout wordBytes) (entryNumbers e) (layout-bits wordBytes);
+        map = map-lt fieldCount ps (entryNumbers e) (layout-bits (entryWord e));
         whole = omega (arith, record-length e ok, length-append (recordBytes e) t);
         sound = ap recordCause same-entry ∙ ok;
-        no-default = ap (saysDefault fieldCount (entryMap e) (layout wordBytes)) same-numbers ∙ map-no-default fieldCount (layout wordBytes) (entryNumbers e);
+        no-default = ap (saysDefault fieldCount (entryMap e) ps) same-numbers ∙ map-no-default fieldCount ps (entryNumbers e);
       })
 
   pub read-written : firstIn (recordBytes e ++ t) ≡ found.Job e (length (recordBytes e))
-  unfolding firstIn recordBytes
-  read-written = ap (λ (k : ℕ). readReply k (entryIn (recordBytes e ++ t)) (recordLength (entryMap e))) no-cause ∙ ap₂ found.Job same-entry (record-length e ok)
+  unfolding firstIn firstWith recordBytes
+  read-written =
+      ap (λ (k : ℕ). readReply k (entryIn (entryWord e) (recordBytes e ++ t)) (recordLength (entryWord e) (entryMap e))) no-cause
+      ∙ ap₂ found.Job same-entry (record-length e ok)
 
   -- the bytes that follow are the rest
   pub rest-written : rest (recordBytes e ++ t) ≡ t
@@ -56,38 +60,44 @@ module _ (e : Entry) (t : List ℕ) (ok : recordCause e ≡ 0) where
 -- ---- read and written back
 
 -- the numbers of the entry are the numbers that were read
-entry-numbers : (F : Format) (operation m : ℕ) (s : List ℕ) → entryNumbers (entryWith F operation (numbers (fieldSizes m) s)) ≡ numbers (fieldSizes m) s
+entry-numbers : (F : Format) (operation word m : ℕ) (s : List ℕ) → entryNumbers (entryWith F operation (numbers (fieldSizes word m) s)) ≡ numbers (fieldSizes word m) s
 unfolding layout sizes numbers
-entry-numbers F operation m s = refl
+entry-numbers F operation word m s = refl
 
 -- so the test for defaults may compare the map that was read with the entry's own
 pub entry-default : (s : List ℕ) → getD s 0 0 < 2 ^ fieldCount
-    → first (recordCause (entryIn s)) (unless (eqb (entryMap (entryIn s)) (getD s 0 0)) cause.defaultField) ≡ lateCause s
+    → first (recordCause (entryIn (wordIn s) s)) (unless (eqb (entryMap (entryIn (wordIn s) s)) (getD s 0 0)) cause.defaultField) ≡ lateCause (wordIn s) s
 unfolding entryIn entryMap
 entry-default s h =
     let m : ℕ = getD s 0 0 in
-    let same : entryNumbers (entryIn s) ≡ numbersIn s = entry-numbers (record { w = getD s 1 0; f = getD s 2 0 }) (getD s 3 0) m (drop headerBytes s) in
-    ap (λ (t : Bool). first (recordCause (entryIn s)) (unless t cause.defaultField))
-    (ap (λ (ns : List ℕ). eqb (mapOf (layout wordBytes) ns) m) same
-    ∙ sym (default-map fieldCount m (layout wordBytes) (numbersIn s) (layout-bits wordBytes) h (read-absent m (layout wordBytes) (drop headerBytes s))))
+    let ps : List Slot = layout (wordIn s) in
+    let ns : List ℕ = numbersIn (wordIn s) s in
+    let same : entryNumbers (entryIn (wordIn s) s) ≡ ns = entry-numbers (formatIn s) (getD s 3 0) (wordIn s) m (drop headerBytes s) in
+    ap (λ (t : Bool). first (recordCause (entryIn (wordIn s) s)) (unless t cause.defaultField))
+    (ap (λ (xs : List ℕ). eqb (mapOf ps xs) m) same ∙ sym (default-map fieldCount m ps ns (layout-bits (wordIn s)) h (read-absent m ps (drop headerBytes s))))
 
-module _ (m w f o : ℕ) (t : List ℕ) (b : Bytes (m ∷ w ∷ f ∷ o ∷ t)) (r : Readable (m ∷ w ∷ f ∷ o ∷ t)) where
+module _ (m w f o : ℕ) (t : List ℕ) (b : Bytes (m ∷ w ∷ f ∷ o ∷ t)) where
+  abbrev word : ℕ
+  word = wordIn (m ∷ w ∷ f ∷ o ∷ t)
+
   -- the record of the entry that was read is what was read
-  record-back : recordBytes (entryIn (m ∷ w ∷ f ∷ o ∷ t)) ≡ take (recordLength m) (m ∷ w ∷ f ∷ o ∷ t)
+  record-back : Readable fieldCount word (m ∷ w ∷ f ∷ o ∷ t)
+      → recordBytes (entryIn word (m ∷ w ∷ f ∷ o ∷ t)) ≡ take (recordLength word m) (m ∷ w ∷ f ∷ o ∷ t)
   unfolding recordBytes recordLength entryIn entryMap
-  record-back =
-      let ns : List ℕ = numbers (fieldSizes m) t in
-      let same : entryNumbers (entryIn (m ∷ w ∷ f ∷ o ∷ t)) ≡ ns = entry-numbers (record { w = w; f = f }) o m t in
-      let map : entryMap (entryIn (m ∷ w ∷ f ∷ o ∷ t)) ≡ m =
-      ap (mapOf (layout wordBytes)) same ∙ map-back fieldCount m (layout wordBytes) ns (layout-bits wordBytes) (r .map) (read-absent m (layout wordBytes) t) (r .no-default) in
-      let long : headerBytes + total (fieldSizes m) ≡ suc (suc (suc (suc (total (fieldSizes m))))) = omega arith in
+  record-back r =
+      let ps : List Slot = layout word in
+      let ns : List ℕ = numbers (fieldSizes word m) t in
+      let same : entryNumbers (entryIn word (m ∷ w ∷ f ∷ o ∷ t)) ≡ ns = entry-numbers (record { w = w; f = f }) o word m t in
+      let map : entryMap (entryIn word (m ∷ w ∷ f ∷ o ∷ t)) ≡ m =
+      ap (mapOf ps) same ∙ map-back fieldCount m ps ns (layout-bits word) (r .map) (read-absent m ps t) (r .no-default) in
+      let long : headerBytes + total (fieldSizes word m) ≡ suc (suc (suc (suc (total (fieldSizes word m))))) = omega arith in
       ap₂ (λ (k : ℕ) (bs : List ℕ). k ∷ w ∷ f ∷ o ∷ bs) map
-      (ap₂ (λ (k : ℕ) (xs : List ℕ). numberBytes (fieldSizes k) xs) map same
-      ∙ bytes-back (fieldSizes m) t (λ i. b (suc (suc (suc (suc i))))) (omega (arith, r .whole)))
+      (ap₂ (λ (k : ℕ) (xs : List ℕ). numberBytes (fieldSizes word k) xs) map same
+      ∙ bytes-back (fieldSizes word m) t (λ i. b (suc (suc (suc (suc i))))) (omega (arith, r .whole)))
       ∙ ap (λ (n : ℕ). take n (m ∷ w ∷ f ∷ o ∷ t)) (sym long)
 
 -- a record has its four header bytes
-pub record-read : (s : List ℕ) → Bytes s → Readable s → recordBytes (entryIn s) ≡ take (recordLength (getD s 0 0)) s
+pub record-read : (s : List ℕ) → Bytes s → Readable fieldCount (wordIn s) s → recordBytes (entryIn (wordIn s) s) ≡ take (recordLength (wordIn s) (getD s 0 0)) s
 unfolding recordLength
 record-read [] b r = absurd (omega (arith, r .whole))
 record-read (a ∷ []) b r = absurd (omega (arith, r .whole))

@@ -3,7 +3,8 @@ use mathlib.Core.Path.{_≡_}
 use Prim.Native.Nat.{ℕ}
 use mathlib.Core.List.{List, [], _∷_, _++_}
 use lib.ListN.{drop}
-use Rattle.records.specs.Record.{recordBytes, recordCause, firstIn}
+use Rattle.records.specs.Version.{Version, Takes}
+use Rattle.records.specs.Record.{recordBytes, recordCause, firstBy, firstIn}
 use Rattle.layout.specs.declared.Entry.{Entry}
 use Rattle.records.specs.declared.First.the-variants as found
 
@@ -16,6 +17,11 @@ fileBytes (e ∷ es) = recordBytes e ++ fileBytes es
 pub data Reads : List ℕ → List Entry → Type 0 where
   end : Reads [] []
   next : {s : List ℕ} {e : Entry} {n : ℕ} {es : List Entry} → firstIn s ≡ found.Job e n → Reads (drop n s) es → Reads s (e ∷ es)
+
+-- the same by a version: each record reads as an entry of a format that the version takes
+pub data ReadsBy (v : Version) : List ℕ → List Entry → Type 0 where
+  end : ReadsBy v [] []
+  next : {s : List ℕ} {e : Entry} {n : ℕ} {es : List Entry} → firstBy v s ≡ found.Job e n → Takes v (e .job .setting .format) → ReadsBy v (drop n s) es → ReadsBy v s (e ∷ es)
 
 -- no cause stands against any of the entries
 pub data Writable : List Entry → Type 0 where

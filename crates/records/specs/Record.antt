@@ -12,7 +12,9 @@ use Rattle.numbers.specs.Number.{bufferAfter}
 use Rattle.numbers.specs.Numbers.{total, numberBytes, numbers}
 use Rattle.layout.specs.declared.Entry.{Entry}
 use Rattle.layout.specs.Layout.{saysDefault}
-use Rattle.layout.specs.Fields.{wordBytes, fieldCount, layout, entryNumbers, entryWith, fieldSizes, entryMap}
+use Rattle.layout.specs.Fields.{fieldCount, layout, entryNumbers, entryWith, fieldSizes, entryWord, entryMap}
+use Rattle.format.specs.declared.Format.{Format}
+use Rattle.records.specs.Version.{Version, current}
 use Rattle.records.specs.declared.First.{First}
 use Rattle.records.specs.declared.First.the-variants as found
 use Rattle.records.specs.declared.Writing.{Writing}
@@ -32,37 +34,49 @@ recordCause e = requestCause (e .job) (e .r1) (e .r2)
 unfoldable pub recordBytes : Entry → List ℕ
 recordBytes e =
     entryMap e ∷ e .job .setting .format .w ∷ e .job .setting .format .f ∷ e .job .setting .operation
-    ∷ numberBytes (fieldSizes (entryMap e)) (entryNumbers e)
+    ∷ numberBytes (fieldSizes (entryWord e) (entryMap e)) (entryNumbers e)
 
 -- ---- reading
 
--- the length of a record, by its map byte: "masks stand after the four header bytes"
-unfoldable pub recordLength : ℕ → ℕ
-recordLength m = headerBytes + total (fieldSizes m)
+-- the length of a record with words of `word` bytes, by its map byte: "masks stand after the four header bytes"
+unfoldable pub recordLength : ℕ → ℕ → ℕ
+recordLength word m = headerBytes + total (fieldSizes word m)
 
--- the numbers, and the entry, of a record that is not cut short
-abbrev pub numbersIn : List ℕ → List ℕ
-numbersIn s = numbers (fieldSizes (getD s 0 0)) (drop headerBytes s)
+-- w and f, as the bytes say, taken or refused
+abbrev pub formatIn : List ℕ → Format
+formatIn s = record { w = getD s 1 0; f = getD s 2 0 }
 
-unfoldable pub entryIn : List ℕ → Entry
-entryIn s = entryWith (record { w = getD s 1 0; f = getD s 2 0 }) (getD s 3 0) (numbersIn s)
+-- the numbers, and the entry, of a record with words of `word` bytes that is not cut short
+abbrev pub numbersIn : ℕ → List ℕ → List ℕ
+numbersIn word s = numbers (fieldSizes word (getD s 0 0)) (drop headerBytes s)
 
--- "Reading checks 9, 8, then 1 to 6, then 10"; a map with no bit above the fields' bits is below 2 to their count
-unfoldable pub readCause : List ℕ → ℕ
-readCause s =
-    first (unless (ltb (getD s 0 0) (2 ^ fieldCount)) cause.mapBits)
-    (first (unless (leb (recordLength (getD s 0 0)) (length s)) cause.cut)
-    (first (recordCause (entryIn s)) (unless (not (saysDefault fieldCount (getD s 0 0) (layout wordBytes) (numbersIn s))) cause.defaultField)))
+unfoldable pub entryIn : ℕ → List ℕ → Entry
+entryIn word s = entryWith (formatIn s) (getD s 3 0) (numbersIn word s)
+
+-- "Reading checks 9, 8, then 1 to 6, then 10", where so many map bits stand for fields and a word has so many bytes; a map with no bit above
+-- the fields' bits is below 2 to their count
+unfoldable pub readCause : ℕ → ℕ → List ℕ → ℕ
+readCause fields word s =
+    first (unless (ltb (getD s 0 0) (2 ^ fields)) cause.mapBits)
+    (first (unless (leb (recordLength word (getD s 0 0)) (length s)) cause.cut)
+    (first (recordCause (entryIn word s)) (unless (not (saysDefault fieldCount (getD s 0 0) (layout word) (numbersIn word s))) cause.defaultField)))
 
 -- a job where no cause stands, else the cause's number
 abbrev pub readReply : ℕ → Entry → ℕ → First
 readReply zero e n = found.Job e n
 readReply (suc k) e n = found.Refused (suc k)
 
--- what stands first: "with no byte left it says end", else a job with its length, or the number of a refusal
+-- what stands first, with words of `word` bytes: "with no byte left it says end", else a job with its length, or the number of a refusal
+unfoldable pub firstWith : ℕ → ℕ → List ℕ → First
+firstWith fields word [] = found.End
+firstWith fields word (b ∷ bs) = readReply (readCause fields word (b ∷ bs)) (entryIn word (b ∷ bs)) (recordLength word b)
+
+-- the same for a version of the job files, whose words are as long as w and f say; and for this one
+abbrev pub firstBy : Version → List ℕ → First
+firstBy v s = firstWith (v .fields) (v .word (formatIn s)) s
+
 unfoldable pub firstIn : List ℕ → First
-firstIn [] = found.End
-firstIn (b ∷ bs) = readReply (readCause (b ∷ bs)) (entryIn (b ∷ bs)) (recordLength b)
+firstIn s = firstBy current s
 
 -- "the reader hands back the rest of the file"; on a refusal "the rest .. begins at the refused record"
 abbrev pub restAfter : First → List ℕ → List ℕ

@@ -16,6 +16,7 @@ use layout::entry_map;
 use layout::entry_numbers;
 use layout::entry_with;
 use layout::field_sizes;
+use layout::word_bytes;
 use numbers::wide;
 ghost use mathlib.Core.Path.{_≡_};
 ghost use Prim.Native.Nat.{_≤_};
@@ -25,8 +26,8 @@ ghost use lib.ListN.{length, getD, drop};
 ghost use Rattle.format.specs.Cause as cause;
 ghost use Rattle.format.specs.Cause.{first, unless};
 ghost use Rattle.numbers.specs.Numbers.{total, numbers};
-ghost use Rattle.layout.specs.Fields.{entryWith, fieldSizes, entryMap};
-ghost use Rattle.records.specs.Record.{recordCause, recordBytes, recordLength, entryIn, readReply, firstIn, rest, writing, written};
+ghost use Rattle.layout.specs.Fields.{wordBytes, entryWith, fieldSizes, entryMap};
+ghost use Rattle.records.specs.Record.{recordCause, recordBytes, recordLength, formatIn, entryIn, readReply, firstIn, rest, writing, written};
 
 // The bytes before the fields: map, w, f, operation.
 const HEADER: usize = 4;
@@ -53,33 +54,49 @@ pub fn entry_cause(entry: Entry) -> u64
     request_cause(entry.job, entry.r1, entry.r2)
 }
 
-// The length of a record with this map.
-fn record_length(map: u64) -> usize
-    ensures { λ r. ⌜ r ≡ recordLength map ⌝ }
+// The length of a record of this format with this map.
+fn record_length(format: Format, map: u64) -> usize
+    ensures { λ r. ⌜ r ≡ recordLength (wordBytes format) map ⌝ }
 {
-    HEADER + total(&field_sizes(map))
+    HEADER + total(&field_sizes(word_bytes(format), map))
+}
+
+// A byte as a number; 0 where there is none.
+fn byte_at(s: &[u8], i: usize) -> u64
+    ensures { λ r. ⌜ r ≡ getD (now (s .entry)) i 0 ⌝ }
+{
+    if i < s.len() {
+        return wide(s[i]);
+    }
+    0
+}
+
+// The widths of a record's format, as its bytes say.
+fn format_in(s: &[u8]) -> Format
+    ensures { λ r. ⌜ r ≡ formatIn (now (s .entry)) ⌝ }
+{
+    Format {
+        w: byte_at(s, 1),
+        f: byte_at(s, 2),
+    }
 }
 
 // The entry of a record, from the bytes after its header.
 fn decode(s: &[u8], map: u64, format: Format, operation: u64) -> Entry
-    requires { ⌜ total (fieldSizes map) ≤ length (now s) ⌝ }
-    ensures { λ r. ⌜ r ≡ entryWith format operation (numbers (fieldSizes map) (now (s .entry))) ⌝ }
+    requires { ⌜ total (fieldSizes (wordBytes format) map) ≤ length (now s) ⌝ }
+    ensures { λ r. ⌜ r ≡ entryWith format operation (numbers (fieldSizes (wordBytes format) map) (now (s .entry))) ⌝ }
 {
-    let sizes = field_sizes(map);
+    let sizes = field_sizes(word_bytes(format), map);
     let mut numbers = [0; NUMBERS];
     read_numbers(s, &sizes, &mut numbers);
     entry_with(format, operation, numbers)
 }
 
 // The entry of a record that is not cut short.
-fn entry_in(s: &[u8], map: u64) -> Entry
-    requires { ⌜ (getD (now s) 0 0 ≡ map) × (recordLength map ≤ length (now s)) ⌝ }
-    ensures { λ r. ⌜ r ≡ entryIn (now (s .entry)) ⌝ }
+fn entry_in(s: &[u8], map: u64, format: Format) -> Entry
+    requires { ⌜ (getD (now s) 0 0 ≡ map) × (formatIn (now s) ≡ format) × (recordLength (wordBytes format) map ≤ length (now s)) ⌝ }
+    ensures { λ r. ⌜ r ≡ entryIn (wordBytes format) (now (s .entry)) ⌝ }
 {
-    let format = Format {
-        w: wide(s[1]),
-        f: wide(s[2]),
-    };
     let operation = wide(s[3]);
     decode(&s[HEADER..], map, format, operation)
 }
@@ -105,14 +122,15 @@ pub fn read(s: &[u8]) -> First
         return First::End;
     }
     let map = wide(s[0]);
-    let n = record_length(map);
+    let format = format_in(s);
+    let n = record_length(format, map);
     let bits = unless(map < MAPS, cause::MAP_BITS);
     let cut = unless(n <= s.len(), cause::CUT);
     let early = first(bits, cut);
     if 0 < early {
         return First::Refused(early);
     }
-    read_reply(entry_in(s, map), map, n)
+    read_reply(entry_in(s, map, format), map, n)
 }
 
 // The bytes after what stands first: after a job's record, all of them on a refusal, none at the end.
@@ -135,7 +153,7 @@ fn put_record(buffer: &mut [u8], map: u64, entry: Entry)
     let format = entry.job.setting.format;
     let header = [map, format.w, format.f, entry.job.setting.operation];
     put_numbers(buffer, 0, &[1; HEADER], &header);
-    let sizes = field_sizes(map);
+    let sizes = field_sizes(word_bytes(format), map);
     let numbers = entry_numbers(entry);
     put_numbers(buffer, HEADER, &sizes, &numbers);
 }
@@ -150,7 +168,7 @@ pub fn write(entry: Entry, buffer: &mut [u8]) -> Writing
         return Writing::Refused(cause);
     }
     let map = entry_map(entry);
-    let n = record_length(map);
+    let n = record_length(entry.job.setting.format, map);
     if buffer.len() < n {
         return Writing::Refused(cause::BUFFER);
     }

@@ -7,6 +7,7 @@ fn main() {
     writing::example();
     reading::refusals();
     reading::limits();
+    reading::word_sizes();
     writing::lengths();
     writing::refusals();
     reading::truncations();

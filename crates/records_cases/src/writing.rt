@@ -1,4 +1,4 @@
-// Entries written into a buffer of 64 bytes, all 255 before.
+// Entries written into a buffer of 96 bytes, all 255 before.
 use crate::reading;
 use format::Format;
 use job::Setting;
@@ -9,8 +9,8 @@ use mask::Mask;
 use records::First;
 use records::Writing;
 
-fn blank() -> [u8; 64] {
-    [255u8; 64]
+fn blank() -> [u8; 96] {
+    [255u8; 96]
 }
 
 fn show_reply(reply: Writing) {
@@ -38,7 +38,7 @@ fn length(reply: Writing) -> usize {
 fn kept(buffer: &[u8], n: usize) {
     let before = blank();
     if n <= buffer.len() {
-        if n <= 64 {
+        if n <= 96 {
             io::write_all(STDOUT_FILENO, b", after it ");
             reading::show_same(check::same(&buffer[n..], &before[n..]));
             io::write_all(STDOUT_FILENO, b"\n");
@@ -112,12 +112,14 @@ fn free() -> Mask {
     fixed(0, 0)
 }
 
-// The longest record, in a buffer that is long enough and in one that is a byte short; the shortest alike.
+// The longest record of either word size, in a buffer that is long enough and in one that is a byte short; the shortest alike.
 pub(crate) fn lengths() {
     let mask = fixed(0xe6, 0x44);
     let carries = fixed(0x1f, 0x15);
     show(entry(sized(3, 4), 1, 3, mask, carries, 0xff), 45);
     show(entry(sized(3, 4), 1, 3, mask, carries, 0xff), 44);
+    show(entry(sized(11, 52), 1, 3, mask, carries, 0xff), 85);
+    show(entry(sized(11, 52), 1, 3, mask, carries, 0xff), 84);
     show(entry(sized(3, 4), 0, 0, free(), free(), 0), 4);
     show(entry(sized(3, 4), 0, 0, free(), free(), 0), 3);
 }
@@ -125,7 +127,7 @@ pub(crate) fn lengths() {
 // One entry for each refusal but the last, half of them with no room at all, since 11 comes last.
 pub(crate) fn refusals() {
     show(entry(sized(1, 4), 0, 0, free(), free(), 0), 64);
-    show(entry(sized(3, 24), 0, 0, free(), free(), 0), 0);
+    show(entry(sized(3, 53), 0, 0, free(), free(), 0), 0);
     show(entry(sized(3, 4), 2, 0, free(), free(), 0), 64);
     show(entry(sized(3, 4), 0, 5, free(), free(), 0), 0);
     show(entry(sized(3, 4), 0, 0, fixed(0x100, 0), free(), 0), 64);

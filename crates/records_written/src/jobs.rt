@@ -24,11 +24,14 @@ pub fn following(state: u64) -> u64 {
     next(skipped(skipped(skipped(skipped(skipped(state))))))
 }
 
-// A word of 32 bits, by two other multipliers.
+// A word of 64 bits, 16 from each of four other multipliers.
 fn word(state: u64) -> u64 {
-    let high = state % MODULUS * 16807 % MODULUS;
-    let low = state % MODULUS * 69621 % MODULUS;
-    high % 65536 * 65536 + low % 65536
+    let s = state % MODULUS;
+    let one = s * 16807 % MODULUS % 65536;
+    let two = s * 69621 % MODULUS % 65536;
+    let three = s * 39373 % MODULUS % 65536;
+    let four = s * 40014 % MODULUS % 65536;
+    (one * 65536 + two) * 4294967296 + three * 65536 + four
 }
 
 // Nothing fixed, or in two of three cases about half of the bits.
@@ -63,8 +66,8 @@ fn job(format: Format, operation: u64, mode: u64, a: Mask, b: Mask, c: Mask, car
 
 // The entry of a state: its numbers are those of the state, its fields those of the states after it.
 pub fn entry(state: u64) -> Entry {
-    let w = 2 + state % 7;
-    let f = 2 + state / 7 % 22;
+    let w = 2 + state % 10;
+    let f = 2 + state / 10 % 51;
     let width = w + f + 1;
     let first = next(state);
     let second = skipped(first);
@@ -73,8 +76,8 @@ pub fn entry(state: u64) -> Entry {
     let words = skipped(fourth);
     let job = job(
         Format { w, f },
-        state / 154 % 2,
-        state / 308 % 5,
+        state / 510 % 2,
+        state / 1020 % 5,
         mask(width, first),
         mask(width, second),
         mask(width, third),
@@ -89,9 +92,9 @@ pub fn entry(state: u64) -> Entry {
 
 // The room for a state's record: the longest there is, or in one of four cases any.
 pub fn room(state: u64) -> usize {
-    if state / 1540 % 4 == 0 {
-        (state / 6160 % 49) as usize
+    if state / 5100 % 4 == 0 {
+        (state / 20400 % 89) as usize
     } else {
-        48
+        88
     }
 }

@@ -5,7 +5,7 @@ use mathlib.Core.Logic.{inl, inr}
 use mathlib.Core.Bool.{Bool, true, false, _&&_}
 use Prim.Native.Nat.{ℕ, zero, suc, _<_}
 use native.Mathlib.Omega.{arith}
-use mathlib.Core.List.{List, [], _∷_}
+use mathlib.Core.List.{List}
 use Rattle.format.specs.Cause as cause
 use Rattle.format.specs.declared.Format.{Format}
 use Rattle.mask.specs.declared.Mask.{Mask}
@@ -20,10 +20,10 @@ use Rattle.adder.specs.Row as carries
 use Rattle.job.specs.declared.Job.{Job}
 use Rattle.fit.specs.declared.Confirmed.the-variants as confirmed-is
 use Rattle.fit.specs.Fit.{answerFor, caseCause, fits, confirmedReply}
-use Rattle.layout.specs.declared.Entry.{Entry}
 use Rattle.records.specs.declared.First.{First}
 use Rattle.records.specs.declared.First.the-variants as first-is
-use Rattle.records.specs.Record.{readReply, readCause, entryIn, recordLength, firstIn}
+use Rattle.records.specs.Record.{firstIn}
+use Rattle.records.proofs.Causes.{first-refused}
 use Rattle.generator.specs.declared.Reply.the-variants as case-is
 use Rattle.generator.specs.Promise as generator
 use Rattle.generator.proofs.Replies as generator-law
@@ -73,14 +73,8 @@ confirmed-number (suc k) n t e = let q : suc k ≡ n = cc in omega arith
 pub confirmed-refusal : (j : Job) (a b c n : ℕ) → confirmedReply j a b c ≡ confirmed-is.Refused n → 0 < n
 confirmed-refusal j a b c n = confirmed-number (caseCause j a b c) n (fits j a b c)
 
-first-number : (k n m : ℕ) (e : Entry) → readReply k e m ≡ first-is.Refused n → 0 < n
-first-number zero n m e q = absurd (let z : _≡_ {A = ℕ} 0 1 = cc in omega arith)
-first-number (suc k) n m e q = let p : suc k ≡ n = cc in omega arith
-
 pub first-refusal : (s : List ℕ) (n : ℕ) → firstIn s ≡ first-is.Refused n → 0 < n
-unfolding firstIn
-first-refusal [] n q = absurd (let z : _≡_ {A = ℕ} 0 1 = cc in omega arith)
-first-refusal (b ∷ s) n q = first-number (readCause (b ∷ s)) n (recordLength b) (entryIn (b ∷ s)) q
+first-refusal s n = first-refused s n
 
 joined-number : (x y : Bool) (m : Mask) (n : ℕ)
     → pickJoined x (pickJoined y (joined-is.Mask m) (joined-is.Refused cause.clash)) (joined-is.Refused cause.mask) ≡ joined-is.Refused n → 0 < n

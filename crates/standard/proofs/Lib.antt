@@ -7,8 +7,9 @@ pub mod Integers
 pub mod Signed
 pub mod Words
 pub mod Sums
-pub mod SingleRounding
-pub mod SingleSum
+pub mod Interchange
+pub mod IeeeRounding
+pub mod IeeeSum
 pub mod Unique
 pub mod Overflow
 pub mod Special

@@ -3,6 +3,6 @@ pub mod Representable
 pub mod Rounds
 pub mod Number
 pub mod Sum
-pub mod Single
+pub mod Ieee
 pub mod Special
 pub mod Standard

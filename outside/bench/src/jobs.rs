@@ -26,11 +26,13 @@ pub enum Kind {
     Mixed,
 }
 
+pub const HALF_FIXED: (&str, Kind) = ("half fixed", fixed(8));
+pub const IMPOSSIBLE: (&str, Kind) = ("impossible (all fractions fixed)", Kind::Impossible);
 pub const KINDS: [(&str, Kind); 6] = [
     ("sparse (1/16 of the bits fixed)", fixed(1)),
-    ("half fixed", fixed(8)),
+    HALF_FIXED,
     ("dense (7/8 fixed)", fixed(14)),
-    ("impossible (all fractions fixed)", Kind::Impossible),
+    IMPOSSIBLE,
     ("impossible (case 13: + and + give -)", Kind::Signs),
     (
         "half fixed, carries too",

@@ -18,7 +18,7 @@ mod walks;
 use std::process::ExitCode;
 use std::time::Duration;
 
-use jobs::{Kind, Recorded, KINDS};
+use jobs::{Kind, Recorded, HALF_FIXED, IMPOSSIBLE, KINDS};
 use second::random::{seed, Random};
 use solver::{Said, Solver};
 use times::{least, Times, RUNS};
@@ -26,6 +26,19 @@ use times::{least, Times, RUNS};
 const SEED: u64 = 0xB3AC4;
 /// How many jobs of mixed masks there are for each of another kind: their largest time counts.
 const MIXED: usize = 250;
+
+/// A format, w and f, and its name.
+type Named = ((u64, u64), &'static str);
+
+const SINGLE: Named = ((8, 23), "single precision (8/23)");
+const DOUBLE: Named = ((11, 52), "double precision (11/52)");
+/// The formats in which every kind is timed.
+const FORMATS: [Named; 3] = [((5, 10), "half precision (5/10)"), SINGLE, DOUBLE];
+/// Few exponent bits beside a wide fraction: here the generator is timed alone, on two kinds.
+const WIDE_FRACTIONS: [Named; 2] = [
+    ((2, 52), "few exponent bits (2/52)"),
+    ((5, 52), "few exponent bits (5/52)"),
+];
 
 pub struct Options {
     pub seed: u64,
@@ -108,7 +121,7 @@ fn ask_other(solver: &mut Solver, jobs: &[Recorded]) -> Result<Other, String> {
 fn row(
     random: &mut Random,
     solver: &mut Option<Solver>,
-    (format, format_name): ((u64, u64), &str),
+    (format, format_name): Named,
     (kind, kind_name): (Kind, &str),
     count: usize,
 ) -> Result<Row, String> {
@@ -145,21 +158,27 @@ fn whole_row(random: &mut Random, of_16: u64, possible: bool, name: &str, count:
     }
 }
 
-/// The rows of the case generator, beside z3 but for the last.
+/// The rows of the case generator, first those of the formats in which z3 is asked too.
 fn case_rows(
     random: &mut Random,
     solver: &mut Option<Solver>,
     count: usize,
 ) -> Result<Vec<Row>, String> {
-    let single = ((8, 23), "single precision (8/23)");
     let mut rows = Vec::new();
-    for format in [((5, 10), "half precision (5/10)"), single] {
+    for format in FORMATS {
         for (name, kind) in KINDS {
             rows.push(row(random, solver, format, (kind, name), count)?);
         }
     }
+    for format in WIDE_FRACTIONS {
+        for (name, kind) in [HALF_FIXED, IMPOSSIBLE] {
+            rows.push(row(random, &mut None, format, (kind, name), count)?);
+        }
+    }
     let mixed = (Kind::Mixed, "any share of each mask fixed");
-    rows.push(row(random, &mut None, single, mixed, count * MIXED)?);
+    for format in [SINGLE, DOUBLE] {
+        rows.push(row(random, &mut None, format, mixed, count * MIXED)?);
+    }
     Ok(rows)
 }
 

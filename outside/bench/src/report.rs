@@ -2,7 +2,7 @@
 
 use std::path::Path;
 
-use crate::case_13::{self, Spread};
+use crate::case_13::{self, Runs};
 use crate::times::{microseconds, ratio, text, RUNS};
 use crate::walks::{formats, Walks};
 use crate::{Options, Row};
@@ -12,7 +12,7 @@ pub fn report(
     options: &Options,
     version: Option<&str>,
     rows: &[Row],
-    case_13: &[Spread],
+    case_13: &[Runs],
     walks: Option<Vec<Walks>>,
 ) -> String {
     let compared: Vec<&Row> = rows.iter().filter(|row| row.other.is_some()).collect();
@@ -103,18 +103,23 @@ fn own(rows: &[Row]) -> String {
     table
 }
 
-/// Case 13, a line for each mode.
-fn signs(modes: &[Spread]) -> String {
+/// Case 13, a line for each format and mode.
+fn signs(lines: &[Runs]) -> String {
     let mut table = format!(
         "## Document 01's case 13\n\n\
-         The one job: 8/23, + and + give -, nothing else fixed, both random words 0. The generator \
-         alone, {} runs in each mode, of which every one counts.\n\n\
-         | Mode | median, µs | 99 of 100 within, µs | largest, µs |\n|---|---|---|---|\n",
+         The one job: + and + give -, nothing else fixed, both random words 0. The generator alone, \
+         {} runs in each format and mode, of which every one counts.\n\n\
+         | Format | Mode | median, µs | 99 of 100 within, µs | largest, µs |\n|---|---|---|---|---|\n",
         case_13::RUNS
     );
-    for (mode, times) in modes.iter().enumerate() {
+    for Runs {
+        format: (w, f),
+        mode,
+        times,
+    } in lines
+    {
         let columns = [times.median, times.nearly_all, times.largest].map(microseconds);
-        table += &format!("| {mode} | {} |\n", columns.join(" | "));
+        table += &format!("| {w}/{f} | {mode} | {} |\n", columns.join(" | "));
     }
     table
 }
@@ -124,8 +129,8 @@ fn columns(walks: &[Walks]) -> String {
     let names = formats();
     let mut table = format!(
         "## Walks over columns\n\n\
-         How often a reply asks the columns, in the mean, counted by callgrind. The formats differ \
-         in the exponent bits alone.\n\n\
+         How often a reply asks the columns, in the mean, counted by callgrind. Those with 23 \
+         fraction bits differ in the exponent bits alone.\n\n\
          | Jobs | {} |\n|---|{}\n",
         names.join(" | "),
         "---|".repeat(names.len())

@@ -15,10 +15,11 @@ use crate::jobs::{self, Kind, Recorded, KINDS};
 pub const REPLAY: &str = "--replay";
 /// The function that makes one walk over the columns.
 const WALK: &str = "outcome::ask::ask";
-/// The formats whose counts are set side by side: they differ in the exponent bits alone.
-const FORMATS: [(u64, u64); 3] = [(4, 23), (6, 23), (8, 23)];
-/// A record is at most this long; in the file each has this many bytes after its length.
-const SLOT: usize = 63;
+/// The formats whose counts are set side by side: three that differ in the exponent bits alone, and
+/// double precision.
+const FORMATS: [(u64, u64); 4] = [(4, 23), (6, 23), (8, 23), (11, 52)];
+/// No record is longer than this; in the file each has this many bytes after its length.
+const SLOT: usize = 127;
 
 /// The mean count of walks per reply for one kind, in each of the formats.
 pub struct Walks {

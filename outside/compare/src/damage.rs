@@ -1,23 +1,75 @@
 //! Numbers, words and files that are not as they should be, or nearly.
 
+use second::format::{LARGEST_F, LARGEST_W};
 use second::random::Random;
+use second::record::word_bytes;
 
-/// A number near the limits, or any.
+/// A number up to just above a limit, or any.
 pub fn damaged_number(random: &mut Random, limit: u64) -> u64 {
     if random.one_in(4) {
         random.word()
     } else {
-        random.below(limit + 2)
+        near(random, limit)
     }
 }
 
-/// The word with a bit above its width, or any.
+/// A number up to just above a limit.
+fn near(random: &mut Random, limit: u64) -> u64 {
+    random.below(limit + 4)
+}
+
+/// The word with a bit above its width, or any; one of 64 bits has none above it.
 pub fn damaged_word(random: &mut Random, word: u64, width: u32) -> u64 {
+    let above = 64 - u64::from(width);
     match random.below(3) {
-        0 => random.word(),
-        1 => word | 1 << width,
-        _ => word | 1 << (u64::from(width) + random.below(64 - u64::from(width))),
+        1 if above > 0 => word | 1 << width,
+        2 if above > 0 => word | 1 << (u64::from(width) + random.below(above)),
+        _ => random.word(),
     }
+}
+
+/// A record of full length with any two bytes for w and f, by which its words have four or eight
+/// bytes. Its fields are good ones but for a few.
+pub fn raw_record(random: &mut Random, w: u8, f: u8) -> Vec<u8> {
+    let map = random.bits(6) as u8;
+    let word_bytes = word_bytes(u64::from(w), u64::from(f));
+    let mut record = vec![map, w, f, random.below(2) as u8];
+    for bit in (0..6).filter(|bit| map >> bit & 1 == 1) {
+        if bit == 4 {
+            record.push(1 + random.below(4) as u8);
+            continue;
+        }
+        for low in [3, random.bits(2) as u8] {
+            let end = record.len() + word_bytes;
+            record.push(low);
+            record.resize(end, 0);
+            if random.one_in(32) {
+                record[end - 1] = random.bits(8) as u8;
+            }
+        }
+    }
+    record
+}
+
+/// A record with any bytes for w and f, most often near their limits or such that w + f + 1 is
+/// near the border of 32; whole, or a byte or more shorter or longer.
+pub fn any_raw_record(random: &mut Random) -> Vec<u8> {
+    let w = match random.below(4) {
+        0 => random.bits(8),
+        _ => near(random, LARGEST_W),
+    };
+    let f = match random.below(4) {
+        0 => random.bits(8),
+        1 => (30 + random.below(3)).saturating_sub(w),
+        _ => near(random, LARGEST_F),
+    };
+    let mut record = raw_record(random, w as u8, f as u8);
+    match random.below(4) {
+        0 => record.truncate(record.len() - 1 - random.below(4) as usize),
+        1 => record.resize(record.len() + 1 + random.below(4) as usize, 0),
+        _ => {}
+    }
+    record
 }
 
 /// Damages a file in one to three places.

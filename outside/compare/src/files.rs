@@ -6,13 +6,13 @@ use second::fits::{confirm, Case, Conditions};
 use second::format::{Refusal, CUT_SHORT};
 use second::random::Random;
 use second::record::{encode, read, Reply};
-use second::sample::{job, numbers, pair, unrelated_job};
+use second::sample::{all_but_few, job, numbers, pair, unrelated_job};
 use second::signs::refusal;
 use second::table::Table;
 use vindacsor::buffer;
 
 use crate::call::{self, compare, Tally};
-use crate::damage::{damage_file, damaged_word};
+use crate::damage::{any_raw_record, damage_file, damaged_word};
 use crate::numbers::every_adder;
 
 /// The job that a function which wants one takes from a file.
@@ -29,7 +29,7 @@ pub fn record(job: &Job) -> Vec<u8> {
     encode(job).expect("a well-made job")
 }
 
-/// A job of any format; about `care` of 8 bits are fixed in the masks of a and b.
+/// A job of any format; about `care` of 64 bits are fixed in the masks of a and b.
 fn any_job(random: &mut Random, care: u64) -> Job {
     let numbers = numbers(random);
     job(random, numbers, care)
@@ -41,43 +41,76 @@ fn case_numbers(case: Case) -> Vec<u64> {
     vec![case.a, case.b, case.c, flag, row]
 }
 
-/// One to three records, damaged but for one file in eight; some files are random bytes.
+/// One to three records, damaged but for one file in eight; some files are random bytes, and some
+/// end with a record that has any bytes for w and f.
 pub fn damaged_file(random: &mut Random) -> Vec<u8> {
-    if random.one_in(16) {
-        let length = random.below(64);
+    let kind = random.below(16);
+    if kind == 0 {
+        let length = random.below(128);
         return (0..length).map(|_| random.bits(8) as u8).collect();
     }
     let mut file = Vec::new();
     for _ in 0..1 + random.below(3) {
-        file.extend(record(&any_job(random, 4)));
+        file.extend(record(&any_job(random, 32)));
     }
-    if !random.one_in(8) {
-        damage_file(random, &mut file);
+    match kind {
+        1..=2 => any_raw_record(random),
+        3..=4 => [file, any_raw_record(random)].concat(),
+        _ if random.one_in(8) => file,
+        _ => {
+            damage_file(random, &mut file);
+            file
+        }
     }
-    file
 }
 
-/// Reading, on `count` files, each to its end or its first refusal.
+/// The record of a job; one time of eight it is damaged, and one of sixteen another one stands
+/// there, with any bytes for w and f.
+fn perhaps_damaged(random: &mut Random, job: &Job) -> Vec<u8> {
+    let mut file = record(job);
+    match random.below(16) {
+        0 => any_raw_record(random),
+        1 | 2 => {
+            damage_file(random, &mut file);
+            file
+        }
+        _ => file,
+    }
+}
+
+/// Reading what stands first in a file: the reply and the rest are the second implementation's.
+fn reading<'a>(
+    random: &mut Random,
+    tally: &mut Tally,
+    file: &'a [u8],
+) -> Result<(Reply, &'a [u8]), String> {
+    let (first, after) = read(file);
+    let reply: call::Reply = match first {
+        Reply::Refused(number) => Err(number),
+        _ => Ok(vec![(file.len() - after.len()) as u64]),
+    };
+    let call = |out: &mut [u8]| buffer::read(file, out);
+    compare(random, tally, &reply, call, || {
+        format!("reading {file:02x?}")
+    })?;
+    Ok((first, after))
+}
+
+/// Reading a file to its end or its first refusal.
+pub fn whole_reading(random: &mut Random, tally: &mut Tally, file: &[u8]) -> Result<(), String> {
+    let mut rest = file;
+    while let (Reply::Job(_), after) = reading(random, tally, rest)? {
+        rest = after;
+    }
+    Ok(())
+}
+
+/// Reading, on `count` files.
 pub fn readings(random: &mut Random, count: u64) -> Result<Tally, String> {
     let mut tally = Tally::default();
     for _ in 0..count {
         let file = damaged_file(random);
-        let mut rest = &file[..];
-        loop {
-            let (first, after) = read(rest);
-            let reply: call::Reply = match first {
-                Reply::Refused(number) => Err(number),
-                _ => Ok(vec![(rest.len() - after.len()) as u64]),
-            };
-            let call = |out: &mut [u8]| buffer::read(rest, out);
-            compare(random, &mut tally, &reply, call, || {
-                format!("reading {rest:02x?}")
-            })?;
-            if !matches!(first, Reply::Job(_)) {
-                break;
-            }
-            rest = after;
-        }
+        whole_reading(random, &mut tally, &file)?;
     }
     Ok(tally)
 }
@@ -105,7 +138,7 @@ fn proposed(random: &mut Random, job: &Job, adder: &Adder) -> [u64; 3] {
 pub fn confirmations(random: &mut Random, count: u64) -> Result<Tally, String> {
     let mut tally = Tally::default();
     for _ in 0..count {
-        let care = random.below(3);
+        let care = 8 * random.below(3);
         let mut job = any_job(random, care);
         if random.one_in(2) {
             job.conditions.carries = second::mask::Mask::FREE;
@@ -116,10 +149,7 @@ pub fn confirmations(random: &mut Random, count: u64) -> Result<Tally, String> {
         if random.one_in(2) {
             job.conditions.c.value = c & job.conditions.c.care;
         }
-        let mut file = record(&job);
-        if random.one_in(8) {
-            damage_file(random, &mut file);
-        }
+        let file = perhaps_damaged(random, &job);
         let reply = job_in(&file)
             .and_then(|job| confirm(&job.conditions, a, b, c))
             .map(|fits| vec![u64::from(fits)]);
@@ -161,7 +191,7 @@ pub fn small_generations(random: &mut Random, each: u64) -> Result<Tally, String
                 let job = match n % 5 {
                     0 => unrelated_job(random, numbers),
                     _ => {
-                        let care = random.below(6);
+                        let care = 8 * random.below(6);
                         job(random, numbers, care)
                     }
                 };
@@ -195,7 +225,7 @@ fn signs_job(random: &mut Random, numbers: [u64; 4], more: bool) -> Job {
 
 /// The generator on jobs without a case because of their signs, in every format, each operation
 /// and mode: one that fixes nothing else, and `each` that do. Document 01's case 13 is the
-/// former, in format 8/23 and operation 0.
+/// former, in operation 0.
 pub fn sign_generations(random: &mut Random, each: u64) -> Result<Tally, String> {
     let mut tally = Tally::default();
     for adder in every_adder() {
@@ -214,10 +244,9 @@ pub fn wide_generations(random: &mut Random, count: u64) -> Result<Tally, String
     const FREE: u32 = 10;
     let mut tally = Tally::default();
     while tally.calls() < count {
-        let mut file = record(&any_job(random, 7));
-        if random.one_in(8) {
-            damage_file(random, &mut file);
-        }
+        let numbers = numbers(random);
+        let job = job(random, numbers, all_but_few(numbers));
+        let file = perhaps_damaged(random, &job);
         let wanted = match job_in(&file) {
             Err(number) => Err(number),
             Ok(job) => {

@@ -20,18 +20,18 @@ const PARTS: [(&str, Part, u64); 10] = [
     ("joining", numbers::joinings, 200_000),
     ("reading", files::readings, 200_000),
     ("confirmation", files::confirmations, 200_000),
-    // 80 adders of at most eight bits, so 40,000 jobs.
+    // 100 adders of at most eight bits, so 50,000 jobs.
     ("generator, small formats", files::small_generations, 500),
     (
         "generator, any format, few bits free",
         files::wide_generations,
         20_000,
     ),
-    // 1,232 adders of every format, so 4,928 jobs.
+    // 5,100 adders of every format, so 10,200 jobs.
     (
         "generator, any format, no case by signs",
         files::sign_generations,
-        3,
+        1,
     ),
     ("whole numbers", whole::generations, 40_000),
     (

@@ -1,7 +1,7 @@
 //! The rounded result, the carry row and joining.
 
 use second::arith::{every_setting, rounded};
-use second::format::{Format, LARGEST_F, LARGEST_W, SMALLEST_F, SMALLEST_W};
+use second::format::{every_format, Format, LARGEST_F, LARGEST_MODE, LARGEST_W};
 use second::mask::Mask;
 use second::random::Random;
 use second::row::carry_row;
@@ -24,9 +24,7 @@ struct Sum {
 
 /// Every format, operation and mode.
 pub fn every_adder() -> Vec<[u64; 4]> {
-    let formats =
-        (SMALLEST_W..=LARGEST_W).flat_map(|w| (SMALLEST_F..=LARGEST_F).map(move |f| (w, f)));
-    formats
+    every_format()
         .flat_map(|(w, f)| every_setting().map(move |[operation, mode]| [w, f, operation, mode]))
         .collect()
 }
@@ -52,10 +50,10 @@ fn sum(random: &mut Random, [w, f, operation, mode]: [u64; 4]) -> Sum {
     if random.one_in(6) {
         for _ in 0..1 + random.below(2) {
             match random.below(6) {
-                0 => sum.w = damaged_number(random, 10),
-                1 => sum.f = damaged_number(random, 25),
-                2 => sum.operation = damaged_number(random, 3),
-                3 => sum.mode = damaged_number(random, 5),
+                0 => sum.w = damaged_number(random, LARGEST_W),
+                1 => sum.f = damaged_number(random, LARGEST_F),
+                2 => sum.operation = damaged_number(random, 1),
+                3 => sum.mode = damaged_number(random, LARGEST_MODE),
                 4 => sum.a = damaged_word(random, a, format.width()),
                 _ => sum.b = damaged_word(random, b, format.width()),
             }

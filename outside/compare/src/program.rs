@@ -6,6 +6,15 @@ use std::sync::mpsc::channel;
 use std::thread;
 use std::time::Duration;
 
+/// The listing program, as `rt check listing` builds it.
+pub const LISTING: &str = concat!(env!("CARGO_MANIFEST_DIR"), "/../../target/bin/listing");
+
+/// What the listing program prints for a file, which is text where it is as it should be.
+pub fn listed(file: &[u8]) -> String {
+    let text = printed(LISTING, file).expect("the program ends");
+    String::from_utf8_lossy(&text).into_owned()
+}
+
 /// How long the program may take for one file.
 const PATIENCE: Duration = Duration::from_secs(60);
 

@@ -2,7 +2,7 @@
 
 use second::mask::Mask;
 use second::random::Random;
-use second::whole::{generate_whole, WholeCase, WholeJob};
+use second::whole::{generate_whole, WholeCase, WholeJob, LARGEST_N};
 use vindacsor::buffer;
 
 use crate::call::{compare, Tally};
@@ -68,7 +68,7 @@ fn short_job(random: &mut Random) -> WholeJob {
 
 fn damage(random: &mut Random, job: &mut WholeJob, n: u32) {
     match random.below(4) {
-        0 => job.n = damaged_number(random, 33),
+        0 => job.n = damaged_number(random, LARGEST_N),
         1 => job.words[random.below(3) as usize] = damaged_word(random, 0, n),
         2 => job.carries.care = damaged_word(random, job.carries.care, n + 1),
         _ => {

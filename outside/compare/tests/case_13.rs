@@ -1,5 +1,5 @@
-//! Document 01's case 13 through the exported functions, in its own format: 8 exponent bits and
-//! 23 fraction bits.
+//! Document 01's case 13 through the exported functions, in its own format, 8 exponent bits and
+//! 23 fraction bits, and in double precision.
 
 use second::choice::Job;
 use second::fits::Conditions;
@@ -9,30 +9,29 @@ use second::record::encode;
 use second::signs::refusal;
 use vindacsor::buffer;
 
-const SIGN: u64 = 1 << 31;
-
 /// Addition with a's and b's sign bits fixed to 0 and c's to 1, nothing else fixed.
-fn job(mode: u64) -> Job {
-    let mut conditions = Conditions::free(8, 23, 0, mode);
-    conditions.a = Mask {
-        care: SIGN,
-        value: 0,
-    };
-    conditions.b = conditions.a;
-    conditions.c = Mask {
-        care: SIGN,
-        value: SIGN,
-    };
+fn job(w: u64, f: u64, mode: u64) -> Job {
+    let sign = 1 << (w + f);
+    let fixed = |value| Mask { care: sign, value };
+    let mut conditions = Conditions::free(w, f, 0, mode);
+    conditions.a = fixed(0);
+    conditions.b = fixed(0);
+    conditions.c = fixed(sign);
     Job {
         conditions,
         words: [0, 0],
     }
 }
 
+/// The job in both formats and every mode.
+fn jobs() -> impl Iterator<Item = Job> {
+    let formats = [(8, 23), (11, 52)].into_iter();
+    formats.flat_map(|(w, f)| (0..=LARGEST_MODE).map(move |mode| job(w, f, mode)))
+}
+
 #[test]
 fn no_case_in_any_mode() {
-    for mode in 0..=LARGEST_MODE {
-        let job = job(mode);
+    for job in jobs() {
         assert_eq!(refusal(&job), Some(NO_CASE));
         let record = encode(&job).expect("a well-made job");
         let mut out = [0xA5; 40];
@@ -44,9 +43,9 @@ fn no_case_in_any_mode() {
 /// With any one of the three signs left free there is a case, and confirmation says yes to it.
 #[test]
 fn a_case_where_one_sign_is_free() {
-    for mode in 0..=LARGEST_MODE {
+    for job in jobs() {
         for free in 0..3 {
-            let mut job = job(mode);
+            let mut job = job;
             let masks = &mut job.conditions;
             *[&mut masks.a, &mut masks.b, &mut masks.c][free] = Mask::FREE;
             assert_eq!(refusal(&job), None);

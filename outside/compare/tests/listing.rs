@@ -1,15 +1,8 @@
-//! The listing program, as `rt check listing` builds it, on files whose listings document 01 fixes.
+//! The listing program on files whose listings document 01 fixes.
 
-use compare::program::printed;
+use compare::program::listed;
 use second::choice::generate;
 use second::listing::{listing, LONGEST_FILE};
-
-const PROGRAM: &str = concat!(env!("CARGO_MANIFEST_DIR"), "/../../target/bin/listing");
-
-fn lists(file: &[u8], text: &str) {
-    let came = printed(PROGRAM, file).expect("the program ends");
-    assert_eq!(String::from_utf8_lossy(&came), text);
-}
 
 /// The records of cases 1 and 4.
 const MASKS: [u8; 24] = [
@@ -30,15 +23,15 @@ fn two_jobs() -> Vec<u8> {
 
 #[test]
 fn two_jobs_of_document_01() {
-    lists(
-        &two_jobs(),
-        "1 found 00000045 0000002b 0000004c 00000004\n2 none\nend 2\n",
+    assert_eq!(
+        listed(&two_jobs()),
+        "1 found 00000045 0000002b 0000004c 00000004\n2 none\nend 2\n"
     );
 }
 
 #[test]
 fn no_byte() {
-    lists(&[], "end 0\n");
+    assert_eq!(listed(&[]), "end 0\n");
 }
 
 /// Records of four bytes that fix nothing: found at once, by the second implementation too.
@@ -51,28 +44,28 @@ fn the_longest_file_is_listed_to_its_end() {
     let file = free_jobs(LONGEST_FILE);
     let text = listing(&file, generate);
     assert!(text.ends_with("16384 found 00000000 00000000 00000000 00000000\nend 16384\n"));
-    lists(&file, &text);
+    assert_eq!(listed(&file), text);
 }
 
 #[test]
 fn one_byte_more_is_long() {
-    lists(&free_jobs(LONGEST_FILE + 1), "long\n");
+    assert_eq!(listed(&free_jobs(LONGEST_FILE + 1)), "long\n");
 }
 
 #[test]
 fn a_cut_record_ends_the_listing() {
     let mut file = two_jobs();
     file.pop();
-    lists(
-        &file,
-        "1 found 00000045 0000002b 0000004c 00000004\n2 refused 8\nend 2\n",
+    assert_eq!(
+        listed(&file),
+        "1 found 00000045 0000002b 0000004c 00000004\n2 refused 8\nend 2\n"
     );
 }
 
 #[test]
 fn an_infinite_operand_has_no_row() {
-    lists(
-        &[1, 3, 4, 0, 0xFF, 0, 0, 0, 0x70, 0, 0, 0],
-        "1 found 00000070 00000000 00000070 -\nend 1\n",
+    assert_eq!(
+        listed(&[1, 3, 4, 0, 0xFF, 0, 0, 0, 0x70, 0, 0, 0]),
+        "1 found 00000070 00000000 00000070 -\nend 1\n"
     );
 }

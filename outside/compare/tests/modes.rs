@@ -1,11 +1,9 @@
 //! A number above the last mode is refused with 4 wherever a mode is taken, and lent bytes are then
 //! as they were; the last mode is taken.
 
-use compare::program::printed;
+use compare::program::listed;
 use second::format::{LARGEST_MODE, UNKNOWN_MODE};
 use vindacsor::buffer;
-
-const PROGRAM: &str = concat!(env!("CARGO_MANIFEST_DIR"), "/../../target/bin/listing");
 
 /// A record of format 3/4 that adds in a mode and fixes nothing.
 fn record(mode: u8) -> [u8; 5] {
@@ -28,10 +26,9 @@ fn returned(record: &[u8]) -> [u64; 3] {
 fn the_last_mode_is_taken() {
     let mode = LARGEST_MODE as u8;
     assert_eq!(returned(&record(mode)), [0; 3]);
-    let text = printed(PROGRAM, &record(mode)).expect("the program ends");
     assert_eq!(
-        text,
-        b"1 found 00000000 00000000 00000000 00000000\nend 1\n"
+        listed(&record(mode)),
+        "1 found 00000000 00000000 00000000 00000000\nend 1\n"
     );
 }
 
@@ -39,8 +36,7 @@ fn the_last_mode_is_taken() {
 fn a_record_in_another_mode_is_refused() {
     for mode in LARGEST_MODE as u8 + 1..=u8::MAX {
         assert_eq!(returned(&record(mode)), [u64::from(UNKNOWN_MODE); 3]);
-        let text = printed(PROGRAM, &record(mode)).expect("the program ends");
-        assert_eq!(text, b"1 refused 4\nend 1\n");
+        assert_eq!(listed(&record(mode)), "1 refused 4\nend 1\n");
     }
 }
 

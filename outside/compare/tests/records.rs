@@ -1,9 +1,11 @@
 //! The writer of job records: the program `records_written` writes the records of pseudo-random
 //! jobs, and every byte of every buffer is held against the second implementation. Read here is the
-//! output that is stored beside the program, which `rt ci` holds the program to. The jobs are drawn here as `jobs.rt` of that program draws them.
+//! output that is stored beside the program, which `rt ci` holds the program to. The jobs are drawn
+//! here as `jobs.rt` of that program draws them.
 
 use second::choice::Job;
 use second::fits::Conditions;
+use second::format::ones;
 use second::mask::Mask;
 use second::record::write;
 
@@ -19,49 +21,56 @@ fn after(state: u64, steps: u32) -> u64 {
     (0..steps).fold(state, |state, _| state * 48271 % MODULUS)
 }
 
+/// A word of 64 bits, by four other multipliers.
 fn word(state: u64) -> u64 {
-    let half = |by| state * by % MODULUS % (1 << 16);
-    half(16807) << 16 | half(69621)
+    let quarters = [16807, 69621, 39373, 40_014].map(|by| state * by % MODULUS % (1 << 16));
+    quarters
+        .iter()
+        .fold(0, |word, quarter| word << 16 | quarter)
 }
 
-fn mask(width: u64, state: u64) -> Mask {
+fn mask(width: u32, state: u64) -> Mask {
     if state % 3 == 0 {
         return Mask::FREE;
     }
-    let care = word(state) % (1 << width);
+    let care = word(state) & ones(width);
     let value = word(after(state, 1)) & care;
     Mask { care, value }
 }
 
-fn random(width: u64, state: u64) -> u64 {
+fn random(width: u32, state: u64) -> u64 {
     match state % 2 {
         0 => 0,
-        _ => word(state) % (1 << width),
+        _ => word(state) & ones(width),
     }
 }
 
 fn job(state: u64) -> Job {
-    let (w, f) = (2 + state % 7, 2 + state / 7 % 22);
-    let width = w + f + 1;
-    let mut conditions = Conditions::free(w, f, state / 154 % 2, state / 308 % 5);
+    let (w, f) = (2 + state % 10, 2 + state / 10 % 51);
+    let [width, precision] = [w + f + 1, f + 1].map(|width| width as u32);
+    let mut conditions = Conditions::free(w, f, state / 510 % 2, state / 1020 % 5);
     conditions.a = mask(width, after(state, 1));
     conditions.b = mask(width, after(state, 3));
     conditions.c = mask(width, after(state, 5));
-    conditions.carries = mask(f + 1, after(state, 7));
+    conditions.carries = mask(precision, after(state, 7));
     let words = [9, 10].map(|steps| random(width, after(state, steps)));
     Job { conditions, words }
 }
 
+/// The bytes of every buffer.
+const BUFFER: usize = 88;
+
+/// The room for a record: the whole buffer, or in one of four cases any part of it.
 fn room(state: u64) -> usize {
-    match state / 1540 % 4 {
-        0 => (state / 6160 % 49) as usize,
-        _ => 48,
+    match state / 5100 % 4 {
+        0 => state as usize / 20400 % (BUFFER + 1),
+        _ => BUFFER,
     }
 }
 
 /// The line of a job: the reply, and every byte of the buffer afterwards.
 fn line(state: u64) -> String {
-    let mut buffer = [255; 48];
+    let mut buffer = [255; BUFFER];
     let reply = match write(&job(state), &mut buffer[..room(state)]) {
         Ok(count) => format!("written {count}"),
         Err(number) => format!("refused {number}"),
@@ -103,5 +112,5 @@ fn the_jobs_are_many_kinds() {
     };
     assert!((300..JOBS).contains(&written.len()), "{}", written.len());
     assert!(kinds(0) > 50, "{} maps", kinds(0));
-    assert_eq!([kinds(2), kinds(4), kinds(6)], [7, 22, 2]);
+    assert_eq!([kinds(2), kinds(4), kinds(6)], [10, 51, 2]);
 }

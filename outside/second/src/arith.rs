@@ -133,6 +133,7 @@ impl Adder {
             return below;
         }
         let high = magnitude(self.format, below + 1);
+        assert!(low < *exact && *exact < high, "not between its neighbours");
         let away = match self.mode {
             Mode::TowardZero => false,
             Mode::Up => !negative,
@@ -177,19 +178,12 @@ fn exact_sum(x: &Finite, y: &Finite) -> (bool, Wide) {
     }
 }
 
-/// The largest index whose magnitude is at most `exact`, by halving the range. Magnitudes
-/// rise with their index. Two finite numbers are each below 2^f × 2^(2^w − 2), so that their
-/// sum is below the magnitude with an exponent field of 2^w.
+/// The largest index whose magnitude is at most `exact`, which is not 0. The unit there is the one
+/// that leaves `exact` p digits, or one step where it has fewer. The fields are read as one
+/// whole number: the leading digit of the p adds the 1 by which the exponent field of a normal
+/// number exceeds the exponent of its unit.
 fn index_at_most(format: Format, exact: &Wide) -> u64 {
-    let mut low = 0;
-    let mut high = 1 << (format.exponent_bits() + format.fraction_bits());
-    while high - low > 1 {
-        let middle = low + (high - low) / 2;
-        if magnitude(format, middle) <= *exact {
-            low = middle;
-        } else {
-            high = middle;
-        }
-    }
-    low
+    let unit_exponent = exact.digits().saturating_sub(format.precision());
+    let significand = exact.quotient_by_power(unit_exponent);
+    (u64::from(unit_exponent) << format.fraction_bits()) + significand
 }

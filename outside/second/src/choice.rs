@@ -1,7 +1,7 @@
 //! The case generator, by trying pairs of words (document 01, "Masks and choice").
 //!
 //! The work doubles with every bit that the masks of a and b leave free, in every format:
-//! all pairs of eight-bit words, or pairs of 32-bit words with sixteen free bits together.
+//! all pairs of eight-bit words, or pairs of 64-bit words with sixteen free bits together.
 
 use crate::arith::Adder;
 use crate::fits::{Case, Conditions};

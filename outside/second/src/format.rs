@@ -1,12 +1,12 @@
 //! Limits, refusal numbers and the fixed words of a format
-//! (document 01, "Numbers of a format" and "Causes and replies"; document 02, W-201).
+//! (document 01, "Numbers of a format" and "Causes and replies"; document 02, W-201, W-202).
 
 /// The number of a refusal, 1 to 13.
 pub type Refusal = u8;
 
-/// w below 2 or above 8.
+/// w below 2 or above 11.
 pub const W_OUT_OF_RANGE: Refusal = 1;
-/// f below 2 or above 23.
+/// f below 2 or above 52.
 pub const F_OUT_OF_RANGE: Refusal = 2;
 /// Operation above 1.
 pub const UNKNOWN_OPERATION: Refusal = 3;
@@ -32,9 +32,9 @@ pub const N_OUT_OF_RANGE: Refusal = 12;
 pub const MASKS_DISAGREE: Refusal = 13;
 
 pub const SMALLEST_W: u64 = 2;
-pub const LARGEST_W: u64 = 8;
+pub const LARGEST_W: u64 = 11;
 pub const SMALLEST_F: u64 = 2;
-pub const LARGEST_F: u64 = 23;
+pub const LARGEST_F: u64 = 52;
 pub const LARGEST_MODE: u64 = 4;
 
 /// A format within the limits. The fields are private so that no other can be made.
@@ -114,9 +114,19 @@ impl Format {
     }
 }
 
-/// Refuses with 6 a word of more than `width` bits, where `width` is at most 63.
+/// w and f of every format.
+pub fn every_format() -> impl Iterator<Item = (u64, u64)> + Clone {
+    (SMALLEST_W..=LARGEST_W).flat_map(|w| (SMALLEST_F..=LARGEST_F).map(move |f| (w, f)))
+}
+
+/// The word of `width` ones, 1 to 64. A 1 moved up by the width would fall out at 64.
+pub fn ones(width: u32) -> u64 {
+    u64::MAX >> (64 - width)
+}
+
+/// Refuses with 6 a word of more than `width` bits.
 pub fn check_width(word: u64, width: u32) -> Result<(), Refusal> {
-    if word >= 1 << width {
+    if word > ones(width) {
         return Err(WORD_TOO_WIDE);
     }
     Ok(())

@@ -7,7 +7,7 @@
 //! The files, lowest first:
 //!
 //! - `format`: limits, refusal numbers, the fixed words of a format
-//! - `wide`: whole numbers of 320 bits
+//! - `wide`: whole numbers of 2,112 bits
 //! - `operand`: the kinds of operand and their magnitudes in smallest steps
 //! - `arith`: the rounded result
 //! - `row`: the carry row

@@ -1,9 +1,10 @@
-//! What the listing program prints (document 01, "Cases, in hexadecimal", at the end).
+//! What the listing program prints (document 01, "Cases, in hexadecimal", at the end; document
+//! 02, W-202).
 
 use crate::choice::Job;
 use crate::fits::Case;
 use crate::format::{Refusal, NO_CASE};
-use crate::record::{read, Reply};
+use crate::record::{read, word_bytes, Reply};
 
 /// The longest file that is listed, in bytes.
 pub const LONGEST_FILE: usize = 65_536;
@@ -29,23 +30,29 @@ fn lines(file: &[u8], mut generate: impl FnMut(&Job) -> Result<Case, Refusal>) -
         let answer = match reply {
             Reply::End => return lines,
             Reply::Refused(number) => Err(number),
-            Reply::Job(job) => generate(&job),
+            Reply::Job(job) => generate(&job).map(|case| found(&job, &case)),
         };
-        lines.push(line(&answer));
         // Reading stops at any refusal but the one that says that no case fits.
-        if answer.is_err_and(|number| number != NO_CASE) {
+        let stops = answer.as_ref().is_err_and(|&number| number != NO_CASE);
+        lines.push(answer.unwrap_or_else(refused));
+        if stops {
             return lines;
         }
     }
 }
 
-fn line(answer: &Result<Case, Refusal>) -> String {
-    match answer {
-        Ok(case) => {
-            let row = case.row.map_or("-".to_string(), |row| format!("{row:08x}"));
-            format!("found {:08x} {:08x} {:08x} {row}", case.a, case.b, case.c)
-        }
-        Err(NO_CASE) => "none".to_string(),
-        Err(number) => format!("refused {number}"),
+/// The line of a case: two digits for each byte that a word has in the job's record.
+fn found(job: &Job, case: &Case) -> String {
+    let digits = 2 * word_bytes(job.conditions.w, job.conditions.f);
+    let text = |word: u64| format!("{word:0digits$x}");
+    let [a, b, c] = [case.a, case.b, case.c].map(text);
+    let row = case.row.map_or("-".to_string(), text);
+    format!("found {a} {b} {c} {row}")
+}
+
+fn refused(number: Refusal) -> String {
+    match number {
+        NO_CASE => "none".to_string(),
+        _ => format!("refused {number}"),
     }
 }

@@ -1,7 +1,7 @@
 //! Masks (document 01, "Masks and choice"): well formed, met, joined, and the words that
 //! meet one.
 
-use crate::format::{Refusal, BAD_MASK, MASKS_DISAGREE};
+use crate::format::{ones, Refusal, BAD_MASK, MASKS_DISAGREE};
 
 /// Two words: in `care` a 1 says that the bit is fixed, `value` says to what.
 #[derive(Clone, Copy, Debug, PartialEq, Eq)]
@@ -14,9 +14,9 @@ impl Mask {
     /// The mask that fixes no bit.
     pub const FREE: Mask = Mask { care: 0, value: 0 };
 
-    /// No value bit outside care, and no bit at `width` or above. A width is at most 33.
+    /// No value bit outside care, and no bit at `width` or above.
     pub fn is_well_formed(&self, width: u32) -> bool {
-        self.is_within_care() && self.care >> width == 0
+        self.is_within_care() && self.care <= ones(width)
     }
 
     /// Refuses with 5.
@@ -66,7 +66,7 @@ impl Mask {
     /// Every word of `width` bits that meets a well-formed mask, by rising exclusive-or with
     /// `target`.
     pub fn words_near(&self, width: u32, target: u64) -> Nearest {
-        let free = ((1 << width) - 1) & !self.care;
+        let free = ones(width) & !self.care;
         Nearest {
             free,
             start: self.value | (target & free),
@@ -119,7 +119,9 @@ mod tests {
         assert!(mask(0xFFFF_FFFF, 0xFFFF_FFFF).is_well_formed(32));
         assert!(!mask(1 << 32, 0).is_well_formed(32));
         assert!(mask(1 << 32, 1 << 32).is_well_formed(33));
-        assert!(!mask(1 << 63, 0).is_well_formed(33));
+        assert!(!mask(1 << 63, 0).is_well_formed(63));
+        assert!(mask(1 << 63, 1 << 63).is_well_formed(64));
+        assert!(!mask(1 << 62, 1 << 63).is_well_formed(64));
     }
 
     #[test]
@@ -159,5 +161,16 @@ mod tests {
                 }
             }
         }
+    }
+
+    #[test]
+    fn words_of_64_bits_come_nearest_first_too() {
+        let (top, ends) = (1 << 63, 1 | 1 << 63);
+        let words: Vec<u64> = mask(!ends, 6).words_near(64, top).collect();
+        assert_eq!(words, [top | 6, top | 7, 6, 7]);
+        let all_fixed: Vec<u64> = mask(u64::MAX, ends).words_near(64, 0).collect();
+        assert_eq!(all_fixed, [ends]);
+        let first_free: Vec<u64> = Mask::FREE.words_near(64, ends).take(2).collect();
+        assert_eq!(first_free, [ends, top]);
     }
 }

@@ -19,9 +19,9 @@ impl Random {
         z ^ (z >> 31)
     }
 
-    /// The next `count` bits, at most 63, from the top of a word.
+    /// The next `count` bits, at most 64, from the top of a word.
     pub fn bits(&mut self, count: u32) -> u64 {
-        (self.word() >> 1) >> (63 - count)
+        self.word().checked_shr(64 - count).unwrap_or(0)
     }
 
     /// A number below `limit`. The remainder favours small numbers by less than one part in
@@ -73,5 +73,6 @@ mod tests {
         let mut random = Random::new(1);
         assert_eq!(random.bits(0), 0);
         assert!((0..1000).all(|_| random.bits(3) < 8));
+        assert!((0..1000).any(|_| random.bits(64) >> 63 == 1));
     }
 }

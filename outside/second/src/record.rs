@@ -1,4 +1,4 @@
-//! Job records and job files (document 01, "Job files").
+//! Job records and job files (document 01, "Job files"; document 02, W-202).
 
 use crate::choice::Job;
 use crate::fits::Conditions;
@@ -7,11 +7,24 @@ use crate::mask::Mask;
 
 /// Map byte, w, f and operation.
 const HEADER: usize = 4;
-/// The bytes of the field that each map bit announces, from bit 0 on: the masks of a, b, c
-/// and carries, the mode, the random words.
-const FIELD_BYTES: [usize; 6] = [8, 8, 8, 8, 1, 8];
-/// The bytes of a record that has every field.
-pub const LONGEST_RECORD: usize = 45;
+/// The map bits, from bit 0 on: the masks of a, b, c and carries, the mode, the random words.
+const FIELDS: usize = 6;
+/// The map bit of the mode, which has one byte. Every other field is two words.
+const MODE: usize = 4;
+/// The map bit of the random words.
+const WORDS: usize = 5;
+/// The bytes of a record that has every field, with words of eight bytes.
+pub const LONGEST_RECORD: usize = 85;
+
+/// The bytes of a word in records, for the carries too: 4 where w + f + 1 is at most 32, else 8.
+/// A header's w and f may be out of their limits here: whether a record is cut short is told
+/// before these are checked.
+pub fn word_bytes(w: u64, f: u64) -> usize {
+    match w + f + 1 {
+        ..=32 => 4,
+        _ => 8,
+    }
+}
 
 /// What stands first in a file.
 #[derive(Clone, Copy, Debug, PartialEq, Eq)]
@@ -28,41 +41,45 @@ pub fn read(file: &[u8]) -> (Reply, &[u8]) {
         return (Reply::End, file);
     };
     match decode(map, file) {
-        Ok(job) => (Reply::Job(job), &file[record_bytes(map)..]),
+        Ok((job, rest)) => (Reply::Job(job), rest),
         Err(number) => (Reply::Refused(number), file),
     }
 }
 
-fn decode(map: u8, file: &[u8]) -> Result<Job, Refusal> {
-    if map >> FIELD_BYTES.len() != 0 {
+fn decode(map: u8, file: &[u8]) -> Result<(Job, &[u8]), Refusal> {
+    if map >> FIELDS != 0 {
         return Err(UNKNOWN_MAP_BIT);
     }
-    let Some(record) = file.get(..record_bytes(map)) else {
+    let Some((&[_, w, f, operation], after)) = file.split_first_chunk::<HEADER>() else {
         return Err(CUT_SHORT);
     };
-    let job = take_fields(map, record);
+    let header = [w, f, operation].map(u64::from);
+    let layout = Layout::of(map, header[0], header[1]);
+    let Some((fields, rest)) = after.split_at_checked(layout.bytes()) else {
+        return Err(CUT_SHORT);
+    };
+    let job = take_fields(layout, header, fields);
     job.check()?;
     // A field that is not there reads as its default, so the two maps differ exactly where
     // a field that is there says its default.
     if map_of(&job) != map {
         return Err(SAYS_DEFAULT);
     }
-    Ok(job)
+    Ok((job, rest))
 }
 
-/// The job that a record of full length states, unchecked.
-fn take_fields(map: u8, record: &[u8]) -> Job {
+/// The job that the header's numbers and a record's fields state, unchecked.
+fn take_fields(layout: Layout, [w, f, operation]: [u64; 3], fields: &[u8]) -> Job {
     let mut fields = Fields {
-        map,
-        left: &record[HEADER..],
+        layout,
+        left: fields,
     };
-    let [_, w, f, operation] = [0, 1, 2, 3].map(|i| u64::from(record[i]));
     let [a, b, c, carries] = [0, 1, 2, 3].map(|bit| {
         let [care, value] = fields.take_words(bit);
         Mask { care, value }
     });
-    let mode = fields.take(4).first().copied().map_or(0, u64::from);
-    let words = fields.take_words(5);
+    let mode = fields.take(MODE).first().copied().map_or(0, u64::from);
+    let words = fields.take_words(WORDS);
     let conditions = Conditions {
         w,
         f,
@@ -76,16 +93,46 @@ fn take_fields(map: u8, record: &[u8]) -> Job {
     Job { conditions, words }
 }
 
+/// Which fields a record has, by its map, and how many bytes a word has in it.
+#[derive(Clone, Copy)]
+struct Layout {
+    map: u8,
+    word_bytes: usize,
+}
+
+impl Layout {
+    fn of(map: u8, w: u64, f: u64) -> Layout {
+        Layout {
+            map,
+            word_bytes: word_bytes(w, f),
+        }
+    }
+
+    /// The bytes of the field of a map bit; none where the bit does not stand.
+    fn field_bytes(self, bit: usize) -> usize {
+        match (self.map >> bit & 1, bit) {
+            (0, _) => 0,
+            (_, MODE) => 1,
+            _ => 2 * self.word_bytes,
+        }
+    }
+
+    /// The bytes of all fields.
+    fn bytes(self) -> usize {
+        (0..FIELDS).map(|bit| self.field_bytes(bit)).sum()
+    }
+}
+
 /// The fields that are not yet taken, in bit order.
 struct Fields<'a> {
-    map: u8,
+    layout: Layout,
     left: &'a [u8],
 }
 
 impl<'a> Fields<'a> {
     /// The bytes of the field of a map bit; none where the bit does not stand.
     fn take(&mut self, bit: usize) -> &'a [u8] {
-        let (field, left) = self.left.split_at(field_bytes(self.map, bit));
+        let (field, left) = self.left.split_at(self.layout.field_bytes(bit));
         self.left = left;
         field
     }
@@ -104,22 +151,6 @@ fn low_byte_first(bytes: &[u8]) -> u64 {
         .iter()
         .rev()
         .fold(0, |word, &byte| word * 256 + u64::from(byte))
-}
-
-fn field_bytes(map: u8, bit: usize) -> usize {
-    if map >> bit & 1 == 1 {
-        FIELD_BYTES[bit]
-    } else {
-        0
-    }
-}
-
-/// The bytes of a record with this map byte.
-fn record_bytes(map: u8) -> usize {
-    let fields: usize = (0..FIELD_BYTES.len())
-        .map(|bit| field_bytes(map, bit))
-        .sum();
-    HEADER + fields
 }
 
 /// The map byte that announces exactly the fields that differ from their default.
@@ -153,27 +184,26 @@ pub fn write(job: &Job, buffer: &mut [u8]) -> Result<usize, Refusal> {
 pub fn encode(job: &Job) -> Result<Vec<u8>, Refusal> {
     job.check()?;
     let c = &job.conditions;
-    let map = map_of(job);
-    let mut record = vec![map, c.w as u8, c.f as u8, c.operation as u8];
+    let layout = Layout::of(map_of(job), c.w, c.f);
+    let mut record = vec![layout.map, c.w as u8, c.f as u8, c.operation as u8];
     for (bit, mask) in [c.a, c.b, c.c, c.carries].into_iter().enumerate() {
-        put(&mut record, map, bit, &words_field([mask.care, mask.value]));
+        put_words(&mut record, layout, bit, [mask.care, mask.value]);
     }
-    put(&mut record, map, 4, &[c.mode as u8]);
-    put(&mut record, map, 5, &words_field(job.words));
+    put(&mut record, layout, MODE, &[c.mode as u8]);
+    put_words(&mut record, layout, WORDS, job.words);
     Ok(record)
 }
 
 /// Adds a field where its bit stands in the map.
-fn put(record: &mut Vec<u8>, map: u8, bit: usize, field: &[u8]) {
-    record.extend_from_slice(&field[..field_bytes(map, bit)]);
+fn put(record: &mut Vec<u8>, layout: Layout, bit: usize, field: &[u8]) {
+    record.extend_from_slice(&field[..layout.field_bytes(bit)]);
 }
 
-/// The field of two words. A checked job has no word with a bit above the four bytes.
-fn words_field(words: [u64; 2]) -> Vec<u8> {
-    words
-        .iter()
-        .flat_map(|word| (*word as u32).to_le_bytes())
-        .collect()
+/// Adds a field of two words. A checked job has no word with a bit above the bytes of a word.
+fn put_words(record: &mut Vec<u8>, layout: Layout, bit: usize, words: [u64; 2]) {
+    let bytes = words.map(u64::to_le_bytes);
+    let [first, second] = [0, 1].map(|i: usize| &bytes[i][..layout.word_bytes]);
+    put(record, layout, bit, &[first, second].concat());
 }
 
 /// The jobs of a file up to its end or its first refusal, the number of that refusal, and

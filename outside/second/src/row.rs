@@ -1,9 +1,9 @@
 //! The carry row (document 01, "The carry row"), bit by bit from the remainders that the
-//! document names. Counting in smallest steps in place of the larger operand's unit
-//! multiplies every term by the same power of two and keeps all of them whole.
+//! document names. Both operands are counted in the larger one's unit, in which that is whole;
+//! of the smaller one's fractional part only whether there is one can matter.
 
 use crate::arith::Operation;
-use crate::format::{Format, Refusal};
+use crate::format::{ones, Format, Refusal};
 use crate::operand::{Finite, Operand};
 use crate::wide::Wide;
 
@@ -33,20 +33,32 @@ fn finite_row(format: Format, x: &Finite, y: &Finite) -> u64 {
         (y, x)
     };
     let like = x.negative == y.negative;
+    let unit = larger.unit_exponent;
+    let l = larger.magnitude.quotient_by_power(unit);
+    let r = Counted {
+        whole: smaller.magnitude.quotient_by_power(unit),
+        has_part: smaller.magnitude.modulo_power(unit) != Wide::ZERO,
+    };
     (0..format.precision())
-        .filter(|&i| carries(larger, smaller, like, larger.unit_exponent + i + 1))
+        .filter(|&i| carries(l, &r, like, ones(i + 1)))
         .map(|i| 1 << i)
         .sum()
 }
 
-/// Whether position i holds a carry, or a borrow where the signs are unlike; `n` is i + 1
-/// plus the exponent of the larger operand's unit.
-fn carries(larger: &Finite, smaller: &Finite, like: bool, n: u32) -> bool {
-    let left = larger.magnitude.modulo_power(n);
-    let right = smaller.magnitude.modulo_power(n);
+/// The smaller operand in the larger one's unit.
+struct Counted {
+    whole: u64,
+    has_part: bool,
+}
+
+/// Whether position i holds a carry, or a borrow where the signs are unlike; `low` has ones in
+/// positions 0 to i. A fractional part takes no sum of whole numbers to the next one, and lets
+/// the smaller operand's remainder exceed one that is as large without it.
+fn carries(l: u64, r: &Counted, like: bool, low: u64) -> bool {
+    let [left, right] = [l, r.whole].map(|number| number & low);
     if like {
-        left.plus(&right) >= Wide::scaled(1, n)
+        left + right > low
     } else {
-        right > left
+        right > left || (right == left && r.has_part)
     }
 }

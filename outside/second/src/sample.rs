@@ -80,8 +80,8 @@ fn at_distance(random: &mut Random, format: Format, a: u64, spread: u32, least: 
 
 /// A word a few places from `a` in the order of magnitudes, with a random sign.
 fn nearly(random: &mut Random, format: Format, a: u64) -> u64 {
-    let index = (a & (format.sign_bit() - 1)) as i64 + random.below(9) as i64 - 4;
-    let index = index.clamp(0, format.sign_bit() as i64 - 1) as u64;
+    let index = (a & (format.sign_bit() - 1)) + random.below(9);
+    let index = index.saturating_sub(4).min(format.sign_bit() - 1);
     format.signed(random.one_in(2), index)
 }
 
@@ -95,28 +95,39 @@ fn among(random: &mut Random, format: Format, low: i64) -> (u64, u64) {
     (one(), one())
 }
 
-/// w, f, operation and mode, each anywhere within its limits.
+/// Half, single and double precision.
+const IN_USE: [(u64, u64); 3] = [(5, 10), (8, 23), (11, 52)];
+
+/// w, f, operation and mode, each anywhere within its limits; every fourth format is one in use.
 pub fn numbers(random: &mut Random) -> [u64; 4] {
     let mut between = |low, high| low + random.below(high - low + 1);
-    [
-        between(SMALLEST_W, LARGEST_W),
-        between(SMALLEST_F, LARGEST_F),
-        between(0, 1),
-        between(0, LARGEST_MODE),
-    ]
+    let (w, f) = match between(0, 11) {
+        n @ 0..=2 => IN_USE[n as usize],
+        _ => (
+            between(SMALLEST_W, LARGEST_W),
+            between(SMALLEST_F, LARGEST_F),
+        ),
+    };
+    [w, f, between(0, 1), between(0, LARGEST_MODE)]
+}
+
+/// How many of 64 bits to fix in the masks of a and b so that about six bits of the two stay free,
+/// whatever the format: few enough to try them all.
+pub fn all_but_few([w, f, _, _]: [u64; 4]) -> u64 {
+    64 - 64 * 6 / (2 * (w + f + 1))
 }
 
 /// A job that is not refused with 1 to 6. Its masks take their values from a true case,
 /// and in one of two jobs one fixed bit is turned, so that both answers are frequent. In
-/// each of the masks of a and b about `care_a_b` of 8 bits are fixed.
+/// each of the masks of a and b about `care_a_b` of 64 bits are fixed.
 pub fn job(random: &mut Random, numbers: [u64; 4], care_a_b: u64) -> Job {
     let [w, f, operation, mode] = numbers;
     let adder = Adder::new(w, f, operation, mode).expect("numbers within their limits");
     let width = adder.format.width();
     let (a, b) = pair(random, adder.format);
     let case = Case::of(&adder, a, b);
-    let care_c = 2 + random.below(7);
-    let care_row = random.below(5);
+    let care_c = 8 * (2 + random.below(7));
+    let care_row = 8 * random.below(5);
     let mut conditions = Conditions::free(w, f, operation, mode);
     conditions.a = mask_around(random, case.a, width, care_a_b);
     conditions.b = mask_around(random, case.b, width, care_a_b);
@@ -140,7 +151,7 @@ pub fn unrelated_job(random: &mut Random, numbers: [u64; 4]) -> Job {
     let [w, f, operation, mode] = numbers;
     let format = Format::new(w, f).expect("numbers within their limits");
     let width = format.width();
-    let care = 2 + 2 * random.below(3);
+    let care = 16 * (1 + random.below(3));
     let mut any = |width| {
         let word = random.bits(width);
         mask_around(random, word, width, care)
@@ -154,10 +165,10 @@ pub fn unrelated_job(random: &mut Random, numbers: [u64; 4]) -> Job {
     Job { conditions, words }
 }
 
-/// A mask that a word meets, with about `care` of 8 bits fixed.
+/// A mask that a word meets, with about `care` of 64 bits fixed.
 fn mask_around(random: &mut Random, word: u64, width: u32, care: u64) -> Mask {
     let care = (0..width)
-        .filter(|_| random.below(8) < care)
+        .filter(|_| random.below(64) < care)
         .map(|i| 1 << i)
         .sum();
     Mask {

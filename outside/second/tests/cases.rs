@@ -4,7 +4,9 @@
 use second::arith::rounded;
 use second::choice::{generate, Job};
 use second::fits::{confirm, Case, Conditions};
-use second::format::{Refusal, F_OUT_OF_RANGE, LARGEST_MODE, NO_CASE, W_OUT_OF_RANGE};
+use second::format::{
+    every_format, ones, Refusal, F_OUT_OF_RANGE, LARGEST_MODE, NO_CASE, W_OUT_OF_RANGE,
+};
 use second::mask::Mask;
 use second::row::carry_row;
 use second::signs::refusal;
@@ -186,7 +188,7 @@ fn case_11_whole_numbers() {
 /// What each function that takes a format answers where both operands are fixed to 0.
 fn acceptance(w: u64, f: u64) -> [Option<Refusal>; 4] {
     let mut conditions = Conditions::free(w, f, 0, 0);
-    let care = (1 << w.clamp(2, 8) << f.clamp(2, 23) << 1) - 1;
+    let care = ones((w.clamp(2, 11) + f.clamp(2, 52) + 1) as u32);
     conditions.a = Mask { care, value: 0 };
     conditions.b = conditions.a;
     [
@@ -197,17 +199,18 @@ fn acceptance(w: u64, f: u64) -> [Option<Refusal>; 4] {
     ]
 }
 
+/// With the limits of document 02, W-202.
 #[test]
 fn case_12_limits() {
-    for f in [2, 23] {
+    for f in [2, 52] {
         assert_eq!(acceptance(2, f), [None; 4]);
-        assert_eq!(acceptance(8, f), [None; 4]);
+        assert_eq!(acceptance(11, f), [None; 4]);
         assert_eq!(acceptance(1, f), [Some(W_OUT_OF_RANGE); 4]);
-        assert_eq!(acceptance(9, f), [Some(W_OUT_OF_RANGE); 4]);
+        assert_eq!(acceptance(12, f), [Some(W_OUT_OF_RANGE); 4]);
     }
-    for w in [2, 8] {
+    for w in [2, 11] {
         assert_eq!(acceptance(w, 1), [Some(F_OUT_OF_RANGE); 4]);
-        assert_eq!(acceptance(w, 24), [Some(F_OUT_OF_RANGE); 4]);
+        assert_eq!(acceptance(w, 53), [Some(F_OUT_OF_RANGE); 4]);
     }
 }
 
@@ -227,11 +230,11 @@ fn fixed_signs(w: u64, f: u64, mode: u64) -> Conditions {
     conditions
 }
 
-/// By trying all pairs of words in small formats, and in every format, 8/23 among them, by the
-/// rule about signs.
+/// By trying all pairs of words in small formats, and in every format, 8/23 and 11/52 among them,
+/// by the rule about signs.
 #[test]
 fn case_13_signs() {
-    for (w, f) in (2..=8).flat_map(|w| (2..=23).map(move |f| (w, f))) {
+    for (w, f) in every_format() {
         for mode in 0..=LARGEST_MODE {
             let conditions = fixed_signs(w, f, mode);
             if w + f < 8 {

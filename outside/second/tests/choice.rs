@@ -6,7 +6,7 @@ use second::fits::{confirm, Case};
 use second::format::{LARGEST_MODE, NO_CASE};
 use second::mask::Mask;
 use second::random::Random;
-use second::sample::{job, numbers};
+use second::sample::{all_but_few, job, numbers};
 use second::table::Table;
 use second::whole::{generate_whole, WholeCase, WholeJob};
 
@@ -55,7 +55,7 @@ fn both_statements_of_the_choice_agree() {
     for _ in 0..1500 {
         let w = 2 + random.below(2);
         let numbers = [w, 2, random.below(2), random.below(LARGEST_MODE + 1)];
-        let care = 2 + random.below(7);
+        let care = 16 + random.below(49);
         let job = job(&mut random, numbers, care);
         let adder = job.check().unwrap();
         let expected = by_bits(&job, &adder);
@@ -76,7 +76,7 @@ fn table_answers_like_the_generator() {
             let adder = Adder::new(3, 4, operation, mode).unwrap();
             let table = Table::new(adder).unwrap();
             for _ in 0..200 {
-                let care = random.below(7);
+                let care = random.below(49);
                 let job = job(&mut random, [3, 4, operation, mode], care);
                 assert_eq!(table.generate(&job), generate(&job));
             }
@@ -91,7 +91,7 @@ fn every_fitting_case_is_some_answer() {
     let mut random = Random::new(0xE7E2);
     for _ in 0..50 {
         let numbers = [3, 3, random.below(2), random.below(LARGEST_MODE + 1)];
-        let mut job = job(&mut random, numbers, 4);
+        let mut job = job(&mut random, numbers, 32);
         let adder = job.check().unwrap();
         for case in all_fitting(&job, &adder) {
             job.words = [case.a, case.b];
@@ -117,10 +117,10 @@ fn words_of(mask: &Mask, width: u32) -> Vec<u64> {
 #[test]
 fn wide_formats_with_few_free_bits() {
     let mut random = Random::new(0x51D3);
-    let mut found = 0;
+    let (mut found, mut doubles) = (0, 0);
     for _ in 0..2000 {
         let numbers = numbers(&mut random);
-        let job = job(&mut random, numbers, 7);
+        let job = job(&mut random, numbers, all_but_few(numbers));
         let adder = job.check().unwrap();
         if free_bits(&job.conditions, &adder) > 10 {
             continue;
@@ -139,9 +139,10 @@ fn wide_formats_with_few_free_bits() {
             .min_by_key(|case| (case.a ^ first, case.b ^ second));
         assert_eq!(generate(&job), expected.ok_or(NO_CASE));
         found += u32::from(expected.is_some());
+        doubles += u32::from(width == 64);
     }
-    println!("{found} found");
-    assert!(found > 300, "{found} found");
+    println!("{found} found, {doubles} jobs of 64-bit words");
+    assert!(found > 300 && doubles > 100, "{found} found, {doubles}");
 }
 
 /// A carry mask that fixes a bit is met by no infinite operand, and one that fixes none is.

@@ -1,7 +1,7 @@
 //! The rounded result and the carry row against slower accounts of the same paragraphs.
 
 use second::arith::{rounded, Adder};
-use second::format::LARGEST_MODE;
+use second::format::{every_format, LARGEST_MODE};
 use second::operand::Operand;
 use second::random::Random;
 use second::row::{carry_row, row};
@@ -169,15 +169,13 @@ fn rows_of_small_formats_ripple() {
 #[test]
 fn rows_of_all_formats_ripple() {
     let mut random = Random::new(0x0720);
-    for w in 2..=8 {
-        for f in 2..=23 {
-            for operation in [0, 1] {
-                let adder = Adder::new(w, f, operation, 0).unwrap();
-                for _ in 0..1000 {
-                    let (a, b) = pair(&mut random, adder.format);
-                    let expected = rippled(&adder, a, b);
-                    assert_eq!(row(adder.format, adder.operation, a, b), expected);
-                }
+    for (w, f) in every_format() {
+        for operation in [0, 1] {
+            let adder = Adder::new(w, f, operation, 0).unwrap();
+            for _ in 0..300 {
+                let (a, b) = pair(&mut random, adder.format);
+                let expected = rippled(&adder, a, b);
+                assert_eq!(row(adder.format, adder.operation, a, b), expected);
             }
         }
     }
@@ -188,16 +186,14 @@ fn rows_of_all_formats_ripple() {
 #[test]
 fn exchange_and_flip_in_all_formats() {
     let mut random = Random::new(0x0E0F);
-    for w in 2..=8 {
-        for f in 2..=23 {
-            for mode in 0..=LARGEST_MODE {
-                let [add, subtract] = [0, 1].map(|op| Adder::new(w, f, op, mode).unwrap());
-                for _ in 0..300 {
-                    let (a, b) = pair(&mut random, add.format);
-                    let sum = add.result(a, b);
-                    assert_eq!(sum, add.result(b, a));
-                    assert_eq!(sum, subtract.result(a, b ^ add.format.sign_bit()));
-                }
+    for (w, f) in every_format() {
+        for mode in 0..=LARGEST_MODE {
+            let [add, subtract] = [0, 1].map(|op| Adder::new(w, f, op, mode).unwrap());
+            for _ in 0..100 {
+                let (a, b) = pair(&mut random, add.format);
+                let sum = add.result(a, b);
+                assert_eq!(sum, add.result(b, a));
+                assert_eq!(sum, subtract.result(a, b ^ add.format.sign_bit()));
             }
         }
     }

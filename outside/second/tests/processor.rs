@@ -1,15 +1,58 @@
-//! Single precision against the processor: in its four rounding modes, and in mode 4, which it has
-//! not, by its mode 0 and a wider sum that shows the ties.
+//! Single and double precision against the processor: in its four rounding modes, and in mode 4,
+//! which it has not, by its mode 0 and what shows the ties.
 //!
 //! SECOND_SEED gives another seed, decimal or with 0x before hexadecimal digits.
+
+use std::ops::{Add, Neg, Sub};
 
 use second::arith::Adder;
 use second::random::{seed, Random};
 use second::sample::pair;
 
-const PAIRS: usize = 1_500_000;
+const PAIRS: usize = 1_000_000;
 const SEED: u64 = 0x0001_0754_2008;
-const NAN: u32 = 0x7FC0_0000;
+
+/// A format that the processor has.
+trait Native: Copy + PartialOrd + Add<Output = Self> + Sub<Output = Self> + Neg<Output = Self> {
+    /// w and f.
+    const FORMAT: (u64, u64);
+    fn of(word: u64) -> Self;
+    fn word(self) -> u64;
+    fn abs(self) -> Self;
+    fn is_nan(self) -> bool;
+}
+
+macro_rules! native {
+    ($float:ident, $bits:ty, $format:expr) => {
+        impl Native for $float {
+            const FORMAT: (u64, u64) = $format;
+
+            fn of(word: u64) -> Self {
+                $float::from_bits(word as $bits)
+            }
+
+            fn word(self) -> u64 {
+                u64::from(self.to_bits())
+            }
+
+            fn abs(self) -> Self {
+                $float::abs(self)
+            }
+
+            fn is_nan(self) -> bool {
+                $float::is_nan(self)
+            }
+        }
+    };
+}
+
+native!(f32, u32, (8, 23));
+native!(f64, u64, (11, 52));
+
+fn adder<T: Native>(operation: u64, mode: u64) -> Adder {
+    let (w, f) = T::FORMAT;
+    Adder::new(w, f, operation, mode).unwrap()
+}
 
 fn random() -> Random {
     let given = std::env::var("SECOND_SEED").ok();
@@ -18,77 +61,88 @@ fn random() -> Random {
     Random::new(seed)
 }
 
-/// Makes every NaN the one that document 01 names; IEEE 754 leaves the pattern free.
-fn one_nan(result: f32) -> u32 {
-    if result.is_nan() {
-        NAN
-    } else {
-        result.to_bits()
-    }
-}
-
-/// Compares both operations in one mode on the same pairs.
-fn compare(mode: u64, processor: impl Fn(u64, f32, f32) -> f32) {
+/// Compares both operations in one mode on the same pairs. Every NaN of the processor is taken for
+/// the one that document 01 names; IEEE 754 leaves the pattern free.
+fn compare<T: Native>(mode: u64, processor: impl Fn(u64, T, T) -> T) {
     let mut random = random();
-    let adders = [0, 1].map(|operation| Adder::new(8, 23, operation, mode).unwrap());
+    let adders = [0, 1].map(|operation| adder::<T>(operation, mode));
     for _ in 0..PAIRS {
         let (a, b) = pair(&mut random, adders[0].format);
         for (operation, adder) in (0..).zip(&adders) {
-            let float = |word: u64| f32::from_bits(word as u32);
-            let expected = one_nan(processor(operation, float(a), float(b)));
+            let result = processor(operation, T::of(a), T::of(b));
+            let expected = if result.is_nan() {
+                adder.format.nan()
+            } else {
+                result.word()
+            };
             assert_eq!(
                 adder.result(a, b),
-                u64::from(expected),
-                "{a:08x} {b:08x} operation {operation} mode {mode}"
+                expected,
+                "{a:x} {b:x} operation {operation} mode {mode}"
             );
         }
     }
 }
 
-#[test]
-fn nearest_by_the_language() {
-    compare(0, |operation, a, b| match operation {
+/// The sum or difference by the language's own operators.
+fn nearest<T: Native>(operation: u64, a: T, b: T) -> T {
+    match operation {
         0 => a + b,
         _ => a - b,
-    });
-}
-
-/// The neighbour on the other side of an exact sum.
-fn neighbour(nearest: f32, exact: f64) -> f32 {
-    if f64::from(nearest) < exact {
-        nearest.next_up()
-    } else {
-        nearest.next_down()
     }
 }
 
-/// Where two numbers are as near, the larger one. A sum that lies half way has at most 48 bits
-/// from end to end, so that double precision holds it, and no other sum is rounded there to a
-/// half-way number.
-fn ties_away(operation: u64, a: f32, b: f32) -> f32 {
-    let [x, y] = [a, b].map(f64::from);
-    let (nearest, exact) = match operation {
-        0 => (a + b, x + y),
-        _ => (a - b, x - y),
-    };
-    let other = neighbour(nearest, exact);
-    let tie = f64::from(nearest) != exact
-        && (f64::from(nearest) - exact).abs() == (f64::from(other) - exact).abs();
-    if tie && other.abs() > nearest.abs() {
-        other
+#[test]
+fn nearest_by_the_language() {
+    compare::<f32>(0, nearest);
+    compare::<f64>(0, nearest);
+}
+
+/// Where two numbers are as near, the larger one. The error of a sum is itself a number, and the
+/// processor gives it: the larger operand is taken from the sum again, and that from the smaller
+/// one, both without rounding. The sum lies half way to the next number away from zero where
+/// twice the error reaches that. An overflow is infinite in both nearest modes.
+fn ties_away<T: Native>(operation: u64, a: T, b: T) -> T {
+    let b = if operation == 0 { b } else { -b };
+    let (large, small) = if a.abs() < b.abs() { (b, a) } else { (a, b) };
+    let sum = a + b;
+    let error = small - (sum - large);
+    let next = T::of(sum.word().wrapping_add(1));
+    if next - sum == error + error {
+        next
     } else {
-        nearest
+        sum
+    }
+}
+
+#[test]
+fn ties_away_by_the_error() {
+    compare::<f32>(4, ties_away);
+    compare::<f64>(4, ties_away);
+}
+
+/// The same in single precision by a sum in double precision. One that lies half way has at most
+/// 48 bits from end to end, so that double precision holds it, and no other sum is rounded there
+/// to a half-way number.
+fn ties_away_in_single(operation: u64, a: f32, b: f32) -> f32 {
+    let sum = nearest(operation, a, b);
+    let exact = nearest(operation, f64::from(a), f64::from(b));
+    let next = f32::of(sum.word() + 1);
+    if f64::from(next) - exact == exact - f64::from(sum) {
+        next
+    } else {
+        sum
     }
 }
 
 #[test]
 fn ties_away_by_a_wider_sum() {
-    compare(4, ties_away);
+    compare::<f32>(4, ties_away_in_single);
 }
 
 #[cfg(target_arch = "x86_64")]
 mod control_word {
-    use super::compare;
+    use super::{compare, Native};
     use std::arch::asm;
 
     /// All exceptions masked, no flags, subnormal numbers kept.
@@ -109,10 +163,10 @@ mod control_word {
     /// One instruction under a control word. Setting, computing and restoring stand in one
     /// block, so that no other floating-point instruction can come between them.
     macro_rules! under_control {
-        ($instruction:literal, $control:expr, $a:expr, $b:expr) => {{
+        ($float:ty, $instruction:literal, $control:expr, $a:expr, $b:expr) => {{
             let control: u32 = $control;
             let mut saved: u32 = 0;
-            let result: f32;
+            let result: $float;
             // The block reads `control`, writes `saved`, and leaves the control register as
             // it found it.
             unsafe {
@@ -132,76 +186,101 @@ mod control_word {
         }};
     }
 
-    fn compute(mode: u64, operation: u64, a: f32, b: f32) -> f32 {
-        match operation {
-            0 => under_control!("addss", control(mode), a, b),
-            _ => under_control!("subss", control(mode), a, b),
-        }
+    /// A format with the instructions that add and subtract in it.
+    trait Controlled: Native {
+        fn compute(control: u32, operation: u64, a: Self, b: Self) -> Self;
     }
 
-    fn compare_under_control(mode: u64) {
-        compare(mode, |operation, a, b| compute(mode, operation, a, b));
+    macro_rules! controlled {
+        ($float:ty, $add:literal, $subtract:literal) => {
+            impl Controlled for $float {
+                fn compute(control: u32, operation: u64, a: Self, b: Self) -> Self {
+                    match operation {
+                        0 => under_control!($float, $add, control, a, b),
+                        _ => under_control!($float, $subtract, control, a, b),
+                    }
+                }
+            }
+        };
+    }
+
+    controlled!(f32, "addss", "subss");
+    controlled!(f64, "addsd", "subsd");
+
+    fn compare_under_control<T: Controlled>(mode: u64) {
+        compare::<T>(mode, |operation, a, b| {
+            T::compute(control(mode), operation, a, b)
+        });
+    }
+
+    /// The words of 1 + half a unit and of −1 − half a unit in modes 0 to 3.
+    fn around_one<T: Controlled>(one: u64, half_unit: u64) -> [[u64; 4]; 2] {
+        let [one, half_unit] = [one, half_unit].map(T::of);
+        [(0, one), (1, -one)].map(|(operation, a)| {
+            [0, 1, 2, 3].map(|mode| T::compute(control(mode), operation, a, half_unit).word())
+        })
     }
 
     /// The control word is obeyed: a tie goes to even, and elsewhere by direction.
     #[test]
     fn control_is_obeyed() {
-        let half_unit = f32::from_bits(0x3380_0000);
-        let sums = [0, 1, 2, 3].map(|mode| compute(mode, 0, 1.0, half_unit).to_bits());
-        assert_eq!(sums, [0x3F80_0000, 0x3F80_0000, 0x3F80_0001, 0x3F80_0000]);
-        let sums = [0, 1, 2, 3].map(|mode| compute(mode, 1, -1.0, half_unit).to_bits());
-        assert_eq!(sums, [0xBF80_0000, 0xBF80_0000, 0xBF80_0000, 0xBF80_0001]);
+        let (one, minus) = (0x3F80_0000, 0xBF80_0000);
+        assert_eq!(
+            around_one::<f32>(one, 0x3380_0000),
+            [[one, one, one + 1, one], [minus, minus, minus, minus + 1]]
+        );
+        let (one, minus) = (0x3FF0_0000_0000_0000, 0xBFF0_0000_0000_0000);
+        assert_eq!(
+            around_one::<f64>(one, 0x3CA0_0000_0000_0000),
+            [[one, one, one + 1, one], [minus, minus, minus, minus + 1]]
+        );
     }
 
     #[test]
-    fn nearest() {
-        compare_under_control(0);
+    fn single_precision() {
+        (0..4).for_each(compare_under_control::<f32>);
     }
 
     #[test]
-    fn toward_zero() {
-        compare_under_control(1);
-    }
-
-    #[test]
-    fn up() {
-        compare_under_control(2);
-    }
-
-    #[test]
-    fn down() {
-        compare_under_control(3);
+    fn double_precision() {
+        (0..4).for_each(compare_under_control::<f64>);
     }
 }
 
+/// Which of the hard places a pair is: cancelled, overflow, both subnormal, nearly cancelled, tie.
+/// A tie shows where the two nearest modes differ, which is at every second one.
+fn places([even, away]: &[Adder; 2], a: u64, b: u64) -> [bool; 5] {
+    let format = even.format;
+    let size = |word: u64| word % format.sign_bit();
+    let [x, y, sum] = [a, b, even.result(a, b)].map(size);
+    let (hidden, infinity) = (1 << format.fraction_bits(), format.infinity());
+    let finite = x < infinity && y < infinity;
+    [
+        finite && sum == 0,
+        finite && sum == infinity,
+        (1..hidden).contains(&x) && (1..hidden).contains(&y),
+        finite && sum != 0 && sum + 12 * hidden < x,
+        finite && sum != size(away.result(a, b)),
+    ]
+}
+
 /// The pairs reach the places for which they are made.
-#[test]
-fn pairs_reach_the_hard_places() {
+fn reach<T: Native>() {
     let mut random = random();
-    let adder = Adder::new(8, 23, 0, 0).unwrap();
-    let [up, down] = [2, 3].map(|mode| Adder::new(8, 23, 0, mode).unwrap());
+    let adders = [0, 4].map(|mode| adder::<T>(0, mode));
     let mut counts = [0; 5];
     for _ in 0..100_000 {
-        let (a, b) = pair(&mut random, adder.format);
-        let [x, y] = [a, b].map(|word| f32::from_bits(word as u32));
-        let finite = x.is_finite() && y.is_finite();
-        let sum = f32::from_bits(adder.result(a, b) as u32);
-        // A sum that lies half way has at most 48 bits from end to end, so it is exact here,
-        // and no other sum is rounded to a half-way number.
-        let exact = f64::from(x) + f64::from(y);
-        let [high, low] = [&up, &down].map(|adder| f32::from_bits(adder.result(a, b) as u32));
-        let tie = high != low && f64::from(high) - exact == exact - f64::from(low);
-        let reached = [
-            finite && sum == 0.0,
-            finite && sum.is_infinite(),
-            x.is_subnormal() && y.is_subnormal(),
-            finite && sum != 0.0 && sum.abs() < x.abs() / 4096.0,
-            finite && tie,
-        ];
-        for (count, reached) in counts.iter_mut().zip(reached) {
+        let (a, b) = pair(&mut random, adders[0].format);
+        for (count, reached) in counts.iter_mut().zip(places(&adders, a, b)) {
             *count += u32::from(reached);
         }
     }
     println!("cancelled, overflow, subnormal, nearly cancelled, tie: {counts:?}");
     assert!(counts.iter().all(|&count| count > 500), "{counts:?}");
+}
+
+#[test]
+fn pairs_reach_the_hard_places() {
+    reach::<f32>();
+    reach::<f64>();
 }

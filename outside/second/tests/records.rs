@@ -2,7 +2,7 @@
 
 use second::choice::{generate, Job};
 use second::fits::Conditions;
-use second::format::{BUFFER_TOO_SHORT, CUT_SHORT, SAYS_DEFAULT, UNKNOWN_MAP_BIT};
+use second::format::{ones, BUFFER_TOO_SHORT, CUT_SHORT, SAYS_DEFAULT, UNKNOWN_MAP_BIT};
 use second::listing::{listing, LONGEST_FILE};
 use second::mask::Mask;
 use second::random::Random;
@@ -27,7 +27,7 @@ fn two_jobs() -> Vec<u8> {
 
 fn random_job(random: &mut Random) -> Job {
     let numbers = sample::numbers(random);
-    let care = random.below(5);
+    let care = 8 * random.below(5);
     sample::job(random, numbers, care)
 }
 
@@ -148,19 +148,21 @@ fn reading_gives_back_what_was_written() {
 #[test]
 fn writing_gives_back_what_was_read() {
     let mut random = Random::new(0x0B17);
-    let mut read_jobs = 0;
-    for _ in 0..400_000 {
-        let mut file = vec![random.bits(6) as u8, 8, 23, random.bits(1) as u8];
-        let few = [0, 0, 1, 2, 3];
-        file.extend((0..45).map(|_| few[random.below(5) as usize]));
-        let (reply, rest) = read(&file);
-        if let Reply::Job(job) = reply {
-            let length = file.len() - rest.len();
-            assert_eq!(encode(&job).unwrap(), file[..length]);
-            read_jobs += 1;
+    for (w, f) in [(8, 23), (11, 52)] {
+        let mut read_jobs = 0;
+        for _ in 0..200_000 {
+            let mut file = vec![random.bits(6) as u8, w, f, random.bits(1) as u8];
+            let few = [0, 0, 0, 1, 3];
+            file.extend((0..LONGEST_RECORD).map(|_| few[random.below(5) as usize]));
+            let (reply, rest) = read(&file);
+            if let Reply::Job(job) = reply {
+                let length = file.len() - rest.len();
+                assert_eq!(encode(&job).unwrap(), file[..length]);
+                read_jobs += 1;
+            }
         }
+        assert!(read_jobs > 10_000, "{read_jobs} read");
     }
-    assert!(read_jobs > 10_000, "{read_jobs} read");
 }
 
 #[test]
@@ -177,33 +179,50 @@ fn files_of_several_jobs() {
     }
 }
 
-#[test]
-fn longest_and_shortest_record() {
-    let mut conditions = Conditions::free(8, 23, 1, 3);
-    let short = Job {
-        conditions: Conditions::free(2, 2, 0, 0),
-        words: [0, 0],
+/// A job that states everything, with the top and the lowest bit of each word.
+fn full_job(w: u64, f: u64) -> Job {
+    let ends = |width: u64| Mask {
+        care: ones(width as u32),
+        value: 1 | 1 << (width - 1),
     };
-    assert_eq!(encode(&short), Ok(vec![0, 2, 2, 0]));
-    let all = Mask {
-        care: 0xFFFF_FFFF,
-        value: 0x8000_0001,
-    };
-    conditions.a = all;
-    conditions.b = all;
-    conditions.c = all;
-    conditions.carries = Mask {
-        care: 0xFF_FFFF,
-        value: 0x80_0000,
-    };
-    let long = Job {
+    let mut conditions = Conditions::free(w, f, 1, 3);
+    conditions.a = ends(w + f + 1);
+    conditions.b = conditions.a;
+    conditions.c = conditions.a;
+    conditions.carries = ends(f + 1);
+    Job {
         conditions,
-        words: [0, 0xFFFF_FFFF],
-    };
-    let record = encode(&long).unwrap();
-    assert_eq!(record.len(), LONGEST_RECORD);
+        words: [0, ones((w + f + 1) as u32)],
+    }
+}
+
+#[test]
+fn shortest_record() {
+    for (w, f) in [(2, 2), (11, 52)] {
+        let short = Job {
+            conditions: Conditions::free(w, f, 0, 0),
+            words: [0, 0],
+        };
+        assert_eq!(encode(&short), Ok(vec![0, w as u8, f as u8, 0]));
+    }
+}
+
+#[test]
+fn longest_records() {
+    let record = encode(&full_job(8, 23)).unwrap();
+    assert_eq!(record.len(), 45);
     assert_eq!(record[..4], [0x3F, 8, 23, 1]);
     assert_eq!(record[4..12], [0xFF, 0xFF, 0xFF, 0xFF, 1, 0, 0, 0x80]);
-    assert_eq!(record[28..37], [0xFF, 0xFF, 0xFF, 0, 0, 0, 0x80, 0, 3]);
+    assert_eq!(record[28..37], [0xFF, 0xFF, 0xFF, 0, 1, 0, 0x80, 0, 3]);
     assert_eq!(record[37..], [0, 0, 0, 0, 0xFF, 0xFF, 0xFF, 0xFF]);
+
+    let record = encode(&full_job(11, 52)).unwrap();
+    assert_eq!([record.len(), LONGEST_RECORD], [85; 2]);
+    assert_eq!(record[..4], [0x3F, 11, 52, 1]);
+    assert_eq!(record[4..12], [0xFF; 8]);
+    assert_eq!(record[12..20], [1, 0, 0, 0, 0, 0, 0, 0x80]);
+    assert_eq!(record[52..59], [0xFF, 0xFF, 0xFF, 0xFF, 0xFF, 0xFF, 0x1F]);
+    assert_eq!(record[59..69], [0, 1, 0, 0, 0, 0, 0, 0x10, 0, 3]);
+    assert_eq!(record[69..77], [0; 8]);
+    assert_eq!(record[77..], [0xFF; 8]);
 }

@@ -30,7 +30,7 @@ fn pick<T>(causes: &[Refusal], cause: Refusal, good: T, bad: T) -> T {
 /// A job of format 3/4 with exactly these of the causes 1 to 7.
 fn job(causes: &[Refusal]) -> Job {
     let mut conditions = Conditions::free(
-        pick(causes, 1, 3, 9),
+        pick(causes, 1, 3, 12),
         pick(causes, 2, 4, 1),
         pick(causes, 3, 1, 2),
         pick(causes, 4, 2, 5),
@@ -76,6 +76,11 @@ fn words_are_refused_from_their_width_on() {
     assert!(rounded(8, 23, 0, 0, 0xFFFF_FFFF, 0).is_ok());
     assert_eq!(rounded(8, 23, 0, 0, 1 << 32, 0), Err(6));
     assert_eq!(rounded(8, 23, 0, 0, 0, 1 << 63), Err(6));
+    assert!(rounded(11, 51, 0, 0, u64::MAX >> 1, 0).is_ok());
+    assert_eq!(rounded(11, 51, 0, 0, 1 << 63, 0), Err(6));
+    assert_eq!(rounded(10, 52, 0, 0, 0, u64::MAX), Err(6));
+    // A word of double precision has all the bits that can be given.
+    assert!(rounded(11, 52, 0, 0, u64::MAX, 1 << 63).is_ok());
     // Too wide is never cut: these would be good numbers with their low bytes alone.
     assert_eq!(rounded(0x103, 4, 0, 0, 0, 0), Err(1));
     assert_eq!(rounded(3, 0x1_0000_0004, 0, 0, 0, 0), Err(2));
@@ -99,22 +104,29 @@ fn generator_and_confirmation() {
     }
 }
 
+/// What conditions are refused with where one of the four masks fixes one bit.
+fn with_one_bit((w, f): (u64, u64), place: usize, bit: u64) -> Option<Refusal> {
+    let mut c = Conditions::free(w, f, 0, 0);
+    let care = 1 << bit;
+    *[&mut c.a, &mut c.b, &mut c.c, &mut c.carries][place] = Mask { care, value: 0 };
+    c.check().err()
+}
+
 /// Each of the four masks is held against its own width.
 #[test]
 fn masks_by_their_width() {
-    let wide = |bit: u32| Mask {
-        care: 1 << bit,
-        value: 0,
-    };
-    let answer = |place: usize, bit: u32| {
-        let mut c = Conditions::free(3, 4, 0, 0);
-        *[&mut c.a, &mut c.b, &mut c.c, &mut c.carries][place] = wide(bit);
-        c.check().err()
-    };
-    for place in 0..3 {
-        assert_eq!([answer(place, 7), answer(place, 8)], [None, Some(5)]);
+    for format in [(3, 4), (8, 23), (8, 24), (11, 51), (11, 52)] {
+        let (w, f) = format;
+        for place in 0..3 {
+            assert_eq!(with_one_bit(format, place, w + f), None);
+            // Nothing stands above 64 bits.
+            for bit in w + f + 1..64 {
+                assert_eq!(with_one_bit(format, place, bit), Some(5));
+            }
+        }
+        assert_eq!(with_one_bit(format, 3, f), None);
+        assert_eq!(with_one_bit(format, 3, f + 1), Some(5));
     }
-    assert_eq!([answer(3, 4), answer(3, 5)], [None, Some(5)]);
 }
 
 #[test]
@@ -162,41 +174,61 @@ fn whole_number_widths() {
     }
 }
 
+/// The causes of refusal in reading, in their order.
+const READING: [Refusal; 9] = [9, 8, 1, 2, 3, 4, 5, 6, 10];
+
 /// A record with the masks of a and b, the mode and the random words, and exactly these
-/// causes of refusal.
-fn record(causes: &[Refusal]) -> Vec<u8> {
-    let mut bytes = vec![pick(causes, 9, 0x33, 0x73)];
-    bytes.push(pick(causes, 1, 3, 1));
-    bytes.push(pick(causes, 2, 4, 24));
-    bytes.push(pick(causes, 3, 1, 2));
-    bytes.extend(pick(causes, 5, [1, 0, 0, 0], [0; 4]));
-    bytes.extend([1, 0, 0, 0]);
-    bytes.extend(pick(causes, 10, [2, 0, 0, 0], [0; 4]));
-    bytes.extend([0; 4]);
+/// causes of refusal; `w` and `f` are out of their limits and stand where 1 and 2 are causes. Its
+/// words are as long as the header's w and f say, good or not.
+fn record(causes: &[Refusal], w: u8, f: u8) -> Vec<u8> {
+    let map = pick(causes, 9, 0x33, 0x73);
+    let [w, f] = [pick(causes, 1, 3, w), pick(causes, 2, 4, f)];
+    let between = match u32::from(w) + u32::from(f) + 1 {
+        ..=32 => vec![0; 2],
+        _ => vec![0; 6],
+    };
+    let word = |low: u8, top: u8| [&[low], &between[..], &[top]].concat();
+    let mut bytes = vec![map, w, f, pick(causes, 3, 1, 2)];
+    bytes.extend(word(pick(causes, 5, 1, 0), 0));
+    bytes.extend(word(1, 0));
+    bytes.extend(word(pick(causes, 10, 2, 0), 0));
+    bytes.extend(word(0, 0));
     bytes.push(pick(causes, 4, 3, 200));
-    bytes.extend([0; 4]);
-    bytes.extend(pick(causes, 6, [1, 0, 0, 0], [0, 0, 0, 0x80]));
+    bytes.extend(word(0, 0));
+    bytes.extend(pick(causes, 6, word(1, 0), word(0, 0x80)));
     if causes.contains(&8) {
         bytes.pop();
     }
     bytes
 }
 
+fn read_with(causes: &[Refusal], w: u8, f: u8) {
+    let file = record(causes, w, f);
+    let (reply, rest) = read(&file);
+    match causes.first() {
+        Some(&number) => {
+            assert_eq!(reply, Reply::Refused(number), "{file:02x?}");
+            assert_eq!(rest, &file[..]);
+        }
+        None => {
+            assert!(matches!(reply, Reply::Job(_)));
+            assert!(rest.is_empty());
+        }
+    }
+}
+
+/// Among the bad w and f are such that with the other one, good or bad, lie just below or just
+/// above the border between words of four and of eight bytes.
 #[test]
 fn reading() {
-    for set in subsets(&[9, 8, 1, 2, 3, 4, 5, 6, 10]) {
-        let file = record(&set);
-        let (reply, rest) = read(&file);
-        match set.first() {
-            Some(&number) => {
-                assert_eq!(reply, Reply::Refused(number));
-                assert_eq!(rest, &file[..]);
-            }
-            None => {
-                assert!(matches!(reply, Reply::Job(_)));
-                assert!(rest.is_empty());
+    for set in subsets(&READING) {
+        for w in [0, 1, 12, 27, 28, 255] {
+            for f in [0, 1, 53, 255] {
+                read_with(&set, w, f);
             }
         }
+        read_with(&set, 30, 1);
+        read_with(&set, 31, 1);
     }
 }
 

@@ -4,7 +4,7 @@
 use second::arith::{every_setting, Adder};
 use second::choice::Job;
 use second::fits::Conditions;
-use second::format::NO_CASE;
+use second::format::{every_format, NO_CASE};
 use second::mask::Mask;
 use second::random::Random;
 use second::sample::pair;
@@ -70,11 +70,10 @@ fn small_formats_by_all_pairs() {
 #[test]
 fn all_formats_by_sampled_pairs() {
     let mut random = Random::new(0x5161);
-    let formats = (2..=8).flat_map(|w| (2..=23).map(move |f| (w, f)));
-    for adder in formats.flat_map(adders) {
+    for adder in every_format().flat_map(adders) {
         let sign = adder.format.sign_bit();
         let plus = adder.operation.effective(adder.format, 0);
-        for _ in 0..1000 {
+        for _ in 0..300 {
             let (a, b) = pair(&mut random, adder.format);
             let c = adder.result(a % sign, b % sign + plus);
             assert_eq!(c & sign, 0, "{adder:?} {a:x} {b:x}");

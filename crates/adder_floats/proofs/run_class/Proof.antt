@@ -5,10 +5,13 @@ use Rattle.adder_floats.proofs.run_class.Statement.{statement}
 use Rattle.adder_floats.proofs.run_class.Tie as tie
 
 abbrev Inv-loop : tie.InvT-loop
-Inv-loop class state run₀ i₀ run i = i ≤ 16384
+Inv-loop precision class state run₀ i₀ run i = i ≤ 16384
 
 abbrev μ-loop : tie.MeasureT-loop
-μ-loop class state run₀ i₀ run i = 16384 - i
+μ-loop precision class state run₀ i₀ run i = 16384 - i
+
+start-requires : tie.Need-start-requires Inv-loop μ-loop
+start-requires c κs = search needs
 
 loop-holds : tie.Need-loop-holds Inv-loop μ-loop
 loop-holds c = search needs
@@ -31,4 +34,4 @@ returns c = search needs
 pub run-class-spec : {M : Type 1} → statement M
 run-class-spec =
     tie.close
-    (tie.spec Inv-loop μ-loop loop-holds one-more-requires add-i loop-less loop-again returns)
+    (tie.spec Inv-loop μ-loop start-requires loop-holds one-more-requires add-i loop-less loop-again returns)

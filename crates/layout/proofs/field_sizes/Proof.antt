@@ -7,7 +7,7 @@ use mathlib.Core.List.{List, _++_}
 use lib.ListN.{length, take, drop, set, length-set}
 use Rattle.bits.specs.Bit.{bit}
 use Rattle.layout.specs.Layout.{sizes}
-use Rattle.layout.specs.Fields.{wordBytes, numberCount}
+use Rattle.layout.specs.Fields.{numberCount}
 use Rattle.layout.specs.declared.Slot.{Slot}
 use Rattle.numbers.proofs.BySizes.{drop-all, placed-all}
 use Rattle.layout.proofs.ByMap.{sizes-turn}
@@ -16,10 +16,10 @@ use Rattle.layout.proofs.field_sizes.Statement.{statement}
 use Rattle.layout.proofs.field_sizes.Tie as tie
 
 abbrev Inv-loop : tie.InvT-loop
-Inv-loop map slots counts₀ i₀ counts i = (i ≤ numberCount) × (length counts ≡ numberCount) × (take i counts ++ sizes (drop i slots) map ≡ sizes slots map)
+Inv-loop word map slots counts₀ i₀ counts i = (i ≤ numberCount) × (length counts ≡ numberCount) × (take i counts ++ sizes (drop i slots) map ≡ sizes slots map)
 
 abbrev μ-loop : tie.MeasureT-loop
-μ-loop map slots counts₀ i₀ counts i = numberCount - i
+μ-loop word map slots counts₀ i₀ counts i = numberCount - i
 
 layout-requires : tie.Need-layout-requires Inv-loop μ-loop
 layout-requires c κs = search needs
@@ -49,7 +49,7 @@ loop-less : tie.Need-loop-less Inv-loop μ-loop
 loop-less c = omega arith
 
 rows : (c : tie.After-layout Inv-loop μ-loop) → length (c .layout .result) ≡ numberCount
-rows c = ap length (c .layout .ensures) ∙ layout-length wordBytes
+rows c = ap length (c .layout .ensures) ∙ layout-length (c .before .args .word)
 
 loop-again : tie.Need-loop-again Inv-loop μ-loop
 loop-again c =

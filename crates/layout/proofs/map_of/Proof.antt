@@ -8,7 +8,7 @@ use lib.ListN.{length, getD, drop}
 use lib.Bits.{bitOr}
 use Rattle.bits.proofs.Laws.{one-shl}
 use Rattle.layout.specs.Layout.{mapOf}
-use Rattle.layout.specs.Fields.{wordBytes, fieldCount, numberCount}
+use Rattle.layout.specs.Fields.{fieldCount, numberCount}
 use Rattle.layout.specs.declared.Slot.{Slot}
 use Rattle.numbers.proofs.BySizes.{drop-all}
 use Rattle.layout.proofs.ByMap.{mapBits, allBelow, field-below, map-same, map-set}
@@ -18,30 +18,30 @@ use Rattle.layout.proofs.map_of.Statement.{statement}
 use Rattle.layout.proofs.map_of.Tie as tie
 
 abbrev Inv-loop : tie.InvT-loop
-Inv-loop numbers slots map₀ i₀ map i = (i ≤ numberCount) × (map ≡ mapOf (drop i slots) (drop i numbers))
+Inv-loop word numbers slots map₀ i₀ map i = (i ≤ numberCount) × (map ≡ mapOf (drop i slots) (drop i numbers))
 
 abbrev μ-loop : tie.MeasureT-loop
-μ-loop numbers slots map₀ i₀ map i = i
+μ-loop word numbers slots map₀ i₀ map i = i
 
 layout-requires : tie.Need-layout-requires Inv-loop μ-loop
 layout-requires c κs = search needs
 
 rows : (c : tie.After-layout Inv-loop μ-loop) → length (c .layout .result) ≡ numberCount
-rows c = ap length (c .layout .ensures) ∙ layout-length wordBytes
+rows c = ap length (c .layout .ensures) ∙ layout-length (c .before .args .word)
 
 -- the map bit of a number lies in the map
 field-lt : (c : tie.After-layout Inv-loop μ-loop) (i : ℕ) → getD (c .layout .result) i (record { bit = 0; size = 0 }) .bit < 64
 field-lt c i =
     lt-of-lt-of-le
     (field-below fieldCount (c .layout .result) (record { bit = 0; size = 0 })
-    (ap (λ (ps : List Slot). allBelow fieldCount (mapBits ps)) (c .layout .ensures) ∙ layout-bits wordBytes) (omega arith) i)
+    (ap (λ (ps : List Slot). allBelow fieldCount (mapBits ps)) (c .layout .ensures) ∙ layout-bits (c .before .args .word)) (omega arith) i)
     (omega arith)
 
 loop-holds : tie.Need-loop-holds Inv-loop μ-loop
 unfolding mapOf
 loop-holds c =
     let none = drop-all (c .layout .result) numberCount (omega (arith, rows c)) in
-    (omega arith, sym (ap (λ (ps : List Slot). mapOf ps (drop numberCount (c .before .args .t1))) none))
+    (omega arith, sym (ap (λ (ps : List Slot). mapOf ps (drop numberCount (c .before .args .t2))) none))
 
 sub-i : tie.Need-sub-i Inv-loop μ-loop
 sub-i c = omega arith
@@ -66,11 +66,11 @@ loop-less c = omega arith
 
 -- the number before those passed, whether it is 0 or not
 passed : (c : tie.In-loop Inv-loop μ-loop) → c .before .loop .map
-    ≡ mapOf (drop (c .before .loop .i - 1 + 1) (c .before .before .layout .result)) (drop (c .before .loop .i - 1 + 1) (c .before .before .before .args .t1))
+    ≡ mapOf (drop (c .before .loop .i - 1 + 1) (c .before .before .layout .result)) (drop (c .before .loop .i - 1 + 1) (c .before .before .before .args .t2))
 passed c =
     let l = c .before in
     let back : l .loop .i ≡ l .loop .i - 1 + 1 = omega arith in
-    l .loop .inv .1 ∙ ap (λ (i : ℕ). mapOf (drop i (l .before .layout .result)) (drop i (l .before .before .args .t1))) back
+    l .loop .inv .1 ∙ ap (λ (i : ℕ). mapOf (drop i (l .before .layout .result)) (drop i (l .before .before .args .t2))) back
 
 loop-again : tie.Need-loop-again Inv-loop μ-loop
 loop-again c =
@@ -81,7 +81,7 @@ loop-again c =
     let d : Slot = record { bit = 0; size = 0 } in (
       omega arith,
       ap₂ bitOr (passed n) (one-shl (getD slots i d .bit) (field-lt (l .before) i))
-          ∙ map-set slots i d (omega (arith, rows (l .before))) (l .before .before .args .t1) (omega arith) (c .before .if1 .taken),
+          ∙ map-set slots i d (omega (arith, rows (l .before))) (l .before .before .args .t2) (omega arith) (c .before .if1 .taken),
     )
 
 loop-less-2 : tie.Need-loop-less-2 Inv-loop μ-loop
@@ -93,14 +93,14 @@ loop-again-2 c =
     let l = n .before in
     let slots : List Slot = l .before .layout .result in
     let d : Slot = record { bit = 0; size = 0 } in
-    (omega arith, passed n ∙ map-same slots (l .loop .i - 1) d (omega (arith, rows (l .before))) (l .before .before .args .t1) (omega arith) (c .if1 .left))
+    (omega arith, passed n ∙ map-same slots (l .loop .i - 1) d (omega (arith, rows (l .before))) (l .before .before .args .t2) (omega arith) (c .if1 .left))
 
 returns : tie.Need-returns Inv-loop μ-loop
 returns c =
     let l = c .before in
     let done : l .loop .i ≡ 0 = omega arith in
     l .loop .inv .1
-    ∙ ap₂ (λ (i : ℕ) (ps : List Slot). mapOf (drop i ps) (drop i (l .before .before .args .t1))) done (l .before .layout .ensures)
+    ∙ ap₂ (λ (i : ℕ) (ps : List Slot). mapOf (drop i ps) (drop i (l .before .before .args .t2))) done (l .before .layout .ensures)
 
 pub map-of-spec : {M : Type 1} → statement M
 map-of-spec =

@@ -8,7 +8,7 @@ use lib.ListN.{length, take, drop, length-drop}
 use lib.Seq.{take-all}
 use denote.Ref.{now}
 use Rattle.numbers.specs.Numbers.{numbers}
-use Rattle.layout.specs.Fields.{fieldSizes, entryWith}
+use Rattle.layout.specs.Fields.{wordBytes, fieldSizes, entryWith}
 use Rattle.records.specs.Record.{headerBytes, recordLength, entryIn}
 use borrow.Author.Needs.{needs}
 use Rattle.records.proofs.entry_in.Statement.{statement}
@@ -25,20 +25,6 @@ shared-slice-read-wide c = omega arith
 wide-requires : tie.Need-wide-requires
 wide-requires c κs = search needs
 
-shared-slice-read-wide-2 : tie.Need-shared-slice-read-wide-2
-unfolding recordLength
-shared-slice-read-wide-2 c = omega arith
-
-wide-requires-2 : tie.Need-wide-requires-2
-wide-requires-2 c κs = search needs
-
-shared-slice-read-wide-3 : tie.Need-shared-slice-read-wide-3
-unfolding recordLength
-shared-slice-read-wide-3 c = omega arith
-
-wide-requires-3 : tie.Need-wide-requires-3
-wide-requires-3 c κs = search needs
-
 sub-decode : tie.Need-sub-decode
 unfolding recordLength
 sub-decode c = omega arith
@@ -53,18 +39,18 @@ part-decode-end c = search needs
 decode-requires : tie.Need-decode-requires
 unfolding recordLength
 decode-requires c κs =
-    let k = c .before .before .before .before .before .before .before .before in
+    let k = c .before .before .before .before in
     let s : List ℕ = now (k .args .s) in
-    omega (arith, ap length (tail-part s), length-drop headerBytes s, k .pre .1)
+    omega (arith, ap length (tail-part s), length-drop headerBytes s, k .pre .2)
 
 returns : tie.Need-returns
 unfolding entryIn
 returns c =
-    let k = c .before .before .before .before .before .before .before .before .before in
+    let k = c .before .before .before .before .before in
     let s : List ℕ = now (k .args .s) in
+    let word : ℕ = wordBytes (k .args .format) in
     c .decode .ensures
-    ∙ λ i. entryWith (record { w = c .before .before .before .before .before .before .wide .ensures i; f = c .before .before .before .before .wide2 .ensures i })
-    (c .before .before .wide3 .ensures i) (numbers (fieldSizes (sym (k .pre .0) i)) (tail-part s i))
+    ∙ λ i. entryWith (sym (k .pre .1) i) (c .before .before .wide .ensures i) (numbers (fieldSizes word (sym (k .pre .0) i)) (tail-part s i))
 
 pub entry-in-spec : {M : Type 1} → statement M
 entry-in-spec =
@@ -72,10 +58,6 @@ entry-in-spec =
     (tie.spec
     shared-slice-read-wide
     wide-requires
-    shared-slice-read-wide-2
-    wide-requires-2
-    shared-slice-read-wide-3
-    wide-requires-3
     sub-decode
     part-decode-start
     part-decode-end

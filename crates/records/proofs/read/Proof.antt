@@ -9,10 +9,11 @@ use lib.Dec.{eqb, ltb, leb}
 use denote.Ref.{now}
 use Rattle.format.specs.Cause as cause
 use Rattle.format.specs.Cause.{first, unless}
-use Rattle.layout.specs.Fields.{fieldCount, entryMap}
-use Rattle.records.specs.Record.{recordCause, recordLength, entryIn, readReply}
+use Rattle.format.specs.declared.Format.{Format}
+use Rattle.layout.specs.Fields.{wordBytes, fieldCount, entryMap}
+use Rattle.records.specs.Record.{recordCause, recordLength, entryIn, readReply, firstIn}
 use Rattle.records.specs.declared.First.the-variants as found
-use Rattle.records.proofs.Causes.{first-none-left, earlyCause, first-early, first-late, early-none}
+use Rattle.records.proofs.Causes.{wordIn, first-none-left, earlyCause, early-with, late-with, early-none}
 use Rattle.records.proofs.RoundTrip.{entry-default}
 use borrow.Author.Needs.{needs}
 use Rattle.records.proofs.read.Statement.{statement}
@@ -27,6 +28,9 @@ shared-slice-read-wide c = search needs
 wide-requires : tie.Need-wide-requires
 wide-requires c κs = search needs
 
+format-in-requires : tie.Need-format-in-requires
+format-in-requires c κs = search needs
+
 record-length-requires : tie.Need-record-length-requires
 record-length-requires c κs = search needs
 
@@ -40,49 +44,55 @@ first-requires : tie.Need-first-requires
 first-requires c κs = search needs
 
 -- the length and the early cause that were computed
-count : (c : tie.After-record-length) → c .record-length .result ≡ recordLength (getD (now (c .before .before .before .before .before .args .s)) 0 0)
-count c = c .record-length .ensures ∙ ap recordLength (c .before .wide .ensures)
+count : (c : tie.After-record-length) → c .record-length .result
+    ≡ recordLength (wordIn (now (c .before .before .before .before .before .before .args .s))) (getD (now (c .before .before .before .before .before .before .args .s)) 0 0)
+count c =
+    c .record-length .ensures ∙ ap₂ (λ (F : Format) (m : ℕ). recordLength (wordBytes F) m) (c .before .format-in .ensures) (c .before .before .wide .ensures)
 
-early : (c : tie.After-first) → c .first .result ≡ earlyCause (now (c .before .before .before .before .before .before .before .before .args .s))
+early : (c : tie.After-first) → c .first .result
+    ≡ earlyCause fieldCount (wordIn (now (c .before .before .before .before .before .before .before .before .before .args .s))) (now (c .before .before .before .before .before .before .before .before .before .args .s))
 early c =
     let p = c .before .before .before in
-    let s : List ℕ = now (p .before .before .before .before .before .args .s) in
+    let s : List ℕ = now (p .before .before .before .before .before .before .args .s) in
     c .first .ensures
     ∙ ap₂ first
-    (c .before .before .unless .ensures ∙ ap (λ (m : ℕ). unless (ltb m (2 ^ fieldCount)) cause.mapBits) (p .before .wide .ensures))
+    (c .before .before .unless .ensures ∙ ap (λ (m : ℕ). unless (ltb m (2 ^ fieldCount)) cause.mapBits) (p .before .before .wide .ensures))
     (c .before .unless2 .ensures ∙ ap (λ (n : ℕ). unless (leb n (length s)) cause.cut) (count p))
 
 -- no early cause
-late : (c : tie.Else2) → earlyCause (now (c .before .before .before .before .before .before .before .before .before .args .s)) ≡ 0
+late : (c : tie.Else2) → earlyCause fieldCount (wordIn (now (c .before .before .before .before .before .before .before .before .before .before .args .s))) (now (c .before .before .before .before .before .before .before .before .before .before .args .s)) ≡ 0
 late c = sym (early (c .before)) ∙ le-zero (c .if2 .left)
 
 returns-2 : tie.Need-returns-2
+unfolding firstIn
 returns-2 c =
     let f = c .before in
-    let u = f .before .before .before .before .before .before in
+    let u = f .before .before .before .before .before .before .before in
     let s : List ℕ = now (u .before .before .args .s) in
-    ap found.Refused (early f) ∙ sym (first-early s (u .if1 .left) (λ e. omega (arith, early f, e, c .if2 .taken)))
+    ap found.Refused (early f) ∙ sym (early-with fieldCount (wordIn s) s (u .if1 .left) (λ e. omega (arith, early f, e, c .if2 .taken)))
 
 entry-in-requires : tie.Need-entry-in-requires
 entry-in-requires c κs =
     let p = c .before .before .before .before in
-    let s : List ℕ = now (p .before .before .before .before .before .args .s) in
-    let e : p .before .wide .result ≡ getD s 0 0 = p .before .wide .ensures in
-    (sym e, rw e (early-none s (late c) .1))
+    let s : List ℕ = now (p .before .before .before .before .before .before .args .s) in
+    let whole = early-none fieldCount (wordIn s) s (late c) .1 in
+    (sym (p .before .before .wide .ensures), sym (p .before .format-in .ensures), rw (p .before .format-in .ensures, p .before .before .wide .ensures) whole)
 
 read-reply-requires : tie.Need-read-reply-requires
 read-reply-requires c κs = search needs
 
 returns-3 : tie.Need-returns-3
+unfolding firstIn
 returns-3 c =
     let l = c .before .before in
     let p = l .before .before .before .before in
-    let w = p .before in
+    let w = p .before .before in
     let s : List ℕ = now (w .before .before .before .before .args .s) in
+    let entry = c .before .entry-in .ensures ∙ ap (λ (F : Format). entryIn (wordBytes F) s) (p .before .format-in .ensures) in
     c .read-reply .ensures
-    ∙ (λ i. let e = c .before .entry-in .ensures i in readReply (first (recordCause e) (unless (eqb (entryMap e) (w .wide .ensures i)) cause.defaultField)) e (count p i))
-    ∙ ap (λ (k : ℕ). readReply k (entryIn s) (recordLength (getD s 0 0))) (entry-default s (early-none s (late l) .0))
-    ∙ sym (first-late s (w .before .before .if1 .left) (late l))
+    ∙ (λ i. let e = entry i in readReply (first (recordCause e) (unless (eqb (entryMap e) (w .wide .ensures i)) cause.defaultField)) e (count p i))
+    ∙ ap (λ (k : ℕ). readReply k (entryIn (wordIn s) s) (recordLength (wordIn s) (getD s 0 0))) (entry-default s (early-none fieldCount (wordIn s) s (late l) .0))
+    ∙ sym (late-with fieldCount (wordIn s) s (w .before .before .if1 .left) (late l))
 
 pub read-spec : {M : Type 1} → statement M
 read-spec =
@@ -91,6 +101,7 @@ read-spec =
     returns
     shared-slice-read-wide
     wide-requires
+    format-in-requires
     record-length-requires
     unless-requires
     unless-requires-2

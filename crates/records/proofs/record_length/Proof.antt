@@ -1,13 +1,17 @@
 -- `records::record_length` meets its contract. Assumes nothing.
 use mathlib.Core.Path.{_≡_, ap, _∙_}
-use Prim.Native.Nat.{ℕ, _+_}
+use Prim.Native.Nat.{ℕ, _+_, _≤_}
 use native.Mathlib.Omega.{arith}
 use Rattle.numbers.specs.Numbers.{total}
+use Rattle.layout.specs.Fields.{wordBytes, fieldSizes}
 use Rattle.records.specs.Record.{headerBytes, recordLength}
 use Rattle.layout.proofs.JobLayout.{total-most}
 use borrow.Author.Needs.{needs}
 use Rattle.records.proofs.record_length.Statement.{statement}
 use Rattle.records.proofs.record_length.Tie as tie
+
+word-bytes-requires : tie.Need-word-bytes-requires
+word-bytes-requires c κs = search needs
 
 field-sizes-requires : tie.Need-field-sizes-requires
 field-sizes-requires c κs = search needs
@@ -15,21 +19,24 @@ field-sizes-requires c κs = search needs
 slice-aggregate-total : tie.Need-slice-aggregate-total
 slice-aggregate-total c = search needs
 
-total-requires : tie.Need-total-requires
-total-requires c κs = omega (arith, ap total (c .before .field-sizes .ensures), total-most (c .before .before .args .map))
+-- the byte counts that were computed, and how many bytes they are at most
+sizes-are : (c : tie.After-field-sizes) → c .field-sizes .result ≡ fieldSizes (wordBytes (c .before .before .args .format)) (c .before .before .args .map)
+sizes-are c = c .field-sizes .ensures ∙ ap (λ (k : ℕ). fieldSizes k (c .before .before .args .map)) (c .before .word-bytes .ensures)
 
--- the length that was computed
-long : (c : tie.After-total) → headerBytes + c .total .result ≡ recordLength (c .before .before .before .args .map)
-unfolding recordLength
-long c = ap (λ (n : ℕ). headerBytes + n) (c .total .ensures ∙ ap total (c .before .before .field-sizes .ensures))
+most : (c : tie.After-field-sizes) → total (c .field-sizes .result) ≤ 81
+most c = omega (arith, ap total (sizes-are c), total-most (c .before .before .args .format) (c .before .before .args .map))
+
+total-requires : tie.Need-total-requires
+total-requires c κs = omega (arith, most (c .before))
 
 add-result : tie.Need-add-result
-add-result c = omega (arith, ap total (c .before .before .field-sizes .ensures), total-most (c .before .before .before .args .map), c .total .ensures)
+add-result c = omega (arith, most (c .before .before), c .total .ensures)
 
 returns : tie.Need-returns
-returns c = long c
+unfolding recordLength
+returns c = ap (λ (n : ℕ). headerBytes + n) (c .total .ensures ∙ ap total (sizes-are (c .before .before)))
 
 pub record-length-spec : {M : Type 1} → statement M
 record-length-spec =
     tie.close
-    (tie.spec field-sizes-requires slice-aggregate-total total-requires add-result returns)
+    (tie.spec word-bytes-requires field-sizes-requires slice-aggregate-total total-requires add-result returns)

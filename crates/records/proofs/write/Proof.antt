@@ -5,6 +5,7 @@ use native.Mathlib.Omega.{arith}
 use mathlib.Core.List.{List}
 use lib.ListN.{length}
 use denote.Ref.{now}
+use Rattle.layout.specs.Fields.{entryWord}
 use Rattle.records.specs.Record.{recordCause, recordBytes, recordLength}
 use Rattle.records.specs.declared.Writing.the-variants as reply
 use Rattle.records.proofs.Causes.{record-length}
@@ -38,7 +39,7 @@ sound c = omega (arith, c .before .entry-cause .ensures, c .if1 .left)
 count : (c : tie.After-record-length) → c .record-length .result ≡ length (recordBytes (c .before .before .before .before .before .args .entry))
 count c =
     let e = c .before .before .before .before .before .args .entry in
-    c .record-length .ensures ∙ ap recordLength (c .before .entry-map .ensures) ∙ record-length e (sound (c .before .before))
+    c .record-length .ensures ∙ ap (recordLength (entryWord e)) (c .before .entry-map .ensures) ∙ record-length e (sound (c .before .before))
 
 returns-2 : tie.Need-returns-2
 returns-2 c =

@@ -17,7 +17,7 @@ use second::fits::Case;
 use second::format::Refusal;
 use second::listing::{listing, LONGEST_FILE};
 use second::random::{seed, Random};
-use second::sample::{job, numbers};
+use second::sample::{all_but_few, job, numbers};
 
 const SEED: u64 = 0xF022;
 /// The most free bits of a and b for which the second implementation answers.
@@ -68,11 +68,11 @@ fn easy_file(random: &mut Random) -> Vec<u8> {
     let mut file = Vec::new();
     for _ in 0..random.below(12) {
         let mut numbers = numbers(random);
-        let mut care = 7;
+        let mut care = all_but_few(numbers);
         if random.one_in(2) {
             numbers[0] = 2 + random.below(2);
             numbers[1] = 2 + random.below(2);
-            care = random.below(8);
+            care = 8 * random.below(8);
         }
         file.extend(record(&job(random, numbers, care)));
     }
@@ -82,7 +82,7 @@ fn easy_file(random: &mut Random) -> Vec<u8> {
 /// A file about as long as the longest: a job many times, cut at the limit or a few bytes off.
 fn long_file(random: &mut Random) -> Vec<u8> {
     let numbers = numbers(random);
-    let record = record(&job(random, numbers, 8));
+    let record = record(&job(random, numbers, 64));
     let length = LONGEST_FILE + random.below(5) as usize - 2;
     record.into_iter().cycle().take(length).collect()
 }

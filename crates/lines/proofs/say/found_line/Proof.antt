@@ -26,26 +26,34 @@ with-word-requires c κs = search needs
 found-most : (c : tie.After-with-text) → c .with-text .result .len ≤ 26
 found-most c = let d = c .before .before in omega (arith, c .with-text .ensures .len, d .with-decimal .ensures .1, d .before .empty .ensures .len)
 
-a-most : (c : tie.After-with-word) → c .with-word .result .len ≤ 35
-a-most c = omega (arith, c .with-word .ensures .len, length-word (c .before .before .before .before .before .args .x .a), found-most (c .before))
+a-most : (c : tie.After-with-word) → c .with-word .result .len ≤ 43
+a-most c =
+    let s = c .before .before .before .before .before in
+    omega (arith, c .with-word .ensures .len, length-word (s .args .k) (s .args .x .a), s .pre, found-most (c .before))
 
-b-most : (c : tie.After-with-word2) → c .with-word2 .result .len ≤ 44
-b-most c = omega (arith, c .with-word2 .ensures .len, length-word (c .before .before .before .before .before .before .args .x .b), a-most (c .before))
+b-most : (c : tie.After-with-word2) → c .with-word2 .result .len ≤ 60
+b-most c =
+    let s = c .before .before .before .before .before .before in
+    omega (arith, c .with-word2 .ensures .len, length-word (s .args .k) (s .args .x .b), s .pre, a-most (c .before))
 
-c-most : (c : tie.After-with-word3) → c .with-word3 .result .len ≤ 53
-c-most c = omega (arith, c .with-word3 .ensures .len, length-word (c .before .before .before .before .before .before .before .args .x .c), b-most (c .before))
+c-most : (c : tie.After-with-word3) → c .with-word3 .result .len ≤ 77
+c-most c =
+    let s = c .before .before .before .before .before .before .before in
+    omega (arith, c .with-word3 .ensures .len, length-word (s .args .k) (s .args .x .c), s .pre, b-most (c .before))
 
-row-end : (c : tie.After-with-row) → c .with-row .result .len ≤ 62
-row-end c = omega (arith, c .with-row .ensures .len, row-most (c .before .before .before .before .before .before .before .before .args .x .row), c-most (c .before))
+row-end : (c : tie.After-with-row) → c .with-row .result .len ≤ 94
+row-end c =
+    let s = c .before .before .before .before .before .before .before .before in
+    omega (arith, c .with-row .ensures .len, row-most (s .args .k) (s .args .x .row) (s .pre), c-most (c .before))
 
 with-word-requires-2 : tie.Need-with-word-requires-2
-with-word-requires-2 c κs = record { whole = c .with-word .ensures .whole; enough = omega (arith, a-most c) }
+with-word-requires-2 c κs = (c .before .before .before .before .before .pre, record { whole = c .with-word .ensures .whole; enough = omega (arith, a-most c) })
 
 with-word-requires-3 : tie.Need-with-word-requires-3
-with-word-requires-3 c κs = record { whole = c .with-word2 .ensures .whole; enough = omega (arith, b-most c) }
+with-word-requires-3 c κs = (c .before .before .before .before .before .before .pre, record { whole = c .with-word2 .ensures .whole; enough = omega (arith, b-most c) })
 
 with-row-requires : tie.Need-with-row-requires
-with-row-requires c κs = record { whole = c .with-word3 .ensures .whole; enough = omega (arith, c-most c) }
+with-row-requires c κs = (c .before .before .before .before .before .before .before .pre, record { whole = c .with-word3 .ensures .whole; enough = omega (arith, c-most c) })
 
 slice-aggregate-with-text-2 : tie.Need-slice-aggregate-with-text-2
 slice-aggregate-with-text-2 c = search needs

@@ -1,6 +1,7 @@
 -- `lines::say::with_row` meets its contract. Assumes nothing.
 use Rattle.adder.specs.declared.Row.{Row}
 use mathlib.Core.Path.{sym, subst}
+use Prim.Native.Nat.{ℕ}
 use Rattle.lines.specs.Text.{rowText, Grown}
 use borrow.Author.Needs.{needs}
 use Rattle.lines.proofs.say.with_row.Statement.{statement}
@@ -25,13 +26,15 @@ returns : tie.Need-returns
 unfolding rowText
 returns c =
     let line = c .before .before .before .before .args .line in
-    subst (λ (row : Row). Grown line (c .with-word .result) (rowText row)) (sym (c .before .before .row .given .1)) (c .with-word .ensures)
+    let k : ℕ = c .before .before .before .before .args .k in
+    subst (λ (row : Row). Grown line (c .with-word .result) (rowText k row)) (sym (c .before .before .row .given .1)) (c .with-word .ensures)
 
 returns-2 : tie.Need-returns-2
 unfolding rowText
 returns-2 c =
     let line = c .before .before .before .before .args .line in
-    subst (λ (row : Row). Grown line (c .with-text .result) (rowText row)) (sym (c .before .before .enum-told .given .1)) (c .with-text .ensures)
+    let k : ℕ = c .before .before .before .before .args .k in
+    subst (λ (row : Row). Grown line (c .with-text .result) (rowText k row)) (sym (c .before .before .enum-told .given .1)) (c .with-text .ensures)
 
 pub with-row-spec : {M : Type 1} → statement M
 with-row-spec =

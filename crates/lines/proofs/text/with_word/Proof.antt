@@ -6,10 +6,10 @@ use Rattle.lines.proofs.text.with_word.Statement.{statement}
 use Rattle.lines.proofs.text.with_word.Tie as tie
 
 with-byte-requires : tie.Need-with-byte-requires
-with-byte-requires c κs = record { whole = c .pre .whole; enough = omega (arith, c .pre .enough) }
+with-byte-requires c κs = record { whole = c .pre .1 .whole; enough = omega (arith, c .pre .1 .enough) }
 
 with-digits-requires : tie.Need-with-digits-requires
-with-digits-requires c κs = (omega arith, omega arith, room-left 8 9 (c .before .pre) (c .with-byte .ensures) (omega arith))
+with-digits-requires c κs = (omega arith, omega arith, room-left (c .before .args .k) 17 (c .before .pre .1) (c .with-byte .ensures) (omega (arith, c .before .pre .0)))
 
 returns : tie.Need-returns
 unfolding word
