@@ -139,12 +139,12 @@ pub(crate) fn impossible_signs(count: Count) -> Count {
 // Double precision, 1 plus a half of its last place: a tie, which goes to 1 in mode 0 and to the next number in mode 4; c fixed to that
 // number has no case in mode 0.
 pub(crate) fn double_tie(count: Count) -> Count {
-    let all = mask(0xFFFFFFFFFFFFFFFF, 0x3FF0000000000000);
+    let unity = mask(0xFFFFFFFFFFFFFFFF, 0x3FF0000000000000);
     let half = mask(0xFFFFFFFFFFFFFFFF, 0x3CA0000000000000);
     let next = mask(0xFFFFFFFFFFFFFFFF, 0x3FF0000000000001);
-    let even = masked_job(adding(11, 52, 0), all, half, free(), free());
-    let away = masked_job(adding(11, 52, 4), all, half, next, free());
-    let none = masked_job(adding(11, 52, 0), all, half, next, free());
+    let even = masked_job(adding(11, 52, 0), unity, half, free(), free());
+    let away = masked_job(adding(11, 52, 4), unity, half, next, free());
+    let none = masked_job(adding(11, 52, 0), unity, half, next, free());
     let one = asked(
         count,
         even,

@@ -31,8 +31,8 @@ one i k = record { bit = i; size = k } ∷ []
 abbrev pub two : ℕ → ℕ → List Slot
 two i k = one i k ++ one i k
 
--- with words of `word` bytes: "bits 0 to 3 the masks of a, b, c and carries, bit 4 the mode, bit 5 the random words"; a mask and the random words are two words each,
--- "The mode is one byte"
+-- "bits 0 to 3 the masks of a, b, c and carries, bit 4 the mode, bit 5 the random words"; a mask and the random words are two words each, of
+-- `word` bytes, and "The mode is one byte"
 unfoldable pub layout : ℕ → List Slot
 layout word = two 0 word ++ (two 1 word ++ (two 2 word ++ (two 3 word ++ (one 4 1 ++ two 5 word))))
 

@@ -13,9 +13,9 @@ ghost use Rattle.layout.specs.Fields.{wordBytes, layout, fieldSizes, ent
 
 // A word of up to so many bits is narrow.
 const NARROW_BITS: u64 = 32;
-// How many bytes a narrow word has, and any other.
+// How many bytes a narrow word has.
 const NARROW: usize = 4;
-
+// How many any other word has.
 const WIDE: usize = 8;
 // The map bits that stand for fields.
 pub const FIELDS: u64 = 6;

@@ -11,7 +11,7 @@ use format::cause;
 use generator::Case;
 use generator::Reply;
 ghost use Prim.Native.Nat.{_≤_};
-ghost use Rattle.lines.specs.Text.{wordDigits, Room, Grown, Says, rowText, foundLine, noneLine, refusedLine, replyLine, endLine, longLine};
+ghost use Rattle.lines.specs.Text.{Room, Grown, Says, rowText, foundLine, noneLine, refusedLine, replyLine, endLine, longLine};
 
 // With a space and the row in k digits, or a dash where there is none.
 fn with_row(line: Line, k: u64, row: Row) -> Line

@@ -155,7 +155,7 @@ module _ (fields word : ℕ) where
       go zero q = absurd (let z : _≡_ {A = ℕ} 0 1 = cc in omega arith)
       go (suc k) q = absurd (let z : _≡_ {A = ℕ} 0 1 = cc in omega arith)
 
-  -- the number of a refusal is one of the table
+  -- the number of a refusal is not 0
   pub refused-with : (s : List ℕ) (k : ℕ) → firstWith fields word s ≡ found.Refused k → 0 < k
   unfolding firstWith
   refused-with [] k q = absurd (let z : _≡_ {A = ℕ} 0 1 = cc in omega arith)
@@ -217,7 +217,6 @@ pub first-end : (s : List ℕ) → firstIn s ≡ found.End → s ≡ []
 unfolding firstIn
 first-end s = end-with fieldCount (wordIn s) s
 
--- a number of the table
 pub first-refused : (s : List ℕ) (k : ℕ) → firstIn s ≡ found.Refused k → 0 < k
 unfolding firstIn
 first-refused s = refused-with fieldCount (wordIn s) s

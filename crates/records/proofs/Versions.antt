@@ -2,6 +2,7 @@
 -- whatever that one accepts, record by record and file by file. What is read depends on the version only by the test for map bits and by the
 -- byte count of a word, and both versions agree on these. Assumes nothing.
 use mathlib.Core.Path.{_≡_, sym, ap, _∙_, subst}
+use mathlib.Core.Logic.{_↔_}
 use Prim.Native.Nat.{ℕ, _≤_}
 use native.Mathlib.Nat.{lt-of-lt-of-le}
 use native.Mathlib.Omega.{arith}
@@ -61,15 +62,19 @@ current-takes s e n q =
     let h = request-none (e .job) (e .r1) (e .r2) .0 ok .valid .setting .format in
     record { w-most = h .w-most; f-most = h .f-most }
 
-pub current-reads : {s : List ℕ} {es : List Entry} → ReadsBy current s es → Reads s es
+current-reads : {s : List ℕ} {es : List Entry} → ReadsBy current s es → Reads s es
 unfolding firstIn
 current-reads end = no-byte
 current-reads (next q takes rest) = record-first q (current-reads rest)
 
-pub reads-current : {s : List ℕ} {es : List Entry} → Reads s es → ReadsBy current s es
+reads-current : {s : List ℕ} {es : List Entry} → Reads s es → ReadsBy current s es
 unfolding firstIn
 reads-current no-byte = end
 reads-current (record-first {s = s} {e = e} {n = n} q rest) = next q (current-takes s e n q) (reads-current rest)
+
+-- so it accepts the files that are accepted
+pub current-file : {s : List ℕ} {es : List Entry} → ReadsBy current s es ↔ Reads s es
+current-file = (current-reads, reads-current)
 
 -- document 01's job files: a word of a format that they take has 32 bits at most
 base-extended : Extends base current
@@ -81,4 +86,4 @@ base-extended =
     }
 
 pub base-file-read : {s : List ℕ} {es : List Entry} → ReadsBy base s es → Reads s es
-base-file-read r = current-reads (file-as-before base-extended r)
+base-file-read r = current-file .0 (file-as-before base-extended r)

@@ -7,13 +7,13 @@ use lib.ListN.{length, getD, drop}
 use lib.Dec.{leb, ltb}
 use Rattle.format.specs.Cause as cause
 use Rattle.format.specs.Cause.{unless, first}
+use Rattle.format.specs.declared.Format.{Format}
 use Rattle.job.specs.Job.{requestCause}
 use Rattle.numbers.specs.Number.{bufferAfter}
 use Rattle.numbers.specs.Numbers.{total, numberBytes, numbers}
 use Rattle.layout.specs.declared.Entry.{Entry}
 use Rattle.layout.specs.Layout.{saysDefault}
 use Rattle.layout.specs.Fields.{fieldCount, layout, entryNumbers, entryWith, fieldSizes, entryWord, entryMap}
-use Rattle.format.specs.declared.Format.{Format}
 use Rattle.records.specs.Version.{Version, current}
 use Rattle.records.specs.declared.First.{First}
 use Rattle.records.specs.declared.First.the-variants as found

@@ -22,7 +22,8 @@ pub record Takes (v : Version) (F : Format) : Type 0 where
 abbrev pub current : Version
 current = record { fields = fieldCount; word = wordBytes; most = record { w = mostExponentBits; f = mostFractionBits } }
 
--- document 01's: six fields, words of "4 bytes each", w up to 8 and f up to 23
+-- document 01's: six fields, words of "4 bytes each", w up to 8 and f up to 23. What its reader accepted is read so, in a format that it takes:
+-- beside these numbers only the limit of the modes has moved since, upward
 abbrev pub base : Version
 base = record { fields = 6; word = λ F. 4; most = record { w = 8; f = 23 } }
 
