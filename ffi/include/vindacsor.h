@@ -14,8 +14,8 @@
  * the exponent field and the fraction, from the top. operation is 0 to add and 1 to subtract.
  * mode is 0 nearest with ties to even, 1 toward zero, 2 up, 3 down, 4 nearest with ties away from
  * zero. A mask is two words: care, with a 1 for each fixed bit, and value, with the fixed bits.
- * In a job record every word, of a carry mask too, has 4 bytes where w + f + 1 is at most 32,
- * else 8.
+ * The masks of a, b and c have w + f + 1 bits, and the carry mask has f + 1. In a job record every
+ * word, of a carry mask too, has 4 bytes where w + f + 1 is at most 32, else 8.
  */
 #ifndef VINDACSOR_H
 #define VINDACSOR_H
@@ -27,13 +27,16 @@
 extern "C" {
 #endif
 
-/* The refusals. */
+/* The refusals. The masks are tested in the order 5, 14, 15, 16, after 4, or in whole numbers
+ * after 12, and before 6. */
 enum {
     VINDACSOR_EXPONENT_BITS = 1, /* w below 2 or above 11 */
     VINDACSOR_FRACTION_BITS = 2, /* f below 2 or above 52 */
     VINDACSOR_OPERATION = 3,     /* operation above 1 */
     VINDACSOR_MODE = 4,          /* mode above 4 */
-    VINDACSOR_MASK = 5,          /* mask bit above its width, or value outside care */
+    VINDACSOR_MASK = 5,          /* a's mask: a value bit outside care, or a bit above its width;
+                                  * in whole numbers x's mask; in joining either mask, for a value
+                                  * bit outside care */
     VINDACSOR_WORD = 6,          /* operand, proposed or random word too wide */
     VINDACSOR_NO_CASE = 7,       /* no case fits */
     VINDACSOR_CUT = 8,           /* record cut short, or no byte where a record is wanted */
@@ -41,7 +44,11 @@ enum {
     VINDACSOR_DEFAULT = 10,      /* field that says its default */
     VINDACSOR_BUFFER = 11,       /* out too short */
     VINDACSOR_LENGTH = 12,       /* length outside 1 to 32 */
-    VINDACSOR_CLASH = 13         /* two masks fix one bit unlike */
+    VINDACSOR_CLASH = 13,        /* two masks fix one bit unlike */
+    VINDACSOR_SECOND_MASK = 14,  /* b's mask: a value bit outside care, or a bit above its width;
+                                  * in whole numbers y's mask */
+    VINDACSOR_THIRD_MASK = 15,   /* c's mask, in whole numbers z's: the same */
+    VINDACSOR_CARRY_MASK = 16    /* the carry mask: the same */
 };
 
 /* The bytes of each answer. */
@@ -67,13 +74,13 @@ uint64_t vindacsor_row(uint64_t w, uint64_t f, uint64_t operation,
                        uint64_t a, uint64_t b, uint8_t *out, size_t out_length);
 
 /* The mask that fixes what either of two masks fixes.
- * Answer: care, value. Refusals: 5 (value outside care), 13, 11. */
+ * Answer: care, value. Refusals: 5 (in either mask a value bit outside care), 13, 11. */
 uint64_t vindacsor_join(uint64_t care, uint64_t value, uint64_t care2, uint64_t value2,
                         uint8_t *out, size_t out_length);
 
 /* What stands first in a job file.
  * Answer: the length in bytes of the job record that stands there, 0 where no byte is left.
- * Refusals: 9, 8, 1 to 6, 10, 11. */
+ * Refusals: 9, 8, 1 to 5, 14, 15, 16, 6, 10, 11. */
 uint64_t vindacsor_read(const uint8_t *file, size_t file_length,
                         uint8_t *out, size_t out_length);
 
@@ -92,7 +99,7 @@ uint64_t vindacsor_generate(const uint8_t *file, size_t file_length,
 /* The whole-number case of a length of 1 to 32 bits, chosen by three random words:
  * x + y + (carry in) = z + 2^length * (carry out). The carry mask has length + 1 bits; bit i of
  * the carries goes into position i.
- * Answer: x, y, z, carries. Refusals: 12, 5, 6, 7, 11. */
+ * Answer: x, y, z, carries. Refusals: 12, 5, 14, 15, 16, 6, 7, 11. */
 uint64_t vindacsor_whole(uint64_t length,
                          uint64_t x_care, uint64_t x_value,
                          uint64_t y_care, uint64_t y_value,

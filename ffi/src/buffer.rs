@@ -89,14 +89,14 @@ pub fn row(w: u64, f: u64, operation: u64, a: u64, b: u64, out: &mut [u8]) -> u6
     unsafe { declared::vindacsor_row(w, f, operation, a, b, start, length) }
 }
 
-/// Joining. Answer: care, value. Refusals: 5, 13, 11.
+/// Joining. Answer: care, value. Refusals: 5 for either mask, 13, 11.
 pub fn join(one: Mask, other: Mask, out: &mut [u8]) -> u64 {
     let (start, length) = (out.as_mut_ptr(), out.len());
     unsafe { declared::vindacsor_join(one.care, one.value, other.care, other.value, start, length) }
 }
 
 /// What stands first in a job file. Answer: the record's length, 0 at the end. Refusals: 9, 8,
-/// 1 to 6, 10, 11.
+/// 1 to 5, 14, 15, 16, 6, 10, 11.
 pub fn read(file: &[u8], out: &mut [u8]) -> u64 {
     let (start, length) = (out.as_mut_ptr(), out.len());
     unsafe { declared::vindacsor_read(file.as_ptr(), file.len(), start, length) }
@@ -116,7 +116,7 @@ pub fn generate(file: &[u8], out: &mut [u8]) -> u64 {
     unsafe { declared::vindacsor_generate(file.as_ptr(), file.len(), start, length) }
 }
 
-/// The whole-number case. Answer: x, y, z, carries. Refusals: 12, 5, 6, 7, 11.
+/// The whole-number case. Answer: x, y, z, carries. Refusals: 12, 5, 14, 15, 16, 6, 7, 11.
 pub fn whole(job: &WholeJob, out: &mut [u8]) -> u64 {
     let (start, length) = (out.as_mut_ptr(), out.len());
     let [r1, r2, r3] = job.words;

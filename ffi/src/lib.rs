@@ -1,6 +1,7 @@
 //! Vindacsor for Rust: the proved functions of `libvindacsor.a`, which `rt staticlib vindacsor`
 //! writes, behind safe ones. Documents 01 and 02 name the formats, operations, modes, masks, job
-//! records and refusals. [`buffer`] has the functions as the library has them.
+//! records and refusals. A [`Refusal`] says its number in words. [`buffer`] has the functions as
+//! the library has them.
 //!
 //! w is 2 to 11 exponent bits and f is 2 to 52 fraction bits. Operation 0 adds and 1 subtracts.
 //! Mode 0 is nearest with ties to even, 1 toward zero, 2 up, 3 down, 4 nearest with ties away from
@@ -8,10 +9,9 @@
 //! 32, else 8.
 
 pub mod buffer;
+mod refusal;
 
-/// The number of a refusal, 1 to 13.
-#[derive(Clone, Copy, Debug, PartialEq, Eq)]
-pub struct Refusal(pub u64);
+pub use refusal::Refusal;
 
 /// Which bits are fixed (`care`), and to what (`value`).
 #[derive(Clone, Copy, Debug, Default, PartialEq, Eq)]
@@ -81,15 +81,15 @@ pub fn row(w: u64, f: u64, operation: u64, a: u64, b: u64) -> Result<Option<u64>
     Ok(row_in(numbers[0], numbers[1]))
 }
 
-/// The mask that fixes what either of two fixes. Refuses with 5 for a value outside its care,
-/// then with 13 where the two fix one bit unlike.
+/// The mask that fixes what either of two fixes. Refuses with 5 where the value of either stands
+/// outside its care, then with 13 where the two fix one bit unlike.
 pub fn join(one: Mask, other: Mask) -> Result<Mask, Refusal> {
     let [care, value, ..] = answer(|out| buffer::join(one, other, out))?;
     Ok(Mask { care, value })
 }
 
 /// The length of the job record that stands first in a file; none where no byte is left.
-/// Refuses with 9, 8, 1 to 6, 10.
+/// Refuses with 9, 8, 1 to 5, 14, 15, 16, 6, 10.
 pub fn read(file: &[u8]) -> Result<Option<usize>, Refusal> {
     let length = answer(|out| buffer::read(file, out))?[0];
     Ok((length != 0).then_some(length as usize))
@@ -113,7 +113,7 @@ pub fn generate(file: &[u8]) -> Result<Case, Refusal> {
     })
 }
 
-/// The whole-number case that the random words choose. Refuses with 12, 5, 6, 7.
+/// The whole-number case that the random words choose. Refuses with 12, 5, 14, 15, 16, 6, 7.
 pub fn whole(job: &WholeJob) -> Result<WholeCase, Refusal> {
     let [x, y, z, carries, _] = answer(|out| buffer::whole(job, out))?;
     Ok(WholeCase { x, y, z, carries })
@@ -171,6 +171,27 @@ mod tests {
         // One more exponent or fraction bit is refused.
         assert_eq!(result(12, 52, 0, 0, two, two), Err(Refusal(1)));
         assert_eq!(result(11, 53, 0, 0, two, two), Err(Refusal(2)));
+    }
+
+    /// Each mask of a job has its own number, and joining has one for both masks.
+    #[test]
+    fn malformed_masks() {
+        for (place, number) in [5, 14, 15, 16].into_iter().enumerate() {
+            // The record of one mask, with nothing in care and the value 1.
+            let record = [1 << place, 3, 4, 0, 0, 0, 0, 0, 1, 0, 0, 0];
+            assert_eq!(read(&record), Err(Refusal(number)));
+            assert_eq!(confirm(&record, 0, 0, 0), Err(Refusal(number)));
+            assert_eq!(generate(&record), Err(Refusal(number)));
+            let mut job = WholeJob {
+                length: 2,
+                ..WholeJob::default()
+            };
+            [&mut job.x, &mut job.y, &mut job.z, &mut job.carries][place].value = 1;
+            assert_eq!(whole(&job), Err(Refusal(number)));
+        }
+        let outside = Mask { care: 0, value: 1 };
+        assert_eq!(join(outside, Mask::default()), Err(Refusal(5)));
+        assert_eq!(join(Mask::default(), outside), Err(Refusal(5)));
     }
 
     #[test]

@@ -1,22 +1,24 @@
 -- Every row of the table holds: a test of a row that antt computes, and one law that turns a passed test into the row's claim.
 -- Assumes nothing.
-use mathlib.Core.Path.{_≡_, refl, ap, subst, sym}
+use mathlib.Core.Path.{_≡_, refl, ap, subst, sym, _∙_}
 use mathlib.Core.Bool.{Bool, true, false, _&&_, _||_, and-eq-true-iff, false≢true}
 use mathlib.Core.List.{List, [], _∷_, List·Memᴰ, List·Memᴰ·head, List·Memᴰ·tail, List·Memᴰ·not-nil, List·Memᴰ·cases-cons}
 use mathlib.Core.Logic.{_⊎_, inl, inr, ⊎-elim}
 use Prim.Native.Nat.{ℕ, _+_, _%_, _^_, _<_}
+use native.Mathlib.Omega.{arith}
 use borrow.Author.Tests.{eqb-true, ltb-true}
 use lib.Bits.{bitXor}
 use lib.Dec.{eqb, ltb}
 use lib.Ieee.{size}
 use Rattle.format.specs.Limits.{leastLength, mostLength, within}
-use Rattle.format.specs.Format.{formatCause, operationCause, modeCause, wordCause}
-use Rattle.format.proofs.Laws.{within-holds}
-use Rattle.mask.specs.Mask.{maskCause}
+use Rattle.format.specs.Cause.{first}
+use Rattle.format.specs.Format.{wordBits, formatCause, operationCause, modeCause, wordCause}
+use Rattle.format.proofs.Laws.{first-some, within-holds}
+use Rattle.mask.specs.Mask.{maskCause, masksCause}
 use Rattle.choice.specs.Choice.{Farther}
 use Rattle.columns.proofs.Some.{or-cases}
 use Rattle.job.specs.declared.Job.{Job}
-use Rattle.job.specs.Job.{settingCause, masksCause, jobCause, requestCause}
+use Rattle.job.specs.Job.{settingCause, jobCause, requestCause}
 use Rattle.job.proofs.Laws.{job-none, request-none}
 use Rattle.adder.specs.declared.Reply as reply
 use Rattle.adder.specs.declared.Reply.the-variants as answer
@@ -79,7 +81,7 @@ passes (sum F operation mode a b c carried) = isWord (resultReply F operation mo
 passes (exactly j fitting) = eqb (jobCause j) 0 && (allFit j fitting && everyCase j (listed fitting))
 passes (found j r1 r2 a b c carries) =
     eqb (requestCause j r1 r2) 0 && ((isCase j a b c && isRow carries (rowOf (j .setting .format) (j .setting .operation) a b)) && everyCase j (λ x y z. notCloser r1 r2 a b x y))
-passes (refused j k) = eqb (jobCause j) 0 && (eqb k cause.noCase && everyCase j (λ x y z. false))
+passes (refused j k) = (ltb 0 k && eqb k (jobCause j)) || (eqb (jobCause j) 0 && (eqb k cause.noCase && everyCase j (λ x y z. false)))
 passes (wholeSum n x y carryIn z carries) = isWhole n x y carryIn z carries
 
 every : List Claim → Bool
@@ -184,9 +186,20 @@ found-is j r1 r2 a b c carries e =
       },
     )
 
-refused-is : (j : Job) (k : ℕ) → passes (refused j k) ≡ true → Holds (refused j k)
-unfolding passes
-refused-is j k e r1 r2 h1 h2 =
+-- a cause against the job is the one that is named
+caused-is : (j : Job) (k : ℕ) → (ltb 0 k && eqb k (jobCause j)) ≡ true → Holds (refused j k)
+unfolding requestCause
+caused-is j k e r1 r2 h1 h2 =
+    let p = and-eq-true-iff (ltb 0 k) (eqb k (jobCause j)) .0 e in
+    let positive = ltb-true 0 k (p .0) in
+    let is = eqb-true k (jobCause j) (p .1) in
+    let width = wordBits (j .setting .format) in
+    let words = first (wordCause width r1) (wordCause width r2) in
+    let named = first-some (jobCause j) words (λ z. let q : k ≡ 0 = is ∙ z in omega (arith, positive, q)) in
+    inl (subst (λ (n : ℕ). 0 < n) (is ∙ sym named) positive, is ∙ sym named)
+
+no-case-is : (j : Job) (k : ℕ) → (eqb (jobCause j) 0 && (eqb k cause.noCase && everyCase j (λ x y z. false))) ≡ true → Holds (refused j k)
+no-case-is j k e r1 r2 h1 h2 =
     let test : ℕ → ℕ → ℕ → Bool = λ x y z. false in
     let p = and-eq-true-iff (eqb (jobCause j) 0) (eqb k cause.noCase && everyCase j test) .0 e in
     let q = and-eq-true-iff (eqb k cause.noCase) (everyCase j test) .0 (p .1) in
@@ -198,6 +211,12 @@ refused-is j k e r1 r2 h1 h2 =
       },
       eqb-true k cause.noCase (q .0),
     )
+
+refused-is : (j : Job) (k : ℕ) → passes (refused j k) ≡ true → Holds (refused j k)
+unfolding passes
+refused-is j k e =
+    ⊎-elim (caused-is j k) (no-case-is j k)
+    (or-cases (ltb 0 k && eqb k (jobCause j)) (eqb (jobCause j) 0 && (eqb k cause.noCase && everyCase j (λ x y z. false))) e)
 
 passes-holds : (x : Claim) → passes x ≡ true → Holds x
 unfolding passes

@@ -71,11 +71,13 @@ subtract mode a b c carried = sum eight 1 mode a b c carried
 abbrev pub everyMode : (ℕ → Claim) → List Claim
 everyMode at = at 0 ∷ at 1 ∷ at 2 ∷ at 3 ∷ at 4 ∷ []
 
--- "Masks there: a 0100x101, b 001x1011, c 010xx10x (x free)": the job that adds in a mode, with a carry mask
+-- the job that adds in a mode, with these masks
+abbrev pub adding : ℕ → Mask → Mask → Mask → Mask → Job
+adding mode a b c carries = maskedJob (record { format = eight; operation = 0; mode = mode }) a b c carries
+
+-- "Masks there: a 0100x101, b 001x1011, c 010xx10x (x free)", with a carry mask
 abbrev pub masked : ℕ → Mask → Job
-masked mode carries =
-    maskedJob (record { format = eight; operation = 0; mode = mode }) (record { care = 0xF7; value = 0x45 }) (record { care = 0xEF; value = 0x2B })
-    (record { care = 0xE6; value = 0x44 }) carries
+masked mode carries = adding mode (record { care = 0xF7; value = 0x45 }) (record { care = 0xEF; value = 0x2B }) (record { care = 0xE6; value = 0x44 }) carries
 
 abbrev pub nothingFixed : Mask
 nothingFixed = record { care = 0; value = 0 }
@@ -138,5 +140,18 @@ tiesAway =
     ∷ add 4 0x6F 0x6F 0x70 unsaid ∷ subtract 4 0x30 0x30 0x00 unsaid
     ∷ exactly (masked 4 nothingFixed) ((0x45, 0x2B, 0x4C) ∷ (0x4D, 0x3B, 0x55) ∷ []) ∷ []
 
+-- a value bit outside care
+abbrev pub outsideCare : Mask
+outsideCare = record { care = 0x10; value = 0x01 }
+
+-- W-203. Of malformed masks the first is named: 5 for a's, 14 for b's, 15 for c's, 16 for the carries'; in the last row a carry mask with a bit
+-- above p.
+abbrev pub malformed : List Claim
+malformed =
+    refused (adding 0 outsideCare outsideCare outsideCare outsideCare) 5 ∷ refused (adding 0 nothingFixed outsideCare outsideCare outsideCare) 14
+    ∷ refused (adding 0 nothingFixed nothingFixed outsideCare outsideCare) 15
+    ∷ refused (adding 0 nothingFixed nothingFixed nothingFixed outsideCare) 16
+    ∷ refused (masked 0 (record { care = 0x20; value = 0x00 })) 16 ∷ []
+
 abbrev pub cases : List Claim
-cases = case1 ++ case2 ++ case3 ++ case4 ++ case5 ++ case6 ++ case7 ++ case8 ++ case9 ++ case10 ++ case11 ++ tiesAway
+cases = case1 ++ case2 ++ case3 ++ case4 ++ case5 ++ case6 ++ case7 ++ case8 ++ case9 ++ case10 ++ case11 ++ tiesAway ++ malformed

@@ -6,15 +6,14 @@ use Prim.Native.Nat.{ℕ, _^_, _<_}
 use borrow.Author.Tests.{eqb-true, eq-eqb}
 use lib.Dec.{eqb}
 use Rattle.format.specs.declared.Format.{Format}
-use Rattle.format.specs.Cause.{first}
-use Rattle.format.specs.Format.{wordBits, wordCause}
-use Rattle.format.proofs.Laws.{first-none, word-none}
+use Rattle.format.specs.Format.{wordBits}
+use Rattle.format.proofs.Laws.{both-none, word-none}
 use Rattle.mask.specs.declared.Mask.{Mask}
 use Rattle.mask.proofs.Checks.{meets-true}
 use Rattle.job.specs.declared.Setting.{Setting}
 use Rattle.job.specs.declared.Wanted.{Wanted}
 use Rattle.job.specs.declared.Job.{Job}
-use Rattle.job.specs.Job.{jobCause, ValidSetting, Valid}
+use Rattle.job.specs.Job.{ValidSetting, Valid}
 use Rattle.job.proofs.Laws.{job-none}
 use Rattle.adder.specs.declared.Row as row
 use Rattle.adder.specs.declared.Row.the-variants.{Carries, NoRow}
@@ -88,22 +87,12 @@ words-fit S valid a b ha hb = record { supported = valid .format; operation-fits
 
 pub case-none : (j : Job) (a b c : ℕ) → caseCause j a b c ≡ 0 ↔ (Valid j × Words (j .setting .format) a b c)
 unfolding caseCause
-case-none j a b c = (
-  λ e.
-      let p = first-none (jobCause j) (first (cause a) (first (cause b) (cause c))) .0 e in
-      let q = first-none (cause a) (first (cause b) (cause c)) .0 (p .1) in
-      let r = first-none (cause b) (cause c) .0 (q .1) in
-      (job-none j .0 (p .0), record { a-word = word-none width a .0 (q .0); b-word = word-none width b .0 (r .0); c-word = word-none width c .0 (r .1) }),
-  λ h.
-      first-none (jobCause j) (first (cause a) (first (cause b) (cause c))) .1 (
-        job-none j .1 (h .0),
-        first-none (cause a) (first (cause b) (cause c)) .1
-            (word-none width a .1 (h .1 .a-word), first-none (cause b) (cause c) .1 (word-none width b .1 (h .1 .b-word), word-none width c .1 (h .1 .c-word))),
-      ),
-)
-  where
-    width : ℕ
-    width = wordBits (j .setting .format)
-
-    cause : ℕ → ℕ
-    cause x = wordCause width x
+case-none j a b c =
+    let width = wordBits (j .setting .format) in
+    let law = both-none _ _ (job-none j) (both-none _ _ (word-none width a) (both-none _ _ (word-none width b) (word-none width c))) in (
+      (λ e.
+          let p = law .0 e in
+          let w = p .1 in
+          (p .0, record { a-word = w .0; b-word = w .1 .0; c-word = w .1 .1 })),
+      λ h. law .1 (h .0, (h .1 .a-word, (h .1 .b-word, h .1 .c-word))),
+    )

@@ -86,7 +86,7 @@ fits j a b c = eqb (resultIn (j .setting) a b) c && satisfies j a b c
 
 -- ---- the reply
 
--- "Order": 1 to 5 against the job, then 6 against the three proposed words
+-- "Order": what stands against the job, then 6 against the three proposed words
 unfoldable pub caseCause : Job → ℕ → ℕ → ℕ → ℕ
 caseCause j a b c =
     first (jobCause j)

@@ -6,6 +6,7 @@ use adder::carry_row::carry_row;
 use adder::result::rounded_result;
 use format::Format;
 use format::first;
+use format::format_cause;
 use format::word_cause;
 use job::Job;
 use job::Setting;
@@ -27,19 +28,20 @@ pub enum Confirmed {
     Refused(u64),
 }
 
-// The first of the causes 1 to 5 against the job, or 6 where a proposed word is too wide; else 0.
+// What stands against the job, or 6 where a proposed word is too wide; else 0.
 pub fn case_cause(job: Job, a: u64, b: u64, c: u64) -> u64
     ensures { λ r. ⌜ r ≡ caseCause job a b c ⌝ }
 {
-    let cause = job_cause(job);
-    if cause != 0 {
-        return cause;
+    let refusal = job_cause(job);
+    if format_cause(job.setting.format) != 0 {
+        return refusal;
     }
     let width = job.setting.format.w + job.setting.format.f + 1;
-    first(
+    let words = first(
         word_cause(width, a),
         first(word_cause(width, b), word_cause(width, c)),
-    )
+    );
+    first(refusal, words)
 }
 
 // Whether a word of the format is as wanted.

@@ -16,6 +16,13 @@ pub first-none : (m n : ℕ) → first m n ≡ 0 ↔ ((m ≡ 0) × (n ≡ 0))
 first-none zero n = (λ e. (refl, e), λ b. b .1)
 first-none (suc m) n = (λ e. absurd (suc-ne-zero m e), λ b. b .0)
 
+-- two causes, each with what it means that it does not stand
+pub both-none : {P Q : Type 0} (m n : ℕ) → (m ≡ 0) ↔ P → (n ≡ 0) ↔ Q → (first m n ≡ 0) ↔ (P × Q)
+both-none m n p q = (
+  λ e. (p .0 (first-none m n .0 e .0), q .0 (first-none m n .0 e .1)),
+  λ b. first-none m n .1 (p .1 (b .0), q .1 (b .1)),
+)
+
 -- where the first cause stands, the later ones do not count
 pub first-some : (m n : ℕ) → (m ≡ 0 → ⊥) → first m n ≡ m
 first-some zero n h = absurd (h refl)
@@ -34,18 +41,17 @@ within-holds least most n = (
 
 pub format-none : (F : Format) → formatCause F ≡ 0 ↔ Supported F
 unfolding formatCause
-format-none F = (
-  λ e.
-      let b = first-none (unless (within leastExponentBits mostExponentBits (F .w)) 1) (unless (within leastFractionBits mostFractionBits (F .f)) 2) .0 e in
-      let w = within-holds leastExponentBits mostExponentBits (F .w) .0 (unless-none (within leastExponentBits mostExponentBits (F .w)) 0 .0 (b .0)) in
-      let f = within-holds leastFractionBits mostFractionBits (F .f) .0 (unless-none (within leastFractionBits mostFractionBits (F .f)) 1 .0 (b .1)) in
-      record { w-least = w .0; w-most = w .1; f-least = f .0; f-most = f .1 },
-  λ s.
-      first-none (unless (within leastExponentBits mostExponentBits (F .w)) 1) (unless (within leastFractionBits mostFractionBits (F .f)) 2) .1 (
-        unless-none (within leastExponentBits mostExponentBits (F .w)) 0 .1 (within-holds leastExponentBits mostExponentBits (F .w) .1 (s .w-least, s .w-most)),
-        unless-none (within leastFractionBits mostFractionBits (F .f)) 1 .1 (within-holds leastFractionBits mostFractionBits (F .f) .1 (s .f-least, s .f-most)),
-      ),
-)
+format-none F =
+    let w = within-holds leastExponentBits mostExponentBits (F .w) in
+    let f = within-holds leastFractionBits mostFractionBits (F .f) in
+    let law = both-none _ _ (unless-none (within leastExponentBits mostExponentBits (F .w)) 0) (unless-none (within leastFractionBits mostFractionBits (F .f)) 1) in (
+      (λ e.
+          let b = law .0 e in
+          let p = w .0 (b .0) in
+          let q = f .0 (b .1) in
+          record { w-least = p .0; w-most = p .1; f-least = q .0; f-most = q .1 }),
+      λ s. law .1 (w .1 (s .w-least, s .w-most), f .1 (s .f-least, s .f-most)),
+    )
 
 -- what a caller learns from the cause that it was given
 module _ {F : Format} {n : ℕ} (e : n ≡ formatCause F) where

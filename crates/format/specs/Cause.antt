@@ -1,5 +1,5 @@
--- The numbers of document 01's table "Causes and replies", and how causes are tested in order.
--- A cause is a number of the table, or 0 where nothing is wrong. Assumes nothing.
+-- The numbers of document 01's table "Causes and replies" and those that document 02 adds, and how causes are tested in order.
+-- A cause is one of these numbers, or 0 where nothing is wrong. Assumes nothing.
 use mathlib.Core.Bool.{Bool, true, false}
 use Prim.Native.Nat.{ℕ, zero, suc}
 
@@ -15,6 +15,7 @@ operation = 3
 abbrev pub mode : ℕ
 mode = 4
 
+-- W-203: a's mask malformed, or x's, or either in joining
 abbrev pub mask : ℕ
 mask = 5
 
@@ -41,6 +42,18 @@ wholeLength = 12
 
 abbrev pub clash : ℕ
 clash = 13
+
+-- W-203: b's mask malformed, or y's
+abbrev pub secondMask : ℕ
+secondMask = 14
+
+-- W-203: c's mask malformed, or z's
+abbrev pub thirdMask : ℕ
+thirdMask = 15
+
+-- W-203: the carry mask malformed
+abbrev pub carryMask : ℕ
+carryMask = 16
 
 -- no cause where the test holds, else the number
 abbrev pub unless : Bool → ℕ → ℕ

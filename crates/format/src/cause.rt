@@ -1,4 +1,4 @@
-// The numbers of document 01's table "Causes and replies". 0 stands for no cause.
+// The numbers of document 01's table "Causes and replies" and those that document 02 adds. 0 stands for no cause.
 
 // w below 2 or above 11
 pub const EXPONENT_BITS: u64 = 1;
@@ -8,7 +8,7 @@ pub const FRACTION_BITS: u64 = 2;
 pub const OPERATION: u64 = 3;
 // mode above 4
 pub const MODE: u64 = 4;
-// mask bit above its width, or value outside care
+// a's mask malformed, or x's, or either in joining: a bit above its width, or a value bit outside care
 pub const MASK: u64 = 5;
 // operand, proposed or random word above its width
 pub const WORD: u64 = 6;
@@ -26,3 +26,9 @@ pub const BUFFER: u64 = 11;
 pub const WHOLE_LENGTH: u64 = 12;
 // two masks fix one bit unlike
 pub const CLASH: u64 = 13;
+// b's mask malformed, or y's
+pub const SECOND_MASK: u64 = 14;
+// c's mask malformed, or z's
+pub const THIRD_MASK: u64 = 15;
+// the carry mask malformed
+pub const CARRY_MASK: u64 = 16;

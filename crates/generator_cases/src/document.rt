@@ -1,4 +1,5 @@
-// The cases of document 01, "Cases, in hexadecimal", and its causes 1 to 6; with mode 4 of document 02, W-201, and the widths of W-202.
+// The cases of document 01, "Cases, in hexadecimal", and its causes 1 to 6; of document 02 mode 4 (W-201), the widths of W-202, and which mask
+// is malformed (W-203).
 use crate::line::ask;
 use crate::line::put_reply;
 use crate::same::same_reply;
@@ -172,30 +173,50 @@ pub(crate) fn double_tie(count: Count) -> Count {
     asked(two, none, 0, 0, Reply::Refused(cause::NO_CASE))
 }
 
-// A line for a job of these numbers and masks that is refused, with both random words the same.
-fn bad(count: Count, setting: Setting, a: Mask, carries: Mask, word: u64, number: u64) -> Count {
-    let job = masked_job(setting, a, free(), free(), carries);
-    asked(count, job, word, word, Reply::Refused(number))
-}
-
-// One whose masks and words have a bit above every width.
-fn wide(count: Count, w: u64, f: u64, operation: u64, mode: u64, number: u64) -> Count {
-    let setting = Setting {
+fn numbers(w: u64, f: u64, operation: u64, mode: u64) -> Setting {
+    Setting {
         format: Format { w, f },
         operation,
         mode,
-    };
-    let above = mask(0x100, 0);
-    bad(count, setting, above, above, 0x100, number)
+    }
 }
 
-// Of the causes 1 to 5 each line has one fewer: the first is named.
+// The mask at a place: of the first masks, so many, each fixes nothing, and the others have a bit above every width.
+fn above_from(formed: u64, place: u64) -> Mask {
+    if place < formed {
+        free()
+    } else {
+        mask(0x100, 0)
+    }
+}
+
+// A line for a job that is refused: the first masks, so many, are well formed, and the words have a bit above every width.
+fn wide(count: Count, setting: Setting, formed: u64, number: u64) -> Count {
+    let job = masked_job(
+        setting,
+        above_from(formed, 0),
+        above_from(formed, 1),
+        above_from(formed, 2),
+        above_from(formed, 3),
+    );
+    asked(count, job, 0x100, 0x100, Reply::Refused(number))
+}
+
+// Of the causes each line has one fewer: the first is named.
 fn first_cause(count: Count) -> Count {
-    let one = wide(count, 1, 1, 2, 5, cause::EXPONENT_BITS);
-    let two = wide(one, 3, 1, 2, 5, cause::FRACTION_BITS);
-    let three = wide(two, 3, 4, 2, 5, cause::OPERATION);
-    let four = wide(three, 3, 4, 0, 5, cause::MODE);
-    wide(four, 3, 4, 0, 0, cause::MASK)
+    let one = wide(count, numbers(1, 1, 2, 5), 0, cause::EXPONENT_BITS);
+    let two = wide(one, numbers(3, 1, 2, 5), 0, cause::FRACTION_BITS);
+    let three = wide(two, numbers(3, 4, 2, 5), 0, cause::OPERATION);
+    wide(three, numbers(3, 4, 0, 5), 0, cause::MODE)
+}
+
+// The same of the masks and the words.
+fn first_mask(count: Count) -> Count {
+    let one = wide(count, adding(3, 4, 0), 0, cause::MASK);
+    let two = wide(one, adding(3, 4, 0), 1, cause::SECOND_MASK);
+    let three = wide(two, adding(3, 4, 0), 2, cause::THIRD_MASK);
+    let four = wide(three, adding(3, 4, 0), 3, cause::CARRY_MASK);
+    wide(four, adding(3, 4, 0), 4, cause::WORD)
 }
 
 // Words alone too wide.
@@ -205,18 +226,13 @@ fn words(count: Count, r1: u64, r2: u64) -> Count {
 
 // A value outside care, and a carry above the precision.
 fn masks(count: Count) -> Count {
-    let one = bad(count, adding(3, 4, 0), mask(1, 3), free(), 0, cause::MASK);
-    bad(
-        one,
-        adding(3, 4, 0),
-        free(),
-        mask(0x20, 0x20),
-        0,
-        cause::MASK,
-    )
+    let outside = masked_job(adding(3, 4, 0), free(), mask(1, 3), free(), free());
+    let one = asked(count, outside, 0, 0, Reply::Refused(cause::SECOND_MASK));
+    let carry = masked_job(adding(3, 4, 0), free(), free(), free(), mask(0x20, 0x20));
+    asked(one, carry, 0, 0, Reply::Refused(cause::CARRY_MASK))
 }
 
 pub(crate) fn bad_input(count: Count) -> Count {
-    let first = words(first_cause(count), 0x100, 0x100);
-    words(words(masks(first), 0x100, 0), 0, 0x100)
+    let first = masks(first_mask(first_cause(count)));
+    words(words(first, 0x100, 0), 0, 0x100)
 }

@@ -6,7 +6,7 @@ use Rattle.format.specs.declared.Format.{Format}
 use Rattle.format.specs.Cause.{first}
 use Rattle.format.specs.Limits.{mostOperation, mostMode}
 use Rattle.format.specs.Format.{wordBits, precision, Supported, formatCause, operationCause, modeCause, wordCause}
-use Rattle.mask.specs.Mask.{WellFormed, maskCause}
+use Rattle.mask.specs.Mask.{WellFormed, masksCause}
 use Rattle.job.specs.declared.Setting.{Setting}
 use Rattle.job.specs.declared.Wanted.{Wanted}
 use Rattle.job.specs.declared.Job.{Job}
@@ -15,16 +15,14 @@ use Rattle.job.specs.declared.Job.{Job}
 unfoldable pub settingCause : Setting → ℕ
 settingCause S = first (formatCause (S .format)) (first (operationCause (S .operation)) (modeCause (S .mode)))
 
--- 5 for the masks of a, b and c, whose width is the word's, then of the carries, whose width is p
-unfoldable pub masksCause : Job → ℕ
-masksCause j =
-    first (maskCause (wordBits (j .setting .format)) (j .a .mask))
-    (first (maskCause (wordBits (j .setting .format)) (j .b .mask))
-    (first (maskCause (wordBits (j .setting .format)) (j .c .mask)) (maskCause (precision (j .setting .format)) (j .carries))))
+-- W-203: 5, 14 and 15 for the masks of a, b and c, whose width is the word's, and 16 for that of the carries, whose width is p
+abbrev pub jobMasksCause : Job → ℕ
+jobMasksCause j =
+    masksCause (wordBits (j .setting .format)) (precision (j .setting .format)) (j .a .mask) (j .b .mask) (j .c .mask) (j .carries)
 
--- "Order: 1 to 7, each where it applies": 1 to 4, then 5
+-- "Order: 1 to 7, each where it applies": 1 to 4, then the masks
 unfoldable pub jobCause : Job → ℕ
-jobCause j = first (settingCause (j .setting)) (masksCause j)
+jobCause j = first (settingCause (j .setting)) (jobMasksCause j)
 
 -- no cause stands against a setting
 pub record ValidSetting (S : Setting) : Type 0 where
@@ -44,7 +42,7 @@ pub record Valid (j : Job) : Type 0 where
   pub c : ValidWanted (j .setting .format) (j .c)
   pub carries : WellFormed (precision (j .setting .format)) (j .carries)
 
--- "Order": 1 to 5 against the job, then 6 against the two random words
+-- "Order": what stands against the job, then 6 against the two random words
 unfoldable pub requestCause : Job → ℕ → ℕ → ℕ
 requestCause j r1 r2 =
     first (jobCause j) (first (wordCause (wordBits (j .setting .format)) r1) (wordCause (wordBits (j .setting .format)) r2))

@@ -8,10 +8,10 @@ use format::mode_cause;
 use format::operation_cause;
 use format::word_cause;
 use mask::Mask;
-use mask::mask_cause;
+use mask::masks_cause;
 ghost use mathlib.Core.Path.{_≡_};
 ghost use Rattle.format.specs.Format.{Supported};
-ghost use Rattle.job.specs.Job.{settingCause, jobCause, masksCause, requestCause};
+ghost use Rattle.job.specs.Job.{settingCause, jobMasksCause, jobCause, requestCause};
 
 // What decides the result of two operands.
 pub struct Setting {
@@ -50,39 +50,44 @@ pub fn setting_cause(setting: Setting) -> u64
     first(format_cause(setting.format), first(operation, mode))
 }
 
-// 5 where a mask is malformed, else 0. The format is supported, so its widths do not wrap.
-fn masks_cause(job: Job) -> u64
+// 5, 14, 15 or 16 where a mask is malformed, else 0. The format is supported, so its widths do not wrap.
+fn job_masks_cause(job: Job) -> u64
     requires { ⌜ Supported (job .setting .format) ⌝ }
-    ensures { λ r. ⌜ r ≡ masksCause job ⌝ }
+    ensures { λ r. ⌜ r ≡ jobMasksCause job ⌝ }
 {
     let width = job.setting.format.w + job.setting.format.f + 1;
     let precision = job.setting.format.f + 1;
-    let a = mask_cause(width, job.a.mask);
-    let b = mask_cause(width, job.b.mask);
-    let c = mask_cause(width, job.c.mask);
-    first(a, first(b, first(c, mask_cause(precision, job.carries))))
+    masks_cause(
+        width,
+        precision,
+        job.a.mask,
+        job.b.mask,
+        job.c.mask,
+        job.carries,
+    )
 }
 
-// The first of the causes 1 to 5 that stands against the job, 0 for none.
+// The first of the causes 1 to 4 that stands against the job, or 5, 14, 15 or 16 for a malformed mask; else 0.
 pub fn job_cause(job: Job) -> u64
     ensures { λ r. ⌜ r ≡ jobCause job ⌝ }
 {
     let setting = job.setting;
-    let found = setting_cause(setting);
-    if found != 0 {
-        return found;
+    let refusal = setting_cause(setting);
+    if refusal != 0 {
+        return refusal;
     }
-    masks_cause(job)
+    job_masks_cause(job)
 }
 
-// The first of the causes 1 to 5 against the job, or 6 where a word is too wide; else 0.
+// What stands against the job, or 6 where a random word is too wide; else 0.
 pub fn request_cause(job: Job, r1: u64, r2: u64) -> u64
     ensures { λ r. ⌜ r ≡ requestCause job r1 r2 ⌝ }
 {
-    let found = job_cause(job);
-    if found != 0 {
-        return found;
+    let refusal = job_cause(job);
+    if format_cause(job.setting.format) != 0 {
+        return refusal;
     }
     let width = job.setting.format.w + job.setting.format.f + 1;
-    first(word_cause(width, r1), word_cause(width, r2))
+    let words = first(word_cause(width, r1), word_cause(width, r2));
+    first(refusal, words)
 }

@@ -59,8 +59,20 @@ fn refused() {
     list(b"operation\n", b"\x00\x03\x04\x02");
     list(b"mode\n", b"\x10\x03\x04\x00\x05");
     list(
-        b"mask too wide\n",
+        b"a's mask too wide\n",
         b"\x01\x03\x04\x00\x00\x01\x00\x00\x00\x00\x00\x00",
+    );
+    list(
+        b"b's mask too wide\n",
+        b"\x02\x03\x04\x00\x00\x01\x00\x00\x00\x00\x00\x00",
+    );
+    list(
+        b"c's mask too wide, and the carry mask\n",
+        b"\x0c\x03\x04\x00\x00\x01\x00\x00\x00\x00\x00\x00\x20\x00\x00\x00\x00\x00\x00\x00",
+    );
+    list(
+        b"found, then the carry mask too wide\n",
+        b"\x00\x03\x04\x00\x08\x03\x04\x00\x20\x00\x00\x00\x00\x00\x00\x00",
     );
     list(
         b"random word too wide\n",

@@ -1,15 +1,20 @@
--- What the checks of a mask tell: a mask has no cause exactly when it is well formed, and the Bool of a test is the statement.
+-- What the checks of masks tell: a mask has no cause exactly when it is well formed, the number of four masks names the first malformed one,
+-- and the Bool of a test is the statement.
 -- Assumes nothing.
 use mathlib.Core.Logic.{_↔_}
-use mathlib.Core.Path.{_≡_}
-use mathlib.Core.Bool.{true, and-eq-true-iff}
-use Prim.Native.Nat.{ℕ, _^_}
+use mathlib.Core.Path.{_≡_, refl, sym, _∙_}
+use mathlib.Core.Bool.{Bool, true, false, and-eq-true-iff, false≢true}
+use Prim.Native.Nat.{ℕ, suc, _^_}
 use borrow.Author.Tests.{ltb-true, lt-ltb, eqb-true, eq-eqb}
 use lib.Bits.{bitAnd}
 use lib.Dec.{ltb}
-use Rattle.format.proofs.Laws.{unless-none}
+use Rattle.format.specs.Cause as cause
+use Rattle.format.specs.Cause.{unless, first}
+use Rattle.format.proofs.Laws.{both-none, unless-none}
 use Rattle.mask.specs.declared.Mask.{Mask}
-use Rattle.mask.specs.Mask.{Inside, inside, WellFormed, wellFormed, maskCause, Meets, meets}
+use Rattle.mask.specs.Mask.{Inside, inside, WellFormed, wellFormed, maskCause, masksCause, Meets, meets}
+use Rattle.mask.specs.Named as named
+use Rattle.mask.specs.Named.{Named}
 
 pub meets-true : (x : ℕ) (m : Mask) → (meets x m ≡ true) ↔ Meets x m
 meets-true x m = (eqb-true (bitAnd x (m .care)) (m .value), eq-eqb (bitAnd x (m .care)) (m .value))
@@ -24,9 +29,38 @@ wellFormed-true width m =
       λ w. both .1 (lt-ltb (m .care) (2 ^ width) (w .below), inside-true m .1 (w .inside)),
     )
 
-pub mask-none : (width : ℕ) (m : Mask) → (maskCause width m ≡ 0) ↔ WellFormed width m
+wellFormed-false : (width : ℕ) (m : Mask) → wellFormed width m ≡ false → WellFormed width m → ⊥
+wellFormed-false width m e w = false≢true (sym e ∙ wellFormed-true width m .1 w)
+
+-- a number that is not 0 is suc k
+mask-none : (k width : ℕ) (m : Mask) → (maskCause (suc k) width m ≡ 0) ↔ WellFormed width m
 unfolding maskCause
-mask-none width m =
-    let none = unless-none (wellFormed width m) 4 in
+mask-none k width m =
+    let none = unless-none (wellFormed width m) k in
     let formed = wellFormed-true width m in
     ((λ e. formed .0 (none .0 e)), λ w. none .1 (formed .1 w))
+
+module _ (width positions : ℕ) (a b c carries : Mask) where
+  -- four masks have no cause exactly when all are well formed
+  pub masks-none :
+      (masksCause width positions a b c carries ≡ 0)
+      ↔ (WellFormed width a × (WellFormed width b × (WellFormed width c × WellFormed positions carries)))
+  unfolding masksCause
+  masks-none = both-none _ _ (mask-none 4 _ _) (both-none _ _ (mask-none 13 _ _) (both-none _ _ (mask-none 14 _ _) (mask-none 15 _ _)))
+
+  -- their cause names the first malformed one
+  pub masks-named : Named width positions a b c carries (masksCause width positions a b c carries)
+  unfolding maskCause masksCause
+  masks-named = by (wellFormed width a) (wellFormed width b) (wellFormed width c) (wellFormed positions carries) refl refl refl refl
+    where
+      yes : (m : Mask) → wellFormed width m ≡ true → WellFormed width m
+      yes m = wellFormed-true width m .0
+
+      by : (s t u v : Bool) → wellFormed width a ≡ s → wellFormed width b ≡ t → wellFormed width c ≡ u → wellFormed positions carries ≡ v
+          → Named width positions a b c carries
+          (first (unless s cause.mask) (first (unless t cause.secondMask) (first (unless u cause.thirdMask) (unless v cause.carryMask))))
+      by false t u v es et eu ev = named.first (wellFormed-false width a es)
+      by true false u v es et eu ev = named.second (yes a es) (wellFormed-false width b et)
+      by true true false v es et eu ev = named.third (yes a es) (yes b et) (wellFormed-false width c eu)
+      by true true true false es et eu ev = named.carry (yes a es) (yes b et) (yes c eu) (wellFormed-false positions carries ev)
+      by true true true true es et eu ev = named.none (yes a es) (yes b et) (yes c eu) (wellFormed-true positions carries .0 ev)

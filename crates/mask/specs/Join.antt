@@ -1,4 +1,4 @@
--- Joining two masks (document 01, "Masks and choice"; "Causes and replies": 5, value outside care only, then 13).
+-- Joining two masks (document 01, "Masks and choice"; "Causes and replies": 5, value outside care only, then 13; W-203: 5 for either mask).
 -- Joining knows no width. Assumes nothing.
 use mathlib.Core.Path.{_≡_}
 use mathlib.Core.Bool.{Bool, true, false, _&&_}

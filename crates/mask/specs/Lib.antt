@@ -1,2 +1,3 @@
 pub mod Mask
 pub mod Join
+pub mod Named

@@ -1,5 +1,6 @@
--- Masks (document 01, "Masks and choice"): well formed, met by a word, with one more bit fixed, and the parts of a mask.
--- Each test comes twice: as a statement with a capital, which laws and contracts read, and as a Bool, which a check computes.
+-- Masks (document 01, "Masks and choice"): well formed, refused where they are not (W-203), met by a word, with one more bit fixed, and the
+-- parts of a mask.
+-- Each test comes twice: as a statement with a capital, which laws read, and as a Bool, which a check computes and its contract cites.
 -- Assumes nothing.
 use mathlib.Core.Path.{_≡_}
 use mathlib.Core.Bool.{Bool, true, false, _&&_}
@@ -8,7 +9,7 @@ use lib.Dec.{eqb, ltb}
 use lib.Bits.{bitAnd, bitOr}
 use Rattle.bits.specs.Bit.{bit}
 use Rattle.format.specs.Cause as cause
-use Rattle.format.specs.Cause.{unless}
+use Rattle.format.specs.Cause.{unless, first}
 use Rattle.mask.specs.declared.Mask.{Mask}
 
 -- "A value bit outside care must be 0"
@@ -26,9 +27,17 @@ pub record WellFormed (width : ℕ) (m : Mask) : Type 0 where
 abbrev pub wellFormed : ℕ → Mask → Bool
 wellFormed width m = ltb (m .care) (2 ^ width) && inside m
 
--- "mask bit above its width, or value outside care"
-unfoldable pub maskCause : ℕ → Mask → ℕ
-maskCause width m = unless (wellFormed width m) cause.mask
+-- "mask bit above its width, or value outside care": the number that such a mask is given
+unfoldable pub maskCause : ℕ → ℕ → Mask → ℕ
+maskCause number width m = unless (wellFormed width m) number
+
+-- W-203: 5 for a's mask, 14 for b's, 15 for c's, 16 for that of the carries, which have a width of their own, "tested in that order"; in whole
+-- numbers x, y and z stand for a, b and c
+unfoldable pub masksCause : ℕ → ℕ → Mask → Mask → Mask → Mask → ℕ
+masksCause width positions a b c carries =
+    first (maskCause cause.mask width a)
+    (first (maskCause cause.secondMask width b)
+    (first (maskCause cause.thirdMask width c) (maskCause cause.carryMask positions carries)))
 
 -- a word agrees with every fixed bit
 abbrev pub Meets : ℕ → Mask → Type 0

@@ -1,9 +1,10 @@
 // Masks: which bits of a word are fixed, and to what.
 use format::cause;
+use format::first;
 use format::unless;
 use format::word_cause;
 ghost use mathlib.Core.Path.{_≡_};
-ghost use Rattle.mask.specs.Mask.{inside, maskCause, meets, free, fix, low, high};
+ghost use Rattle.mask.specs.Mask.{inside, wellFormed, maskCause, masksCause, meets, free, fix, low, high};
 ghost use Rattle.mask.specs.Join.{agree, join};
 
 // A bit of care fixes that bit to the bit of value.
@@ -25,11 +26,30 @@ fn inside(m: Mask) -> bool
     m.value & m.care == m.value
 }
 
-// 5 where a bit stands above the width, or a value bit outside care; else 0.
-pub fn mask_cause(width: u64, m: Mask) -> u64
-    ensures { λ r. ⌜ r ≡ maskCause width m ⌝ }
+// Whether no bit stands above the width, and no value bit outside care.
+pub fn well_formed(width: u64, m: Mask) -> bool
+    ensures { λ r. ⌜ r ≡ wellFormed width m ⌝ }
 {
-    unless((word_cause(width, m.care) == 0) & inside(m), cause::MASK)
+    (word_cause(width, m.care) == 0) & inside(m)
+}
+
+// The number that is given, where the mask is malformed; else 0.
+fn mask_cause(number: u64, width: u64, m: Mask) -> u64
+    ensures { λ r. ⌜ r ≡ maskCause number width m ⌝ }
+{
+    unless(well_formed(width, m), number)
+}
+
+// The number of the first malformed mask: 5 for a's or x's, 14 for b's or y's, 15 for c's or z's, 16 for the carries', which have so many
+// positions; else 0.
+pub fn masks_cause(width: u64, positions: u64, a: Mask, b: Mask, c: Mask, carries: Mask) -> u64
+    ensures { λ r. ⌜ r ≡ masksCause width positions a b c carries ⌝ }
+{
+    let one = mask_cause(cause::MASK, width, a);
+    let two = mask_cause(cause::SECOND_MASK, width, b);
+    let three = mask_cause(cause::THIRD_MASK, width, c);
+    let four = mask_cause(cause::CARRY_MASK, positions, carries);
+    first(one, first(two, first(three, four)))
 }
 
 // Whether x agrees with every fixed bit.
@@ -70,20 +90,23 @@ fn agree(m: Mask, n: Mask) -> bool
     m.value & both == n.value & both
 }
 
-// The mask that fixes what either fixes; 5 for a value outside care, 13 where the two fix one bit unlike.
+// The mask that fixes what either fixes; 5 for a value outside care in either, 13 where the two fix one bit unlike.
 pub fn join(m: Mask, n: Mask) -> Joined
     ensures { λ r. ⌜ r ≡ join m n ⌝ }
 {
-    if inside(m) & inside(n) {
-        if agree(m, n) {
-            return Joined::Mask(Mask {
-                care: m.care | n.care,
-                value: m.value | n.value,
-            });
-        }
-        return Joined::Refused(cause::CLASH);
+    let one = unless(inside(m), cause::MASK);
+    let other = unless(inside(n), cause::MASK);
+    let refusal = first(one, other);
+    if refusal != 0 {
+        return Joined::Refused(refusal);
     }
-    Joined::Refused(cause::MASK)
+    if agree(m, n) {
+        return Joined::Mask(Mask {
+            care: m.care | n.care,
+            value: m.value | n.value,
+        });
+    }
+    Joined::Refused(cause::CLASH)
 }
 
 // The mask on the low k bits.

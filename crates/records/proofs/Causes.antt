@@ -15,7 +15,7 @@ use Rattle.format.specs.Cause as cause
 use Rattle.format.specs.Cause.{unless, first}
 use Rattle.format.specs.Format.{wordBits, precision, Supported}
 use Rattle.format.specs.declared.Format.{Format}
-use Rattle.format.proofs.Laws.{first-none, unless-none, first-some}
+use Rattle.format.proofs.Laws.{first-none, both-none, unless-none, first-some}
 use Rattle.format.proofs.Room.{word-room}
 use Rattle.mask.specs.declared.Mask.{Mask}
 use Rattle.mask.specs.Mask.{WellFormed}
@@ -101,27 +101,19 @@ module _ (fields word : ℕ) where
       let m : ℕ = getD s 0 0 in
       let d : Bool = saysDefault fieldCount m (layout word) (numbersIn word s) in
       let n : ℕ = recordLength word m in
-      let last = first-none (recordCause (entryIn word s)) (unless (not d) cause.defaultField) in
-      let cut = first-none (unless (leb n (length s)) cause.cut) (first (recordCause (entryIn word s)) (unless (not d) cause.defaultField)) in
-      let map = first-none (unless (ltb m (2 ^ fields)) cause.mapBits) (first (unless (leb n (length s)) cause.cut) (first (recordCause (entryIn word s)) (unless (not d) cause.defaultField))) in (
+      let k : ℕ = recordCause (entryIn word s) in
+      let itself : (k ≡ 0) ↔ (k ≡ 0) = ((λ e. e), λ e. e) in
+      let last = both-none _ _ itself (unless-none (not d) 9) in
+      let law = both-none _ _ (unless-none (ltb m (2 ^ fields)) 8) (both-none _ _ (unless-none (leb n (length s)) 7) last) in (
         (λ z.
-            let y = map .0 z in
-            let x = cut .0 (y .1) in
-            let w = last .0 (x .1) in
+            let y = law .0 z in
             record {
-              map = ltb-true m (2 ^ fields) (unless-none (ltb m (2 ^ fields)) 8 .0 (y .0));
-              whole = leb-true n (length s) (unless-none (leb n (length s)) 7 .0 (x .0));
-              sound = w .0;
-              no-default = not-true d (unless-none (not d) 9 .0 (w .1));
+              map = ltb-true m (2 ^ fields) (y .0);
+              whole = leb-true n (length s) (y .1 .0);
+              sound = y .1 .1 .0;
+              no-default = not-true d (y .1 .1 .1);
             }),
-        λ r.
-            map .1 (
-              unless-none (ltb m (2 ^ fields)) 8 .1 (lt-ltb m (2 ^ fields) (r .map)),
-              cut .1 (
-                unless-none (leb n (length s)) 7 .1 (le-leb n (length s) (r .whole)),
-                last .1 (r .sound, unless-none (not d) 9 .1 (ap not (r .no-default))),
-              ),
-            ),
+        λ r. law .1 (lt-ltb m (2 ^ fields) (r .map), (le-leb n (length s) (r .whole), (r .sound, ap not (r .no-default)))),
       )
 
   -- a reply with a job

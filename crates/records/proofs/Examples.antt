@@ -5,8 +5,8 @@ use mathlib.Core.List.{List, [], _∷_}
 use Prim.Native.Nat.{ℕ}
 use Rattle.format.specs.Format.{formatCause, operationCause, modeCause, wordCause}
 use Rattle.mask.specs.declared.Mask.{Mask}
-use Rattle.mask.specs.Mask.{maskCause}
-use Rattle.job.specs.Job.{settingCause, masksCause, jobCause, requestCause}
+use Rattle.mask.specs.Mask.{maskCause, masksCause}
+use Rattle.job.specs.Job.{settingCause, jobCause, requestCause}
 use Rattle.numbers.specs.Number.{littleEndian}
 use Rattle.numbers.specs.Numbers.{numberBytes}
 use Rattle.layout.specs.Layout.{sizes, mapOf}

@@ -2,7 +2,7 @@
 -- the rest after it, and what writing does to a buffer. An entry is a job with its two random words. Assumes nothing.
 use mathlib.Core.Bool.{not}
 use Prim.Native.Nat.{ℕ, zero, suc, _+_, _^_}
-use mathlib.Core.List.{List, [], _∷_, _++_}
+use mathlib.Core.List.{List, [], _∷_}
 use lib.ListN.{length, getD, drop}
 use lib.Dec.{leb, ltb}
 use Rattle.format.specs.Cause as cause
@@ -26,7 +26,7 @@ use Rattle.records.specs.declared.Writing.the-variants as reply
 abbrev pub headerBytes : ℕ
 headerBytes = 4
 
--- 1 to 6: the cause against the job and its random words
+-- 1 to 6, with 14 to 16 after 5 (W-203): the cause against the job and its random words
 abbrev pub recordCause : Entry → ℕ
 recordCause e = requestCause (e .job) (e .r1) (e .r2)
 

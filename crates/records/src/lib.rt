@@ -47,7 +47,7 @@ pub enum Writing {
     Refused(u64),
 }
 
-// The first of the causes 1 to 6 that stands against the entry, 0 for none.
+// The first of the causes 1 to 6, with 14 to 16 after 5, that stands against the entry, 0 for none.
 pub fn entry_cause(entry: Entry) -> u64
     ensures { λ r. ⌜ r ≡ recordCause entry ⌝ }
 {
@@ -107,7 +107,9 @@ fn read_reply(entry: Entry, map: u64, n: usize) -> First
     ensures { λ r. ⌜ r ≡ readReply (first (recordCause entry) (unless (eqb (entryMap entry) map) cause.defaultField)) entry n ⌝ }
 {
     let same = entry_map(entry) == map;
-    let cause = first(entry_cause(entry), unless(same, cause::DEFAULT_FIELD));
+    let found = entry_cause(entry);
+    let said = unless(same, cause::DEFAULT_FIELD);
+    let cause = first(found, said);
     if cause == 0 {
         return First::Job(entry, n);
     }

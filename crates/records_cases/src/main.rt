@@ -6,9 +6,11 @@ fn main() {
     reading::example();
     writing::example();
     reading::refusals();
+    reading::malformed_masks();
     reading::limits();
     reading::word_sizes();
     writing::lengths();
     writing::refusals();
+    writing::malformed_masks();
     reading::truncations();
 }

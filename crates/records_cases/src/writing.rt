@@ -124,7 +124,7 @@ pub(crate) fn lengths() {
     show(entry(sized(3, 4), 0, 0, free(), free(), 0), 3);
 }
 
-// One entry for each refusal but the last, half of them with no room at all, since 11 comes last.
+// One entry for each of the refusals 1 to 6 and for 16, half of them with no room at all, since 11 comes last.
 pub(crate) fn refusals() {
     show(entry(sized(1, 4), 0, 0, free(), free(), 0), 64);
     show(entry(sized(3, 53), 0, 0, free(), free(), 0), 0);
@@ -134,4 +134,29 @@ pub(crate) fn refusals() {
     show(entry(sized(3, 4), 0, 0, free(), fixed(0x20, 0), 0), 0);
     show(entry(sized(3, 4), 0, 0, fixed(0, 1), free(), 0), 64);
     show(entry(sized(3, 4), 0, 0, free(), free(), 0x100), 0);
+}
+
+// Of these masks the first that is malformed is named, before the first random word, which is too wide, and with no room.
+fn show_masks(a: Mask, b: Mask, c: Mask, carries: Mask) {
+    let setting = Setting {
+        format: sized(3, 4),
+        operation: 0,
+        mode: 0,
+    };
+    let job = masked_job(setting, a, b, c, carries);
+    show(
+        Entry {
+            job,
+            r1: 0x100,
+            r2: 0,
+        },
+        0,
+    );
+}
+
+pub(crate) fn malformed_masks() {
+    show_masks(fixed(0, 1), fixed(0, 1), fixed(0, 1), fixed(0, 1));
+    show_masks(free(), fixed(0, 1), fixed(0, 1), fixed(0, 1));
+    show_masks(free(), free(), fixed(0, 1), fixed(0, 1));
+    show_masks(free(), free(), free(), fixed(0, 1));
 }

@@ -34,15 +34,19 @@ fn word(state: u64) -> u64 {
     (one * 65536 + two) * 4294967296 + three * 65536 + four
 }
 
-// Nothing fixed, or in two of three cases about half of the bits.
+// Nothing fixed, or in two of three cases about half of the bits. Of these one in 16 is malformed: its value is any word.
 fn mask(width: u64, state: u64) -> Mask {
     if state % 3 == 0 {
         return Mask { care: 0, value: 0 };
     }
     let care = bits::low(word(state), width);
+    let value = word(next(state));
+    if state / 3 % 16 == 0 {
+        return Mask { care, value };
+    }
     Mask {
         care,
-        value: care & word(next(state)),
+        value: care & value,
     }
 }
 

@@ -3,7 +3,7 @@ use bits::minus;
 use bits::power;
 use mask::Mask;
 use mask::fix;
-use mask::mask_cause;
+use mask::well_formed;
 use rounding::alignment::aligned;
 use rounding::width::MASK_BITS;
 use rounding::width::SHORT;
@@ -69,7 +69,7 @@ pub fn tail_mask(p: u64, m: Mask, gap: u64) -> Mask
     ensures { λ r. ⌜ r ≡ tailMask p m gap ⌝ }
 {
     if p <= SHORT {
-        if mask_cause(p, m) == 0 {
+        if well_formed(p, m) {
             return aligned_mask(p, m, gap);
         }
     }

@@ -8,11 +8,11 @@ use format::limits;
 use format::within;
 use format::word_cause;
 use mask::Mask;
-use mask::mask_cause;
+use mask::masks_cause;
 ghost use mathlib.Core.Path.{_≡_};
-ghost use Prim.Native.Nat.{_^_, _≤_, _<_};
+ghost use Prim.Native.Nat.{_^_, _<_};
 ghost use Rattle.format.specs.Limits.{mostLength};
-ghost use Rattle.whole.specs.Job.{masksCause, wordsCause, jobCause};
+ghost use Rattle.whole.specs.Job.{wordsCause, jobCause};
 ghost use Rattle.whole.specs.Choice.{Chosen};
 ghost use Rattle.whole.specs.Reply.{Replied};
 ghost use Rattle.whole.specs.Walk.{Ready, caseOf};
@@ -58,18 +58,6 @@ pub enum Role {
     Z,
 }
 
-// 5 where a mask is not well formed; that of the carries is one bit longer.
-fn masks_cause(length: u64, masks: Masks) -> u64
-    requires { ⌜ length ≤ mostLength ⌝ }
-    ensures { λ r. ⌜ r ≡ masksCause length masks ⌝ }
-{
-    let x = mask_cause(length, masks.x);
-    let y = mask_cause(length, masks.y);
-    let z = mask_cause(length, masks.z);
-    let carries = mask_cause(length + 1, masks.carries);
-    first(first(x, y), first(z, carries))
-}
-
 // 6 where a random word is too long.
 fn words_cause(length: u64, words: Words) -> u64
     ensures { λ r. ⌜ r ≡ wordsCause length words ⌝ }
@@ -79,7 +67,7 @@ fn words_cause(length: u64, words: Words) -> u64
     first(x, first(y, word_cause(length, words.z)))
 }
 
-// 12, 5 or 6 where the job is refused as it stands, else 0.
+// 12, 5, 14, 15, 16 or 6 where the job is refused as it stands, else 0. The carry mask is one bit longer.
 pub fn job_cause(job: Job) -> u64
     ensures { λ r. ⌜ r ≡ jobCause job ⌝ }
 {
@@ -87,10 +75,16 @@ pub fn job_cause(job: Job) -> u64
     if !within(limits::LEAST_LENGTH, limits::MOST_LENGTH, length) {
         return cause::WHOLE_LENGTH;
     }
-    first(
-        masks_cause(length, job.masks),
-        words_cause(length, job.words),
-    )
+    let masks = masks_cause(
+        length,
+        length + 1,
+        job.masks.x,
+        job.masks.y,
+        job.masks.z,
+        job.masks.carries,
+    );
+    let words = words_cause(length, job.words);
+    first(masks, words)
 }
 
 // The case of three numbers that make one: the carry in and the carries follow from them.

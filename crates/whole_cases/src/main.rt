@@ -111,12 +111,23 @@ fn show_length_31() {
 }
 
 fn show_refused() {
-    show(whole::generate(job(0, free(), free(), free(), free(), words(0, 0, 0))));
+    show(whole::generate(job(0, fixed(1, 3), free(), free(), free(), words(4, 0, 0))));
     show(whole::generate(job(33, free(), free(), free(), free(), words(0, 0, 0))));
-    show(whole::generate(job(2, free(), free(), fixed(4, 0), free(), words(4, 0, 0))));
-    show(whole::generate(job(2, free(), free(), free(), fixed(7, 7), words(4, 0, 0))));
-    show(whole::generate(job(2, fixed(1, 3), free(), free(), free(), words(0, 0, 0))));
     show(whole::generate(job(2, free(), free(), free(), free(), words(0, 0, 4))));
+}
+
+// The reply for masks of a length of 2, with a word that is too long.
+fn show_masks(x: Mask, y: Mask, z: Mask, carries: Mask) {
+    show(whole::generate(job(2, x, y, z, carries, words(4, 0, 0))));
+}
+
+// Of malformed masks the first is named, and the word where there is none.
+fn show_malformed() {
+    show_masks(fixed(4, 0), fixed(4, 0), fixed(4, 0), fixed(8, 0));
+    show_masks(free(), fixed(1, 3), fixed(1, 3), fixed(8, 0));
+    show_masks(free(), free(), fixed(4, 0), fixed(8, 0));
+    show_masks(free(), free(), free(), fixed(8, 0));
+    show_masks(free(), free(), free(), fixed(7, 7));
 }
 
 fn main() {
@@ -124,5 +135,6 @@ fn main() {
     show_length_32();
     show_length_31();
     show_refused();
+    show_malformed();
     io::write_all(STDOUT_FILENO, b"end\n");
 }

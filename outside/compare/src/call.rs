@@ -1,6 +1,6 @@
 //! One call held against the reply that the second implementation gives.
 
-use second::format::{Refusal, BUFFER_TOO_SHORT};
+use second::format::{Refusal, BUFFER_TOO_SHORT, LAST_REFUSAL};
 use second::random::Random;
 
 /// The numbers of an answer, or the number of a refusal.
@@ -10,13 +10,18 @@ pub type Reply = Result<Vec<u64>, Refusal>;
 /// was read have a first number other than 0, so those answers are counted besides.
 #[derive(Default)]
 pub struct Tally {
-    returned: [u64; 14],
+    returned: [u64; LAST_REFUSAL as usize + 1],
     not_zero: u64,
 }
 
 impl Tally {
     pub fn calls(&self) -> u64 {
         self.returned.iter().sum()
+    }
+
+    /// How often a refusal came.
+    pub fn refused(&self, number: Refusal) -> u64 {
+        self.returned[usize::from(number)]
     }
 
     /// The line of a table: the calls, the answers, and each refusal that came.
@@ -34,6 +39,9 @@ impl Tally {
         )
     }
 }
+
+/// A part of the comparison: so many calls, files or jobs.
+pub type Part = fn(&mut Random, u64) -> Result<Tally, String>;
 
 /// A buffer of random bytes, most often long enough for every answer.
 fn buffer(random: &mut Random) -> Vec<u8> {
@@ -60,6 +68,14 @@ fn expected(reply: &Reply, before: &[u8]) -> (u64, Vec<u8>) {
     }
 }
 
+/// A reply as text, a refusal's number in decimal and the numbers of an answer in hexadecimal.
+fn text(reply: &Reply) -> String {
+    match reply {
+        Err(number) => format!("refusal {number}"),
+        Ok(numbers) => format!("{numbers:x?}"),
+    }
+}
+
 /// Calls the library with a random buffer and compares the number and every byte of the buffer.
 /// The text, made only where they differ, says what was asked.
 pub fn compare(
@@ -75,9 +91,10 @@ pub fn compare(
     let wanted = expected(reply, &before);
     if (number, &after) != (wanted.0, &wanted.1) {
         return Err(format!(
-            "{}\n  second: {reply:x?}\n  buffer before: {before:02x?}\n  wanted {} and {:02x?}\n  \
+            "{}\n  second: {}\n  buffer before: {before:02x?}\n  wanted {} and {:02x?}\n  \
              came   {number} and {after:02x?}",
             asked(),
+            text(reply),
             wanted.0,
             wanted.1,
         ));

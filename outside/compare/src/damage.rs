@@ -1,8 +1,10 @@
-//! Numbers, words and files that are not as they should be, or nearly.
+//! Numbers, words, masks and files that are not as they should be, or nearly.
 
-use second::format::{LARGEST_F, LARGEST_W};
+use second::choice::Job;
+use second::format::{LARGEST_F, LARGEST_MODE, LARGEST_W};
 use second::random::Random;
-use second::record::word_bytes;
+use second::record::{map_of, unchecked, word_bytes};
+use second::sample::malform_job;
 
 /// A number up to just above a limit, or any.
 pub fn damaged_number(random: &mut Random, limit: u64) -> u64 {
@@ -68,6 +70,37 @@ pub fn any_raw_record(random: &mut Random) -> Vec<u8> {
         0 => record.truncate(record.len() - 1 - random.below(4) as usize),
         1 => record.resize(record.len() + 1 + random.below(4) as usize, 0),
         _ => {}
+    }
+    record
+}
+
+/// One to four of a job's four masks, as a set whose bit 0 stands for the first.
+pub fn some_masks(random: &mut Random) -> u64 {
+    1 + random.below(15)
+}
+
+/// The record of a job with one to four of its masks malformed. Every second time there is another
+/// fault beside them, or nearly: a number near or above its limit, a random word that is too wide,
+/// a field that says its default, or damaged bytes.
+pub fn malformed_record(random: &mut Random, job: &Job) -> Vec<u8> {
+    let mut job = *job;
+    let set = some_masks(random);
+    malform_job(random, &mut job, set);
+    let fault = random.below(14);
+    let c = &mut job.conditions;
+    let width = (c.w + c.f + 1) as u32;
+    match fault {
+        0 => c.w = damaged_number(random, LARGEST_W),
+        1 => c.f = damaged_number(random, LARGEST_F),
+        2 => c.operation = damaged_number(random, 1),
+        3 => c.mode = damaged_number(random, LARGEST_MODE),
+        4 => job.words[random.below(2) as usize] = damaged_word(random, 0, width),
+        _ => {}
+    }
+    let more = if fault == 5 { random.bits(6) } else { 0 };
+    let mut record = unchecked(map_of(&job) | more as u8, &job);
+    if fault == 6 {
+        damage_file(random, &mut record);
     }
     record
 }

@@ -12,7 +12,7 @@ use second::table::Table;
 use vindacsor::buffer;
 
 use crate::call::{self, compare, Tally};
-use crate::damage::{any_raw_record, damage_file, damaged_word};
+use crate::damage::{any_raw_record, damage_file, damaged_word, malformed_record};
 use crate::numbers::every_adder;
 
 /// The job that a function which wants one takes from a file.
@@ -24,9 +24,22 @@ fn job_in(file: &[u8]) -> Result<Job, Refusal> {
     }
 }
 
-/// The record of a job that is not refused with 1 to 6.
+/// The record of a job that no number but 7 refuses.
 pub fn record(job: &Job) -> Vec<u8> {
     encode(job).expect("a well-made job")
+}
+
+/// What reading, confirmation of the case a, b, c and the generator return for a record. The lent
+/// bytes are as they were where all three refuse.
+pub fn returned(record: &[u8], [a, b, c]: [u64; 3]) -> [u64; 3] {
+    let mut out = [0xA5; 40];
+    let numbers = [
+        buffer::read(record, &mut out),
+        buffer::confirm(record, a, b, c, &mut out),
+        buffer::generate(record, &mut out),
+    ];
+    assert_eq!(out == [0xA5; 40], !numbers.contains(&0), "{record:02x?}");
+    numbers
 }
 
 /// A job of any format; about `care` of 64 bits are fixed in the masks of a and b.
@@ -42,7 +55,7 @@ fn case_numbers(case: Case) -> Vec<u64> {
 }
 
 /// One to three records, damaged but for one file in eight; some files are random bytes, and some
-/// end with a record that has any bytes for w and f.
+/// end with a record that has any bytes for w and f, or malformed masks.
 pub fn damaged_file(random: &mut Random) -> Vec<u8> {
     let kind = random.below(16);
     if kind == 0 {
@@ -56,6 +69,10 @@ pub fn damaged_file(random: &mut Random) -> Vec<u8> {
     match kind {
         1..=2 => any_raw_record(random),
         3..=4 => [file, any_raw_record(random)].concat(),
+        5..=7 => {
+            let job = any_job(random, 32);
+            [file, malformed_record(random, &job)].concat()
+        }
         _ if random.one_in(8) => file,
         _ => {
             damage_file(random, &mut file);
@@ -64,8 +81,8 @@ pub fn damaged_file(random: &mut Random) -> Vec<u8> {
     }
 }
 
-/// The record of a job; one time of eight it is damaged, and one of sixteen another one stands
-/// there, with any bytes for w and f.
+/// The record of a job; one time of eight it is damaged, one of eight it has malformed masks, and
+/// one of sixteen another one stands there, with any bytes for w and f.
 fn perhaps_damaged(random: &mut Random, job: &Job) -> Vec<u8> {
     let mut file = record(job);
     match random.below(16) {
@@ -74,6 +91,7 @@ fn perhaps_damaged(random: &mut Random, job: &Job) -> Vec<u8> {
             damage_file(random, &mut file);
             file
         }
+        3 | 4 => malformed_record(random, job),
         _ => file,
     }
 }

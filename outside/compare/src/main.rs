@@ -5,13 +5,11 @@
 use std::process::ExitCode;
 use std::time::Instant;
 
-use compare::call::Tally;
+use compare::call::Part;
 use compare::{files, numbers, whole};
 use second::random::{seed, Random};
 
 const SEED: u64 = 0x5EED;
-
-type Part = fn(&mut Random, u64) -> Result<Tally, String>;
 
 /// Each part with how many calls, files or jobs it makes.
 const PARTS: [(&str, Part, u64); 10] = [

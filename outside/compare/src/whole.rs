@@ -2,12 +2,13 @@
 
 use second::mask::Mask;
 use second::random::Random;
+use second::sample::malform_whole_job;
 use second::whole::{generate_whole, WholeCase, WholeJob, LARGEST_N};
 use vindacsor::buffer;
 
 use crate::call::{compare, Tally};
-use crate::damage::{damaged_number, damaged_word};
-use crate::numbers::given;
+use crate::damage::{damaged_number, damaged_word, some_masks};
+use crate::numbers;
 
 /// The most bits of x and y together that a job leaves free: the second implementation tries
 /// them all.
@@ -43,7 +44,7 @@ fn job(random: &mut Random) -> WholeJob {
         job.carries.value ^= bit & job.carries.care;
     }
     if random.one_in(8) {
-        damage(random, &mut job, n);
+        damage(random, &mut job);
     }
     job
 }
@@ -66,20 +67,19 @@ fn short_job(random: &mut Random) -> WholeJob {
     }
 }
 
-fn damage(random: &mut Random, job: &mut WholeJob, n: u32) {
-    match random.below(4) {
-        0 => job.n = damaged_number(random, LARGEST_N),
-        1 => job.words[random.below(3) as usize] = damaged_word(random, 0, n),
-        2 => job.carries.care = damaged_word(random, job.carries.care, n + 1),
-        _ => {
-            let mask = match random.below(4) {
-                0 => &mut job.x,
-                1 => &mut job.y,
-                2 => &mut job.z,
-                _ => &mut job.carries,
-            };
-            mask.value |= 1 << random.below(64);
-        }
+/// Malforms one to four masks, three times of four; the length and a random word are bad one time
+/// of four each.
+fn damage(random: &mut Random, job: &mut WholeJob) {
+    let n = job.n as u32;
+    if !random.one_in(4) {
+        let set = some_masks(random);
+        malform_whole_job(random, job, set);
+    }
+    if random.one_in(4) {
+        job.words[random.below(3) as usize] = damaged_word(random, 0, n);
+    }
+    if random.one_in(4) {
+        job.n = damaged_number(random, LARGEST_N);
     }
 }
 
@@ -89,18 +89,23 @@ fn is_quick(job: &WholeJob) -> bool {
         .map_or(true, |n| job.x.free_bits(n) + job.y.free_bits(n) <= FREE)
 }
 
+/// A job of the second implementation as the library takes it.
+pub fn given(job: &WholeJob) -> vindacsor::WholeJob {
+    let [x, y, z, carries] = job.masks().map(numbers::given);
+    vindacsor::WholeJob {
+        length: job.n,
+        x,
+        y,
+        z,
+        carries,
+        words: job.words,
+    }
+}
+
 /// The generator on a job, held against the second implementation.
 fn generation(random: &mut Random, tally: &mut Tally, job: &WholeJob) -> Result<(), String> {
     let reply = generate_whole(job).map(|case| vec![case.x, case.y, case.z, case.carries]);
-    let asked = vindacsor::WholeJob {
-        length: job.n,
-        x: given(job.x),
-        y: given(job.y),
-        z: given(job.z),
-        carries: given(job.carries),
-        words: job.words,
-    };
-    let call = |out: &mut [u8]| buffer::whole(&asked, out);
+    let call = |out: &mut [u8]| buffer::whole(&given(job), out);
     compare(random, tally, &reply, call, || {
         format!("whole numbers {job:x?}")
     })

@@ -1,6 +1,7 @@
 //! A number above the last mode is refused with 4 wherever a mode is taken, and lent bytes are then
 //! as they were; the last mode is taken.
 
+use compare::files;
 use compare::program::listed;
 use second::format::{LARGEST_MODE, UNKNOWN_MODE};
 use vindacsor::buffer;
@@ -10,16 +11,8 @@ fn record(mode: u8) -> [u8; 5] {
     [0x10, 3, 4, 0, mode]
 }
 
-/// What the functions that take a record return for it. They write only where they return 0.
 fn returned(record: &[u8]) -> [u64; 3] {
-    let mut out = [0xA5; 40];
-    let numbers = [
-        buffer::read(record, &mut out),
-        buffer::confirm(record, 0, 0, 0, &mut out),
-        buffer::generate(record, &mut out),
-    ];
-    assert_eq!(out == [0xA5; 40], numbers != [0; 3]);
-    numbers
+    files::returned(record, [0; 3])
 }
 
 #[test]

@@ -15,7 +15,7 @@ pub struct Job {
 }
 
 impl Job {
-    /// Refuses with 1 to 6, in this order.
+    /// Refuses with 1 to 5, 14 to 16, 6, in this order.
     pub fn check(&self) -> Result<Adder, Refusal> {
         let adder = self.conditions.check()?;
         for word in self.words {
@@ -26,7 +26,7 @@ impl Job {
 }
 
 /// The fitting case with the smallest a exclusive-or the first random word, and then the
-/// smallest b exclusive-or the second. Refuses with 1 to 7.
+/// smallest b exclusive-or the second. Refuses with 1 to 5, 14 to 16, 6, 7.
 pub fn generate(job: &Job) -> Result<Case, Refusal> {
     let adder = job.check()?;
     first_fitting(job, &adder, |a, b| Case::of(&adder, a, b))

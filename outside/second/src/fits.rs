@@ -3,7 +3,7 @@
 
 use crate::arith::Adder;
 use crate::format::Refusal;
-use crate::mask::Mask;
+use crate::mask::{check_masks, Mask};
 use crate::row::row;
 
 /// What a job asks of a case: all of the job but its random words. Numbers stand as they
@@ -35,13 +35,21 @@ impl Conditions {
         }
     }
 
-    /// Refuses with 1 to 5, in this order.
+    /// The four masks, in the order in which they are checked and stand in a record.
+    pub fn masks(&self) -> [Mask; 4] {
+        [self.a, self.b, self.c, self.carries]
+    }
+
+    /// The same masks, to be changed.
+    pub fn masks_mut(&mut self) -> [&mut Mask; 4] {
+        [&mut self.a, &mut self.b, &mut self.c, &mut self.carries]
+    }
+
+    /// Refuses with 1 to 5, 14 to 16, in this order.
     pub fn check(&self) -> Result<Adder, Refusal> {
         let adder = Adder::new(self.w, self.f, self.operation, self.mode)?;
-        for mask in [self.a, self.b, self.c] {
-            mask.check(adder.format.width())?;
-        }
-        self.carries.check(adder.format.precision())?;
+        let (width, precision) = (adder.format.width(), adder.format.precision());
+        check_masks(self.masks(), width, precision)?;
         Ok(adder)
     }
 }
@@ -75,7 +83,8 @@ impl Case {
     }
 }
 
-/// Whether the proposed case fits. Refuses with 1 to 6; a case that does not fit is a no.
+/// Whether the proposed case fits. Refuses with 1 to 5, 14 to 16, 6; a case that does not fit is
+/// a no.
 pub fn confirm(conditions: &Conditions, a: u64, b: u64, c: u64) -> Result<bool, Refusal> {
     let adder = conditions.check()?;
     for word in [a, b, c] {

@@ -1,7 +1,7 @@
 //! Limits, refusal numbers and the fixed words of a format
-//! (document 01, "Numbers of a format" and "Causes and replies"; document 02, W-201, W-202).
+//! (document 01, "Numbers of a format" and "Causes and replies"; document 02, W-201 to W-203).
 
-/// The number of a refusal, 1 to 13.
+/// The number of a refusal, 1 to 16.
 pub type Refusal = u8;
 
 /// w below 2 or above 11.
@@ -12,7 +12,8 @@ pub const F_OUT_OF_RANGE: Refusal = 2;
 pub const UNKNOWN_OPERATION: Refusal = 3;
 /// Mode above 4.
 pub const UNKNOWN_MODE: Refusal = 4;
-/// Mask bit above its width, or value outside care.
+/// a's or x's mask malformed: a bit above its width, or a value bit outside care. In joining,
+/// either mask: a value bit outside care.
 pub const BAD_MASK: Refusal = 5;
 /// Operand, proposed or random word above w + f + 1 bits, or above N bits for whole numbers.
 pub const WORD_TOO_WIDE: Refusal = 6;
@@ -30,6 +31,14 @@ pub const BUFFER_TOO_SHORT: Refusal = 11;
 pub const N_OUT_OF_RANGE: Refusal = 12;
 /// Two masks fix one bit unlike.
 pub const MASKS_DISAGREE: Refusal = 13;
+/// b's or y's mask malformed.
+pub const BAD_SECOND_MASK: Refusal = 14;
+/// c's or z's mask malformed.
+pub const BAD_THIRD_MASK: Refusal = 15;
+/// The carry mask malformed.
+pub const BAD_CARRY_MASK: Refusal = 16;
+/// The largest of these numbers.
+pub const LAST_REFUSAL: Refusal = BAD_CARRY_MASK;
 
 pub const SMALLEST_W: u64 = 2;
 pub const LARGEST_W: u64 = 11;

@@ -11,7 +11,7 @@
 //! - `operand`: the kinds of operand and their magnitudes in smallest steps
 //! - `arith`: the rounded result
 //! - `row`: the carry row
-//! - `mask`: masks, well formed, met, joined, and the words that meet one
+//! - `mask`: masks, well formed, met, joined, the four of a job, and the words that meet one
 //! - `fits`: conditions, the definition of a fitting case, confirmation
 //! - `choice`: jobs and the generator by trying pairs
 //! - `table`: the same search for many jobs over one small format

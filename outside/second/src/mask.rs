@@ -1,7 +1,9 @@
-//! Masks (document 01, "Masks and choice"): well formed, met, joined, and the words that
-//! meet one.
+//! Masks (document 01, "Masks and choice"; document 02, W-203): well formed, met, joined, the four
+//! of a job, and the words that meet one.
 
-use crate::format::{ones, Refusal, BAD_MASK, MASKS_DISAGREE};
+use crate::format::{
+    ones, Refusal, BAD_CARRY_MASK, BAD_MASK, BAD_SECOND_MASK, BAD_THIRD_MASK, MASKS_DISAGREE,
+};
 
 /// Two words: in `care` a 1 says that the bit is fixed, `value` says to what.
 #[derive(Clone, Copy, Debug, PartialEq, Eq)]
@@ -19,12 +21,12 @@ impl Mask {
         self.is_within_care() && self.care <= ones(width)
     }
 
-    /// Refuses with 5.
-    pub fn check(&self, width: u32) -> Result<(), Refusal> {
+    /// Refuses a malformed mask with the number that its place has.
+    fn check(&self, width: u32, number: Refusal) -> Result<(), Refusal> {
         if self.is_well_formed(width) {
             Ok(())
         } else {
-            Err(BAD_MASK)
+            Err(number)
         }
     }
 
@@ -79,6 +81,24 @@ impl Mask {
     }
 }
 
+/// The four masks of a job: of a, b, c and the carries, or of x, y, z and the carries. The first
+/// three have `width` bits. Refuses with 5, 14, 15, 16, in this order.
+pub fn check_masks(
+    [first, second, third, carries]: [Mask; 4],
+    width: u32,
+    carries_width: u32,
+) -> Result<(), Refusal> {
+    for (mask, width, number) in [
+        (first, width, BAD_MASK),
+        (second, width, BAD_SECOND_MASK),
+        (third, width, BAD_THIRD_MASK),
+        (carries, carries_width, BAD_CARRY_MASK),
+    ] {
+        mask.check(width, number)?;
+    }
+    Ok(())
+}
+
 /// The words that meet a mask, nearest to a target first. They differ from `start`, the
 /// nearest of all, in free bits only, and on fixed bits all of them differ from the target
 /// alike. So the order by exclusive-or with the target is the order of the difference from
@@ -130,6 +150,7 @@ mod tests {
         assert_eq!(mask(3, 1).join(&mask(6, 2)), Err(MASKS_DISAGREE));
         assert_eq!(mask(3, 4).join(&mask(3, 1)), Err(BAD_MASK));
         assert_eq!(mask(3, 1).join(&mask(0, 1)), Err(BAD_MASK));
+        assert_eq!(mask(3, 4).join(&mask(0, 1)), Err(BAD_MASK));
         // 5 comes before 13.
         assert_eq!(mask(1, 1).join(&mask(1, 2)), Err(BAD_MASK));
         assert_eq!(Mask::FREE.join(&mask(u64::MAX, 9)), Ok(mask(u64::MAX, 9)));

@@ -35,7 +35,7 @@ pub enum Reply {
 }
 
 /// What stands first, and the rest of the file: what follows the record, or on a refusal the
-/// file from the refused record on. Refuses with 9, 8, 1 to 6, 10.
+/// file from the refused record on. Refuses with 9, 8, 1 to 5, 14 to 16, 6, 10.
 pub fn read(file: &[u8]) -> (Reply, &[u8]) {
     let Some(&map) = file.first() else {
         return (Reply::End, file);
@@ -154,23 +154,18 @@ fn low_byte_first(bytes: &[u8]) -> u64 {
 }
 
 /// The map byte that announces exactly the fields that differ from their default.
-fn map_of(job: &Job) -> u8 {
-    let c = &job.conditions;
-    let stated = [
-        c.a != Mask::FREE,
-        c.b != Mask::FREE,
-        c.c != Mask::FREE,
-        c.carries != Mask::FREE,
-        c.mode != 0,
-        job.words != [0, 0],
-    ];
+pub fn map_of(job: &Job) -> u8 {
+    let [a, b, c, carries] = job.conditions.masks().map(|mask| mask != Mask::FREE);
+    let mode = job.conditions.mode != 0;
+    let words = job.words != [0, 0];
+    let stated = [a, b, c, carries, mode, words];
     (0..stated.len())
         .map(|bit| u8::from(stated[bit]) << bit)
         .sum()
 }
 
-/// Writes the record at the front of the buffer and returns its byte count. Refuses with 1
-/// to 6, 11; a refusal leaves the buffer as it was.
+/// Writes the record at the front of the buffer and returns its byte count. Refuses with 1 to 5,
+/// 14 to 16, 6, 11; a refusal leaves the buffer as it was.
 pub fn write(job: &Job, buffer: &mut [u8]) -> Result<usize, Refusal> {
     let record = encode(job)?;
     let Some(place) = buffer.get_mut(..record.len()) else {
@@ -180,18 +175,25 @@ pub fn write(job: &Job, buffer: &mut [u8]) -> Result<usize, Refusal> {
     Ok(record.len())
 }
 
-/// The bytes of a job's record. Refuses with 1 to 6.
+/// The bytes of a job's record. Refuses with 1 to 5, 14 to 16, 6.
 pub fn encode(job: &Job) -> Result<Vec<u8>, Refusal> {
     job.check()?;
+    Ok(unchecked(map_of(job), job))
+}
+
+/// The bytes of a job, good or not, in a record with any map. What does not fit into the bytes of a
+/// number or a word is cut off; of a checked job nothing is.
+pub fn unchecked(map: u8, job: &Job) -> Vec<u8> {
     let c = &job.conditions;
-    let layout = Layout::of(map_of(job), c.w, c.f);
-    let mut record = vec![layout.map, c.w as u8, c.f as u8, c.operation as u8];
-    for (bit, mask) in [c.a, c.b, c.c, c.carries].into_iter().enumerate() {
+    let [w, f, operation, mode] = [c.w, c.f, c.operation, c.mode].map(|number| number as u8);
+    let layout = Layout::of(map, u64::from(w), u64::from(f));
+    let mut record = vec![map, w, f, operation];
+    for (bit, mask) in c.masks().into_iter().enumerate() {
         put_words(&mut record, layout, bit, [mask.care, mask.value]);
     }
-    put(&mut record, layout, MODE, &[c.mode as u8]);
+    put(&mut record, layout, MODE, &[mode]);
     put_words(&mut record, layout, WORDS, job.words);
-    Ok(record)
+    record
 }
 
 /// Adds a field where its bit stands in the map.
@@ -199,7 +201,7 @@ fn put(record: &mut Vec<u8>, layout: Layout, bit: usize, field: &[u8]) {
     record.extend_from_slice(&field[..layout.field_bytes(bit)]);
 }
 
-/// Adds a field of two words. A checked job has no word with a bit above the bytes of a word.
+/// Adds a field of two words, each cut to the bytes of a word.
 fn put_words(record: &mut Vec<u8>, layout: Layout, bit: usize, words: [u64; 2]) {
     let bytes = words.map(u64::to_le_bytes);
     let [first, second] = [0, 1].map(|i: usize| &bytes[i][..layout.word_bytes]);

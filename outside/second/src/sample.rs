@@ -1,12 +1,14 @@
 //! Random words, pairs and jobs that favour hard places: close exponents, cancellation,
-//! subnormal numbers, ties, overflow, special words. For test programs.
+//! subnormal numbers, ties, overflow, special words; and malformed masks. For test programs.
 
 use crate::arith::Adder;
 use crate::choice::Job;
 use crate::fits::{Case, Conditions};
-use crate::format::{Format, LARGEST_F, LARGEST_MODE, LARGEST_W, SMALLEST_F, SMALLEST_W};
+use crate::format::{ones, Format, LARGEST_F, LARGEST_MODE, LARGEST_W, SMALLEST_F, SMALLEST_W};
 use crate::mask::Mask;
 use crate::random::Random;
+use crate::record::word_bytes;
+use crate::whole::WholeJob;
 
 /// A word of the format, often with a special exponent or a special fraction.
 pub fn word(random: &mut Random, format: Format) -> u64 {
@@ -117,7 +119,7 @@ pub fn all_but_few([w, f, _, _]: [u64; 4]) -> u64 {
     64 - 64 * 6 / (2 * (w + f + 1))
 }
 
-/// A job that is not refused with 1 to 6. Its masks take their values from a true case,
+/// A job that no number but 7 refuses. Its masks take their values from a true case,
 /// and in one of two jobs one fixed bit is turned, so that both answers are frequent. In
 /// each of the masks of a and b about `care_a_b` of 64 bits are fixed.
 pub fn job(random: &mut Random, numbers: [u64; 4], care_a_b: u64) -> Job {
@@ -145,8 +147,8 @@ pub fn job(random: &mut Random, numbers: [u64; 4], care_a_b: u64) -> Job {
     Job { conditions, words }
 }
 
-/// A job that is not refused with 1 to 6, whose masks are made around no case: each fixes about
-/// a quarter, a half or three quarters of its bits, at random.
+/// A job that no number but 7 refuses, whose masks are made around no case: each fixes about a
+/// quarter, a half or three quarters of its bits, at random.
 pub fn unrelated_job(random: &mut Random, numbers: [u64; 4]) -> Job {
     let [w, f, operation, mode] = numbers;
     let format = Format::new(w, f).expect("numbers within their limits");
@@ -192,4 +194,66 @@ fn turn(random: &mut Random, conditions: &mut Conditions) {
     };
     let mut bits = (0..64).map(|i| 1 << i).filter(|bit| mask.care & bit != 0);
     mask.value ^= bits.nth(place as usize).expect("as many as were counted");
+}
+
+/// A whole-number job of a length from 1 to 32 in which every bit is fixed to 0.
+pub fn zeros(n: u64) -> WholeJob {
+    let fixed = |width: u64| Mask {
+        care: ones(width as u32),
+        value: 0,
+    };
+    WholeJob {
+        n,
+        x: fixed(n),
+        y: fixed(n),
+        z: fixed(n),
+        carries: fixed(n + 1),
+        words: [0; 3],
+    }
+}
+
+/// Malforms the masks of a set, whose bit 0 stands for the first of a job's four, in ways that the
+/// job's record can state. The other masks stay.
+pub fn malform_job(random: &mut Random, job: &mut Job, set: u64) {
+    let c = &mut job.conditions;
+    let widths = [c.w + c.f + 1, c.f + 1].map(|width| width as u32);
+    let room = 8 * word_bytes(c.w, c.f) as u32;
+    malform(random, c.masks_mut(), set, widths, room);
+}
+
+/// The same for whole numbers, where a mask is given in 64 bits.
+pub fn malform_whole_job(random: &mut Random, job: &mut WholeJob, set: u64) {
+    let n = job.n as u32;
+    malform(random, job.masks_mut(), set, [n, n + 1], 64);
+}
+
+/// Malforms the masks of a set. The first three have `width` bits, and each is given in `room` bits.
+fn malform(
+    random: &mut Random,
+    masks: [&mut Mask; 4],
+    set: u64,
+    [width, carries_width]: [u32; 2],
+    room: u32,
+) {
+    let widths = [width, width, width, carries_width];
+    for (place, (mask, width)) in masks.into_iter().zip(widths).enumerate() {
+        if set >> place & 1 == 1 {
+            malform_one(random, mask, u64::from(width), u64::from(room));
+        }
+    }
+}
+
+/// A value bit outside care, or, where there is room, a bit above the width, every second time the
+/// first one there: in care, in value or in both.
+fn malform_one(random: &mut Random, mask: &mut Mask, width: u64, room: u64) {
+    if width == room || random.one_in(2) {
+        let bit = 1 << random.below(width);
+        mask.care &= !bit;
+        mask.value |= bit;
+    } else {
+        let bit = 1 << (width + random.below(2) * random.below(room - width));
+        let stands_in = 1 + random.below(3);
+        mask.care |= bit * (stands_in & 1);
+        mask.value |= bit * (stands_in >> 1);
+    }
 }

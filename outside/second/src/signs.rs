@@ -26,8 +26,8 @@ pub fn leave_no_case(conditions: &Conditions, adder: &Adder) -> bool {
     is_fixed(conditions.a, 0) && is_fixed(conditions.b, plus) && is_fixed(conditions.c, sign)
 }
 
-/// The refusal of a job that is refused with 1 to 6, or with 7 because of its signs; none where
-/// only trying pairs can tell.
+/// The refusal of a job that another number than 7 refuses, or that has no case because of its
+/// signs; none where only trying pairs can tell.
 pub fn refusal(job: &Job) -> Option<Refusal> {
     match job.check() {
         Err(number) => Some(number),

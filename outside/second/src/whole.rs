@@ -2,7 +2,7 @@
 //! paragraph). The work doubles with every free bit of x and y.
 
 use crate::format::{check_width, Refusal, NO_CASE, N_OUT_OF_RANGE};
-use crate::mask::Mask;
+use crate::mask::{check_masks, Mask};
 
 pub const LARGEST_N: u64 = 32;
 
@@ -27,16 +27,23 @@ pub struct WholeCase {
 }
 
 impl WholeJob {
-    /// Refuses with 12, 5, 6 and gives N.
+    /// The four masks, in the order in which they are checked.
+    pub fn masks(&self) -> [Mask; 4] {
+        [self.x, self.y, self.z, self.carries]
+    }
+
+    /// The same masks, to be changed.
+    pub fn masks_mut(&mut self) -> [&mut Mask; 4] {
+        [&mut self.x, &mut self.y, &mut self.z, &mut self.carries]
+    }
+
+    /// Refuses with 12, 5, 14 to 16, 6 and gives N.
     pub fn check(&self) -> Result<u32, Refusal> {
         if !(1..=LARGEST_N).contains(&self.n) {
             return Err(N_OUT_OF_RANGE);
         }
         let n = self.n as u32;
-        for mask in [self.x, self.y, self.z] {
-            mask.check(n)?;
-        }
-        self.carries.check(n + 1)?;
+        check_masks(self.masks(), n, n + 1)?;
         for word in self.words {
             check_width(word, n)?;
         }
@@ -66,7 +73,7 @@ impl WholeCase {
 }
 
 /// The fitting case with the smallest x exclusive-or the first word, then y with the second,
-/// then z with the third. Refuses with 12, 5, 6, 7.
+/// then z with the third. Refuses with 12, 5, 14 to 16, 6, 7.
 pub fn generate_whole(job: &WholeJob) -> Result<WholeCase, Refusal> {
     let n = job.check()?;
     let [first, second, third] = job.words;

@@ -118,11 +118,11 @@ fn defaults_are_refused() {
             Reply::Job(_)
         ));
     }
-    // A value outside care is 5, and not a default.
-    assert_eq!(
-        reply("01 03 04 00 00 00 00 00 01 00 00 00"),
-        Reply::Refused(5)
-    );
+    // A value outside care is a malformed mask, and not a default.
+    for (map, number) in [("01", 5), ("02", 14), ("04", 15), ("08", 16)] {
+        let outside = reply(&format!("{map} 03 04 00 00 00 00 00 01 00 00 00"));
+        assert_eq!(outside, Reply::Refused(number));
+    }
 }
 
 #[test]

@@ -1,5 +1,5 @@
 //! Refusals and their order: where several causes are present at once, the first one in
-//! the order of the function is the answer.
+//! the order of the function is the answer. Each mask is malformed in each of the two ways.
 
 use second::arith::rounded;
 use second::choice::{generate, Job};
@@ -27,25 +27,38 @@ fn pick<T>(causes: &[Refusal], cause: Refusal, good: T, bad: T) -> T {
     }
 }
 
-/// A job of format 3/4 with exactly these of the causes 1 to 7.
-fn job(causes: &[Refusal]) -> Job {
+/// The four masks of a job, all malformed in the same way: by a value bit outside care, or by a
+/// bit just above the width.
+fn malformed([width, carries_width]: [u32; 2]) -> [[Mask; 4]; 2] {
+    let above = |width: u32| Mask {
+        care: 1 << width,
+        value: 0,
+    };
+    [
+        [Mask { care: 2, value: 3 }; 4],
+        [width, width, width, carries_width].map(above),
+    ]
+}
+
+/// The widths of the masks in format 3/4.
+const WIDTHS: [u32; 2] = [8, 5];
+
+/// A job of format 3/4 with exactly these of the causes that a job can have, and these masks where
+/// one is malformed.
+fn job(causes: &[Refusal], bad: &[Mask; 4]) -> Job {
     let mut conditions = Conditions::free(
         pick(causes, 1, 3, 12),
         pick(causes, 2, 4, 1),
         pick(causes, 3, 1, 2),
         pick(causes, 4, 2, 5),
     );
-    conditions.a = Mask {
-        care: 0x7F,
-        value: 0x30,
-    };
-    conditions.b = pick(causes, 5, Mask::FREE, Mask { care: 2, value: 3 });
+    let fixed = |care, value| Mask { care, value };
+    conditions.a = pick(causes, 5, fixed(0x7F, 0x30), bad[0]);
+    conditions.b = pick(causes, 14, Mask::FREE, bad[1]);
     // 30 − b is never this NaN.
-    let unmet = Mask {
-        care: 0xFF,
-        value: 0x7F,
-    };
-    conditions.c = pick(causes, 7, Mask::FREE, unmet);
+    let c = pick(causes, 7, Mask::FREE, fixed(0xFF, 0x7F));
+    conditions.c = pick(causes, 15, c, bad[2]);
+    conditions.carries = pick(causes, 16, Mask::FREE, bad[3]);
     Job {
         conditions,
         words: [0x55, pick(causes, 6, 0x77, 1 << 40)],
@@ -54,14 +67,15 @@ fn job(causes: &[Refusal]) -> Job {
 
 #[test]
 fn rounded_result_and_row() {
+    let [bad, _] = malformed(WIDTHS);
     for set in subsets(&[1, 2, 3, 4, 6]) {
-        let c = job(&set).conditions;
+        let c = job(&set, &bad).conditions;
         let b = pick(&set, 6, 0x77, 0x100_0000_0000);
         let answer = rounded(c.w, c.f, c.operation, c.mode, 0x30, b);
         assert_eq!(answer.err(), set.first().copied());
     }
     for set in subsets(&[1, 2, 3, 6]) {
-        let c = job(&set).conditions;
+        let c = job(&set, &bad).conditions;
         let a = pick(&set, 6, 0x30, 0x100_0000_0000);
         let answer = carry_row(c.w, c.f, c.operation, a, 0x77);
         assert_eq!(answer.err(), set.first().copied());
@@ -88,61 +102,51 @@ fn words_are_refused_from_their_width_on() {
     assert_eq!(rounded(3, 4, 0, 1 << 32, 0, 0), Err(4));
 }
 
+/// The generator and confirmation on a job with these causes.
+fn ask(causes: &[Refusal], bad: &[Mask; 4]) {
+    let job = job(causes, bad);
+    let first = causes.first().copied();
+    assert_eq!(generate(&job).err(), first);
+    for place in 0..3 {
+        let mut words = [0x30, 0, 0x30];
+        words[place] |= pick(causes, 6, 0, 1 << 38);
+        let [a, b, c] = words;
+        let answer = confirm(&job.conditions, a, b, c);
+        assert_eq!(answer.err(), first.filter(|&number| number != NO_CASE));
+    }
+}
+
 #[test]
 fn generator_and_confirmation() {
-    for set in subsets(&[1, 2, 3, 4, 5, 6, 7]) {
-        assert_eq!(generate(&job(&set)).err(), set.first().copied());
-        let proposed = pick(&set, 6, 0, 1 << 8);
-        let expected = set.first().copied().filter(|&number| number != NO_CASE);
-        for place in 0..3 {
-            let mut words = [0x30, 0, 0x30];
-            words[place] |= proposed << 30;
-            let [a, b, c] = words;
-            let answer = confirm(&job(&set).conditions, a, b, c);
-            assert_eq!(answer.err(), expected);
+    for set in subsets(&[1, 2, 3, 4, 5, 14, 15, 16, 6, 7]) {
+        for bad in malformed(WIDTHS) {
+            ask(&set, &bad);
         }
     }
 }
 
-/// What conditions are refused with where one of the four masks fixes one bit.
-fn with_one_bit((w, f): (u64, u64), place: usize, bit: u64) -> Option<Refusal> {
-    let mut c = Conditions::free(w, f, 0, 0);
-    let care = 1 << bit;
-    *[&mut c.a, &mut c.b, &mut c.c, &mut c.carries][place] = Mask { care, value: 0 };
-    c.check().err()
-}
-
-/// Each of the four masks is held against its own width.
-#[test]
-fn masks_by_their_width() {
-    for format in [(3, 4), (8, 23), (8, 24), (11, 51), (11, 52)] {
-        let (w, f) = format;
-        for place in 0..3 {
-            assert_eq!(with_one_bit(format, place, w + f), None);
-            // Nothing stands above 64 bits.
-            for bit in w + f + 1..64 {
-                assert_eq!(with_one_bit(format, place, bit), Some(5));
-            }
-        }
-        assert_eq!(with_one_bit(format, 3, f), None);
-        assert_eq!(with_one_bit(format, 3, f + 1), Some(5));
+/// A job of length 2 with exactly these causes; `n` stands where 12 is one.
+fn whole_job(causes: &[Refusal], n: u64, bad: &[Mask; 4]) -> WholeJob {
+    let zero = Mask { care: 3, value: 0 };
+    let z = pick(causes, 7, Mask::FREE, Mask { care: 2, value: 2 });
+    WholeJob {
+        n: pick(causes, 12, 2, n),
+        x: pick(causes, 5, zero, bad[0]),
+        y: pick(causes, 14, zero, bad[1]),
+        z: pick(causes, 15, z, bad[2]),
+        carries: pick(causes, 16, Mask::FREE, bad[3]),
+        words: [0, 0, pick(causes, 6, 3, 1 << 33)],
     }
 }
 
 #[test]
 fn whole_number_generator() {
-    let fixed = |care, value| Mask { care, value };
-    for n in [0, 33, u64::MAX] {
-        for set in subsets(&[12, 5, 6, 7]) {
-            let job = WholeJob {
-                n: pick(&set, 12, 2, n),
-                x: fixed(3, 0),
-                y: fixed(3, 0),
-                z: pick(&set, 7, Mask::FREE, fixed(2, 2)),
-                carries: pick(&set, 5, Mask::FREE, fixed(0, 1)),
-                words: [0, 0, pick(&set, 6, 3, 1 << 33)],
-            };
-            assert_eq!(generate_whole(&job).err(), set.first().copied());
+    for set in subsets(&[12, 5, 14, 15, 16, 6, 7]) {
+        for n in [0, 33, u64::MAX] {
+            for bad in malformed([2, 3]) {
+                let answer = generate_whole(&whole_job(&set, n, &bad));
+                assert_eq!(answer.err(), set.first().copied());
+            }
         }
     }
 }
@@ -166,44 +170,48 @@ fn whole_number_widths() {
         assert_eq!(job.check(), Ok(n as u32));
         job.words[1] = 1 << n;
         assert_eq!(job.check(), Err(6));
-        job.carries = fixed(n + 1);
-        assert_eq!(job.check(), Err(5));
-        job.carries = fixed(n);
-        job.z = fixed(n);
-        assert_eq!(job.check(), Err(5));
+        for (place, bit, number) in [(0, n, 5), (1, n, 14), (2, n, 15), (3, n + 1, 16)] {
+            let mut other = job;
+            *other.masks_mut()[place] = fixed(bit);
+            assert_eq!(other.check(), Err(number));
+        }
     }
 }
 
 /// The causes of refusal in reading, in their order.
-const READING: [Refusal; 9] = [9, 8, 1, 2, 3, 4, 5, 6, 10];
+const READING: [Refusal; 12] = [9, 8, 1, 2, 3, 4, 5, 14, 15, 16, 6, 10];
 
-/// A record with the masks of a and b, the mode and the random words, and exactly these
-/// causes of refusal; `w` and `f` are out of their limits and stand where 1 and 2 are causes. Its
-/// words are as long as the header's w and f say, good or not.
-fn record(causes: &[Refusal], w: u8, f: u8) -> Vec<u8> {
-    let map = pick(causes, 9, 0x33, 0x73);
+/// A record that has every field, with these causes of refusal; `w` and `f` are out of their limits
+/// and stand where 1 and 2 are causes. Its words are as long as the header's w and f say, good or
+/// not. Where 10 is a cause, every field says its default but those that are bad.
+fn record(causes: &[Refusal], w: u8, f: u8, bad: &[Mask; 4]) -> Vec<u8> {
+    let map = pick(causes, 9, 0x3F, 0x7F);
     let [w, f] = [pick(causes, 1, 3, w), pick(causes, 2, 4, f)];
-    let between = match u32::from(w) + u32::from(f) + 1 {
-        ..=32 => vec![0; 2],
-        _ => vec![0; 6],
+    let word_bytes = match u32::from(w) + u32::from(f) + 1 {
+        ..=32 => 4,
+        _ => 8,
     };
-    let word = |low: u8, top: u8| [&[low], &between[..], &[top]].concat();
+    let word = |word: u64| word.to_le_bytes()[..word_bytes].to_vec();
+    let good = pick(causes, 10, 1, 0);
+    let fixed = Mask {
+        care: good,
+        value: 0,
+    };
     let mut bytes = vec![map, w, f, pick(causes, 3, 1, 2)];
-    bytes.extend(word(pick(causes, 5, 1, 0), 0));
-    bytes.extend(word(1, 0));
-    bytes.extend(word(pick(causes, 10, 2, 0), 0));
-    bytes.extend(word(0, 0));
-    bytes.push(pick(causes, 4, 3, 200));
-    bytes.extend(word(0, 0));
-    bytes.extend(pick(causes, 6, word(1, 0), word(0, 0x80)));
+    for (&bad, cause) in bad.iter().zip([5, 14, 15, 16]) {
+        let mask = pick(causes, cause, fixed, bad);
+        bytes.extend([mask.care, mask.value].map(word).concat());
+    }
+    bytes.push(pick(causes, 4, good as u8, 200));
+    bytes.extend([0, pick(causes, 6, good, 0x8000_0000)].map(word).concat());
     if causes.contains(&8) {
         bytes.pop();
     }
     bytes
 }
 
-fn read_with(causes: &[Refusal], w: u8, f: u8) {
-    let file = record(causes, w, f);
+fn read_with(causes: &[Refusal], w: u8, f: u8, bad: &[Mask; 4]) {
+    let file = record(causes, w, f, bad);
     let (reply, rest) = read(&file);
     match causes.first() {
         Some(&number) => {
@@ -221,33 +229,40 @@ fn read_with(causes: &[Refusal], w: u8, f: u8) {
 /// above the border between words of four and of eight bytes.
 #[test]
 fn reading() {
+    let w = [0, 1, 12, 27, 28, 255].into_iter();
+    let formats = w.flat_map(|w| [0, 1, 53, 255].map(|f| (w, f)));
+    let formats: Vec<_> = formats.chain([(30, 1), (31, 1)]).collect();
     for set in subsets(&READING) {
-        for w in [0, 1, 12, 27, 28, 255] {
-            for f in [0, 1, 53, 255] {
-                read_with(&set, w, f);
+        for bad in malformed(WIDTHS) {
+            for &(w, f) in &formats {
+                read_with(&set, w, f, &bad);
             }
         }
-        read_with(&set, 30, 1);
-        read_with(&set, 31, 1);
+    }
+}
+
+fn write_with(causes: &[Refusal], bad: &[Mask; 4]) {
+    let length = encode(&job(&[], bad)).unwrap().len();
+    let mut buffer = vec![0xA5; pick(causes, 11, length + 3, length - 1)];
+    let before = buffer.clone();
+    let answer = write(&job(causes, bad), &mut buffer);
+    match causes.first() {
+        Some(&number) => {
+            assert_eq!(answer, Err(number));
+            assert_eq!(buffer, before);
+        }
+        None => {
+            assert_eq!(answer, Ok(length));
+            assert_eq!(buffer[length..], before[length..]);
+        }
     }
 }
 
 #[test]
 fn writing() {
-    for set in subsets(&[1, 2, 3, 4, 5, 6, 11]) {
-        let length = encode(&job(&[])).unwrap().len();
-        let mut buffer = vec![0xA5; pick(&set, 11, length + 3, length - 1)];
-        let before = buffer.clone();
-        let answer = write(&job(&set), &mut buffer);
-        match set.first() {
-            Some(&number) => {
-                assert_eq!(answer, Err(number));
-                assert_eq!(buffer, before);
-            }
-            None => {
-                assert_eq!(answer, Ok(length));
-                assert_eq!(buffer[length..], before[length..]);
-            }
+    for set in subsets(&[1, 2, 3, 4, 5, 14, 15, 16, 6, 11]) {
+        for bad in malformed(WIDTHS) {
+            write_with(&set, &bad);
         }
     }
 }

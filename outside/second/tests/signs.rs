@@ -81,7 +81,7 @@ fn all_formats_by_sampled_pairs() {
     }
 }
 
-/// Causes 1 to 6 come before 7.
+/// Every other cause comes before 7.
 #[test]
 fn a_refusal_is_the_first() {
     let adder = Adder::new(8, 23, 0, 0).unwrap();
@@ -94,7 +94,7 @@ fn a_refusal_is_the_first() {
     job.words[1] = 1 << 32;
     assert_eq!(refusal(&job), Some(6));
     job.conditions.b.value = 1;
-    assert_eq!(refusal(&job), Some(5));
+    assert_eq!(refusal(&job), Some(14));
     job.words = [0, 0];
     job.conditions = sign_conditions(&adder, 1 + 3);
     assert_eq!(refusal(&job), None);

@@ -1,11 +1,10 @@
--- `fit::case_cause` meets its contract. Assumes nothing.
-use mathlib.Core.Path.{sym, ap, ap₂, _∙_}
-use Prim.Native.Nat.{ℕ}
+-- `fit::case_cause` meets its contract: the words are looked at only in a supported format, where no width wraps. Assumes nothing.
+use mathlib.Core.Path.{sym, ap₂, _∙_}
 use native.Mathlib.Omega.{arith}
 use Rattle.format.specs.Cause.{first}
 use Rattle.format.specs.Format.{wordBits, wordCause}
-use Rattle.format.proofs.Laws.{first-some}
-use Rattle.job.proofs.Laws.{job-none}
+use Rattle.format.proofs.Laws.{supported-of}
+use Rattle.job.proofs.Laws.{job-first}
 use Rattle.fit.specs.Fit.{caseCause}
 use borrow.Author.Needs.{needs}
 use Rattle.fit.proofs.case_cause.Statement.{statement}
@@ -14,23 +13,29 @@ use Rattle.fit.proofs.case_cause.Tie as tie
 job-cause-requires : tie.Need-job-cause-requires
 job-cause-requires c κs = search needs
 
+format-cause-requires : tie.Need-format-cause-requires
+format-cause-requires c κs = search needs
+
 returns : tie.Need-returns
 unfolding caseCause
 returns c =
-    let s = c .before .before in
-    let F = s .args .job .setting .format in
-    sym (first-some (c .before .job-cause .result) (first (wordCause (wordBits F) (s .args .a)) (first (wordCause (wordBits F) (s .args .b)) (wordCause (wordBits F) (s .args .c)))) (c .if1 .taken))
-    ∙ ap (λ (n : ℕ). first n (first (wordCause (wordBits F) (s .args .a)) (first (wordCause (wordBits F) (s .args .b)) (wordCause (wordBits F) (s .args .c))))) (c .before .job-cause .ensures)
+    let f = c .before in
+    let a = f .before .before .args in
+    let width = wordBits (a .job .setting .format) in
+    let words = first (wordCause width (a .a)) (first (wordCause width (a .b)) (wordCause width (a .c))) in
+    f .before .job-cause .ensures ∙ sym (job-first (a .job) words (λ e. c .if1 .taken (f .format-cause .ensures ∙ e)))
 
 add-width : tie.Need-add-width
 add-width c =
-    let ok = job-none (c .before .before .before .args .job) .0 (sym (c .before .before .job-cause .ensures) ∙ c .before .if1 .left) .setting .format in
-    omega (arith, ok .w-most, ok .f-most)
+    let i = c .before in
+    let ok = supported-of (i .before .format-cause .ensures) (i .if1 .left) in
+    record { fits = omega (arith, ok .w-most, ok .f-most) }
 
 add-width-2 : tie.Need-add-width-2
 add-width-2 c =
-    let ok = job-none (c .before .before .before .args .job) .0 (sym (c .before .before .job-cause .ensures) ∙ c .before .if1 .left) .setting .format in
-    omega (arith, ok .w-most, ok .f-most)
+    let i = c .before in
+    let ok = supported-of (i .before .format-cause .ensures) (i .if1 .left) in
+    record { fits = omega (arith, ok .w-most, ok .f-most) }
 
 word-cause-requires : tie.Need-word-cause-requires
 word-cause-requires c κs = search needs
@@ -47,17 +52,27 @@ first-requires c κs = search needs
 first-requires-2 : tie.Need-first-requires-2
 first-requires-2 c κs = search needs
 
+first-requires-3 : tie.Need-first-requires-3
+first-requires-3 c κs = search needs
+
 returns-2 : tie.Need-returns-2
 unfolding caseCause
 returns-2 c =
-    rw (sym (c .before .before .before .before .before .before .before .job-cause .ensures) ∙ c .before .before .before .before .before .before .if1 .left)
-    (c .first2 .ensures ∙ ap₂ first (c .before .before .before .before .word-cause .ensures) (c .before .first .ensures ∙ ap₂ first (c .before .before .before .word-cause2 .ensures) (c .before .before .word-cause3 .ensures)))
+    let g = c .before in
+    let f = g .before in
+    let w = f .before .before .before in
+    let i = w .before .before in
+    c .first3 .ensures
+    ∙ ap₂ first (i .before .before .job-cause .ensures)
+    (g .first2 .ensures
+    ∙ ap₂ first (w .word-cause .ensures) (f .first .ensures ∙ ap₂ first (f .before .before .word-cause2 .ensures) (f .before .word-cause3 .ensures)))
 
 pub case-cause-spec : {M : Type 1} → statement M
 case-cause-spec =
     tie.close
     (tie.spec
     job-cause-requires
+    format-cause-requires
     returns
     add-width
     add-width-2
@@ -66,4 +81,5 @@ case-cause-spec =
     word-cause-requires-3
     first-requires
     first-requires-2
+    first-requires-3
     returns-2)

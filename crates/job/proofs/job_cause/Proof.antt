@@ -1,7 +1,7 @@
 -- `job::job_cause` meets its contract: the masks are looked at only in a setting against which no cause stands. Assumes nothing.
 use mathlib.Core.Path.{sym, _∙_}
 use Rattle.format.proofs.Laws.{first-some}
-use Rattle.job.specs.Job.{settingCause, masksCause, jobCause}
+use Rattle.job.specs.Job.{settingCause, jobMasksCause, jobCause}
 use Rattle.job.proofs.Laws.{setting-none}
 use borrow.Author.Needs.{needs}
 use Rattle.job.proofs.job_cause.Statement.{statement}
@@ -15,10 +15,10 @@ unfolding jobCause
 returns c =
     let s = c .before in
     let job = s .before .before .args .job in
-    s .setting-cause .ensures ∙ sym (first-some (settingCause (job .setting)) (masksCause job) (λ e. c .if1 .taken (s .setting-cause .ensures ∙ e)))
+    s .setting-cause .ensures ∙ sym (first-some (settingCause (job .setting)) (jobMasksCause job) (λ e. c .if1 .taken (s .setting-cause .ensures ∙ e)))
 
-masks-cause-requires : tie.Need-masks-cause-requires
-masks-cause-requires c κs =
+job-masks-cause-requires : tie.Need-job-masks-cause-requires
+job-masks-cause-requires c κs =
     let s = c .before in
     setting-none (s .before .before .args .job .setting) .0 (sym (s .setting-cause .ensures) ∙ c .if1 .left) .format
 
@@ -26,7 +26,7 @@ returns-2 : tie.Need-returns-2
 unfolding jobCause
 returns-2 c =
     let i = c .before in
-    rw (sym (i .before .setting-cause .ensures) ∙ i .if1 .left) (c .masks-cause .ensures)
+    rw (sym (i .before .setting-cause .ensures) ∙ i .if1 .left) (c .job-masks-cause .ensures)
 
 pub job-cause-spec : {M : Type 1} → statement M
-job-cause-spec = tie.close (tie.spec setting-cause-requires returns masks-cause-requires returns-2)
+job-cause-spec = tie.close (tie.spec setting-cause-requires returns job-masks-cause-requires returns-2)

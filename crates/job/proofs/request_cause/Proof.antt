@@ -1,11 +1,10 @@
--- `job::request_cause` meets its contract: the words are looked at only where no cause stands against the job. Assumes nothing.
-use mathlib.Core.Path.{sym, ap, ap₂, _∙_}
-use Prim.Native.Nat.{ℕ}
+-- `job::request_cause` meets its contract: the words are looked at only in a supported format, where no width wraps. Assumes nothing.
+use mathlib.Core.Path.{sym, ap₂, _∙_}
 use native.Mathlib.Omega.{arith}
 use Rattle.format.specs.Cause.{first}
 use Rattle.format.specs.Format.{wordBits, wordCause}
-use Rattle.format.proofs.Laws.{first-some}
-use Rattle.job.proofs.Laws.{job-none}
+use Rattle.format.proofs.Laws.{supported-of}
+use Rattle.job.proofs.Laws.{job-first}
 use Rattle.job.specs.Job.{requestCause}
 use borrow.Author.Needs.{needs}
 use Rattle.job.proofs.request_cause.Statement.{statement}
@@ -14,24 +13,28 @@ use Rattle.job.proofs.request_cause.Tie as tie
 job-cause-requires : tie.Need-job-cause-requires
 job-cause-requires c κs = search needs
 
+format-cause-requires : tie.Need-format-cause-requires
+format-cause-requires c κs = search needs
+
 returns : tie.Need-returns
 unfolding requestCause
 returns c =
-    let a = c .before .before .args in
+    let f = c .before in
+    let a = f .before .before .args in
     let width = wordBits (a .job .setting .format) in
-    let rest = first (wordCause width (a .r1)) (wordCause width (a .r2)) in
-    sym (first-some (c .before .job-cause .result) rest (c .if1 .taken)) ∙ ap (λ (n : ℕ). first n rest) (c .before .job-cause .ensures)
+    let words = first (wordCause width (a .r1)) (wordCause width (a .r2)) in
+    f .before .job-cause .ensures ∙ sym (job-first (a .job) words (λ e. c .if1 .taken (f .format-cause .ensures ∙ e)))
 
 add-width : tie.Need-add-width
 add-width c =
     let i = c .before in
-    let ok = job-none (i .before .before .args .job) .0 (sym (i .before .job-cause .ensures) ∙ i .if1 .left) .setting .format in
+    let ok = supported-of (i .before .format-cause .ensures) (i .if1 .left) in
     record { fits = omega (arith, ok .w-most, ok .f-most) }
 
 add-width-2 : tie.Need-add-width-2
 add-width-2 c =
     let i = c .before in
-    let ok = job-none (i .before .before .args .job) .0 (sym (i .before .job-cause .ensures) ∙ i .if1 .left) .setting .format in
+    let ok = supported-of (i .before .format-cause .ensures) (i .if1 .left) in
     record { fits = omega (arith, ok .w-most, ok .f-most) }
 
 word-cause-requires : tie.Need-word-cause-requires
@@ -43,22 +46,29 @@ word-cause-requires-2 c κs = search needs
 first-requires : tie.Need-first-requires
 first-requires c κs = search needs
 
+first-requires-2 : tie.Need-first-requires-2
+first-requires-2 c κs = search needs
+
 returns-2 : tie.Need-returns-2
 unfolding requestCause
 returns-2 c =
-    let w = c .before .before in
+    let f = c .before in
+    let w = f .before .before in
     let i = w .before .before in
-    rw (sym (i .before .job-cause .ensures) ∙ i .if1 .left) (c .first .ensures ∙ ap₂ first (w .word-cause .ensures) (c .before .word-cause2 .ensures))
+    c .first2 .ensures
+    ∙ ap₂ first (i .before .before .job-cause .ensures) (f .first .ensures ∙ ap₂ first (w .word-cause .ensures) (f .before .word-cause2 .ensures))
 
 pub request-cause-spec : {M : Type 1} → statement M
 request-cause-spec =
     tie.close
     (tie.spec
     job-cause-requires
+    format-cause-requires
     returns
     add-width
     add-width-2
     word-cause-requires
     word-cause-requires-2
     first-requires
+    first-requires-2
     returns-2)

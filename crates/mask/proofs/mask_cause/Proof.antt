@@ -1,29 +1,14 @@
--- `mask::mask_cause` meets its contract: care has no cause as a word exactly where it is below 2^width. Assumes nothing.
+-- `mask::mask_cause` meets its contract. Assumes nothing.
 use borrow.Author.Needs.{needs}
-use mathlib.Core.Path.{_≡_, refl, ap, ap₂, _∙_}
-use mathlib.Core.Bool.{Bool, true, false, _&&_}
-use Prim.Native.Nat.{ℕ, _^_}
-use lib.Dec.{eqb, ltb}
-use Rattle.format.specs.Cause as cause
+use mathlib.Core.Path.{ap, _∙_}
+use mathlib.Core.Bool.{Bool}
 use Rattle.format.specs.Cause.{unless}
-use Rattle.format.specs.Format.{wordCause}
 use Rattle.mask.specs.Mask.{maskCause}
 use Rattle.mask.proofs.mask_cause.Statement.{statement}
 use Rattle.mask.proofs.mask_cause.Tie as tie
 
-word-fits : (width x : ℕ) → eqb (wordCause width x) 0 ≡ ltb x (2 ^ width)
-unfolding wordCause
-word-fits width x = go (ltb x (2 ^ width))
-  where
-    go : (t : Bool) → eqb (unless t cause.word) 0 ≡ t
-    go true = refl
-    go false = refl
-
-word-cause-requires : tie.Need-word-cause-requires
-word-cause-requires c κs = search needs
-
-inside-requires : tie.Need-inside-requires
-inside-requires c κs = search needs
+well-formed-requires : tie.Need-well-formed-requires
+well-formed-requires c κs = search needs
 
 unless-requires : tie.Need-unless-requires
 unless-requires c κs = search needs
@@ -31,10 +16,8 @@ unless-requires c κs = search needs
 returns : tie.Need-returns
 unfolding maskCause
 returns c =
-    let a = c .before .before .before .args in
-    c .unless .ensures
-    ∙ ap₂ (λ (s t : Bool). unless (s && t) cause.mask)
-    (ap (λ (n : ℕ). eqb n 0) (c .before .before .word-cause .ensures) ∙ word-fits (a .width) (a .m .care)) (c .before .inside .ensures)
+    let a = c .before .before .args in
+    c .unless .ensures ∙ ap (λ (t : Bool). unless t (a .number)) (c .before .well-formed .ensures)
 
 pub mask-cause-spec : {M : Type 1} → statement M
-mask-cause-spec = tie.close (tie.spec word-cause-requires inside-requires unless-requires returns)
+mask-cause-spec = tie.close (tie.spec well-formed-requires unless-requires returns)

@@ -1,6 +1,7 @@
 -- `whole::job_cause` meets its contract: a length that is refused names 12 before the masks and the words are looked at. Assumes nothing.
 use mathlib.Core.Path.{_≡_, sym, ap₂, _∙_}
 use mathlib.Core.Bool.{true, false}
+use native.Mathlib.Omega.{arith}
 use borrow.Author.Tests.{not-true, not-false}
 use Rattle.format.specs.Cause.{first}
 use Rattle.format.specs.Limits.{leastLength, mostLength, within}
@@ -21,10 +22,15 @@ returns c =
     in
     rw w
 
-masks-cause-requires : tie.Need-masks-cause-requires
-masks-cause-requires c κs =
-    within-holds leastLength mostLength (c .before .before .args .job .length) .0
+add-masks-cause : tie.Need-add-masks-cause
+add-masks-cause c =
+    let most = within-holds leastLength mostLength (c .before .before .args .job .length) .0
     (sym (c .before .within .ensures) ∙ not-false (c .before .within .result) (c .if1 .left)) .1
+    in
+    record { fits = omega (arith, most) }
+
+masks-cause-requires : tie.Need-masks-cause-requires
+masks-cause-requires c κs = search needs
 
 words-cause-requires : tie.Need-words-cause-requires
 words-cause-requires c κs = search needs
@@ -47,6 +53,7 @@ job-cause-spec =
     (tie.spec
     within-requires
     returns
+    add-masks-cause
     masks-cause-requires
     words-cause-requires
     first-requires

@@ -1,19 +1,10 @@
--- `job::masks_cause` meets its contract. Assumes nothing.
+-- `mask::masks_cause` meets its contract. Assumes nothing.
+use borrow.Author.Needs.{needs}
 use mathlib.Core.Path.{ap₂, _∙_}
 use Rattle.format.specs.Cause.{first}
-use Rattle.job.specs.Job.{masksCause}
-use borrow.Author.Needs.{needs}
-use Rattle.job.proofs.masks_cause.Statement.{statement}
-use Rattle.job.proofs.masks_cause.Tie as tie
-
-add-width : tie.Need-add-width
-add-width c = search needs
-
-add-width-2 : tie.Need-add-width-2
-add-width-2 c = search needs
-
-add-precision : tie.Need-add-precision
-add-precision c = search needs
+use Rattle.mask.specs.Mask.{masksCause}
+use Rattle.mask.proofs.masks_cause.Statement.{statement}
+use Rattle.mask.proofs.masks_cause.Tie as tie
 
 mask-cause-requires : tie.Need-mask-cause-requires
 mask-cause-requires c κs = search needs
@@ -51,9 +42,6 @@ pub masks-cause-spec : {M : Type 1} → statement M
 masks-cause-spec =
     tie.close
     (tie.spec
-    add-width
-    add-width-2
-    add-precision
     mask-cause-requires
     mask-cause-requires-2
     mask-cause-requires-3
