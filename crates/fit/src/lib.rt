@@ -28,7 +28,8 @@ pub enum Confirmed {
     Refused(u64),
 }
 
-// What stands against the job, or 6 where a proposed word is too wide; else 0.
+// What stands against the job, or 6 where a proposed word is too wide; else 0. Words are looked at in a supported format alone, whose width
+// does not wrap.
 pub fn case_cause(job: Job, a: u64, b: u64, c: u64) -> u64
     ensures { λ r. ⌜ r ≡ caseCause job a b c ⌝ }
 {

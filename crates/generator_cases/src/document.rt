@@ -202,7 +202,7 @@ fn wide(count: Count, setting: Setting, formed: u64, number: u64) -> Count {
     asked(count, job, 0x100, 0x100, Reply::Refused(number))
 }
 
-// Of the causes each line has one fewer: the first is named.
+// Of the causes 1 to 4 each line has one fewer: the first is named. Masks and words have a bit above every width.
 fn first_cause(count: Count) -> Count {
     let one = wide(count, numbers(1, 1, 2, 5), 0, cause::EXPONENT_BITS);
     let two = wide(one, numbers(3, 1, 2, 5), 0, cause::FRACTION_BITS);
@@ -210,7 +210,7 @@ fn first_cause(count: Count) -> Count {
     wide(three, numbers(3, 4, 0, 5), 0, cause::MODE)
 }
 
-// The same of the masks and the words.
+// The same of malformed masks, with the words after them.
 fn first_mask(count: Count) -> Count {
     let one = wide(count, adding(3, 4, 0), 0, cause::MASK);
     let two = wide(one, adding(3, 4, 0), 1, cause::SECOND_MASK);

@@ -79,7 +79,8 @@ pub fn job_cause(job: Job) -> u64
     job_masks_cause(job)
 }
 
-// What stands against the job, or 6 where a random word is too wide; else 0.
+// What stands against the job, or 6 where a random word is too wide; else 0. Words are looked at in a supported format alone, whose width
+// does not wrap.
 pub fn request_cause(job: Job, r1: u64, r2: u64) -> u64
     ensures { λ r. ⌜ r ≡ requestCause job r1 r2 ⌝ }
 {
