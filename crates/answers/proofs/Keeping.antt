@@ -1,7 +1,7 @@
 -- The table of answers by class: what is put into it is an answer, and what it says of a pair's class it says of the pair.
 -- Assumes nothing.
 use mathlib.Core.List.{List}
-use mathlib.Core.Logic.{_⊎_, inl, inr, ⊎-elim}
+use mathlib.Core.Logic.{inl, inr}
 use mathlib.Core.Path.{_≡_, sym, ap, ap₂, _∙_, subst}
 use Prim.Native.Nat.{ℕ, zero, suc, _+_, _-_, _*_, _%_, _^_, _≤_, _<_}
 use native.Mathlib.Decide.{decLt, ℕ-discrete}
@@ -17,55 +17,43 @@ use Rattle.format.specs.declared.Format.{Format}
 use Rattle.format.specs.Format.{Supported}
 use Rattle.format.proofs.Room.{significand-room, exponent-room}
 use Rattle.mask.specs.declared.Mask.{Mask}
-use Rattle.mask.specs.Mask.{Meets}
 use Rattle.job.specs.declared.Job.{Job}
 use Rattle.job.specs.Job.{Valid}
 use Rattle.word.specs.declared.Biased.{Biased}
-use Rattle.word.specs.declared.Unit as exponent
 use Rattle.word.specs.Word.{unitOf, allOnes}
 use Rattle.special.specs.Asked.{fieldIs, PairFits}
 use Rattle.classes.specs.declared.Fields.{Fields}
 use Rattle.classes.specs.declared.Class.{Class}
-use Rattle.classes.specs.Class.{InOrder, Ordered, FiniteFields, topField, classOf, onlyField, ClassAdmits, ClassIn, Wide, NeverPast, Classed, smallerMask}
-use Rattle.answers.specs.Kept.{places, placeOf, classPlaces, Never, closedBit, askedBit, Refuses, NoneFar, farFields, farPlace, FarPair, Kept, NoField, ClassEnd}
-use Rattle.classes.proofs.ClassMasks.{anyField}
+use Rattle.classes.specs.Class.{InOrder, Ordered, FiniteFields, topField, classOf, onlyField, ClassIn, Wide, NeverPast, Classed}
+use Rattle.answers.specs.Kept.{places, placeOf, classPlaces, Never, askedBit, Refuses, Closed, closedPlace, closedBit, Kept, NoField, ClassEnd}
 use Rattle.classes.proofs.Aligning.{low-le}
-use Rattle.classes.proofs.Classes.{class-reached, class-less, far-pair}
+use Rattle.classes.proofs.Classes.{class-reached, class-less}
+
+-- a bit set in a word leaves the others as they are
+or-other : (word i m : ℕ) → (i ≡ m → ⊥) → bit (bitOr word (2 ^ i)) m ≡ bit word m
+or-other word i m ne = bit-or word (2 ^ i) m ∙ ap (bitOr (bit word m)) (bit-pow-other i m ne) ∙ or-zero-r (bit word m)
+
+-- no bit of 0 is set
+no-bit : (n : ℕ) → bit 0 n ≡ 1 → ⊥
+no-bit n e = let z = bit-above {x = 0} n (pow-pos n) in omega arith
 
 -- ---- the word of a class
 module _ (j : Job) (k : Class) where
-  -- nothing is known
-  pub fresh : Refuses j k 0
-  fresh i known = absurd (⊎-elim (none closedBit) (none (i .0)) known)
-    where
-      none : (n : ℕ) → bit 0 n ≡ 1 → ⊥
-      none n e = let z = bit-above {x = 0} n (pow-pos n) in omega arith
-
   -- one answer more
-  pub refuse-more : (word : ℕ) (i : Biased) → i .0 < closedBit → Refuses j k word → Never j k i → Refuses j k (bitOr word (2 ^ i .0))
-  refuse-more word i l kept never n known = go (ℕ-discrete (i .0) (n .0))
+  pub refuse-more : (word : ℕ) (i : Biased) → Refuses j k word → Never j k i → Refuses j k (bitOr word (2 ^ i .0))
+  refuse-more word i kept never n known = go (ℕ-discrete (i .0) (n .0))
     where
-      other : (m : ℕ) → (i .0 ≡ m → ⊥) → bit (bitOr word (2 ^ i .0)) m ≡ bit word m
-      other m ne = bit-or word (2 ^ i .0) m ∙ ap (bitOr (bit word m)) (bit-pow-other (i .0) m ne) ∙ or-zero-r (bit word m)
-
       go : Dec (i .0 ≡ n .0) → Never j k n
       go (yes e) = subst (λ (m : ℕ). Never j k (fieldIs m)) e never
-      go (no ne) =
-          kept n (⊎-elim (λ b. inl (sym (other closedBit (λ e. omega arith)) ∙ b)) (λ b. inr (sym (other (n .0) ne) ∙ b)) known)
+      go (no ne) = kept n (sym (or-other word (i .0) (n .0) ne) ∙ known)
 
   -- only the mark that the class was asked about
   pub marked : Supported (j .setting .format) → Refuses j k (2 ^ askedBit)
-  marked ok i known l = absurd (⊎-elim (none closedBit (λ e. omega arith)) (none (i .0) (λ e. omega (arith, significand-room (j .setting .format) ok))) known)
-    where
-      none : (n : ℕ) → (askedBit ≡ n → ⊥) → bit (2 ^ askedBit) n ≡ 1 → ⊥
-      none n ne e = let z = bit-pow-other askedBit n ne in omega arith
+  marked ok i known l = absurd (let z = bit-pow-other askedBit (i .0) (λ e. omega (arith, significand-room (j .setting .format) ok)) in omega arith)
 
-  -- the class admits nothing
-  pub closed : Valid j → Wide (j .setting .format) → (ClassAdmits j k anyField → ⊥) → (word : ℕ) → Refuses j k word
-  closed valid wide never word i known l admits = never (class-less j k i valid (omega arith) admits)
-
-  pub closed-none : (word : ℕ) (u : exponent.Unit) → Refuses j k word → bit word closedBit ≡ 1 → NoField j k u
-  closed-none word u kept e i least met = kept i (inl e)
+  -- a closed class has no exponent field of c
+  pub closed-never : Valid j → Wide (j .setting .format) → Closed j k → (i : Biased) → Never j k i
+  closed-never valid wide never i l admits = never (class-less j k i valid (omega arith) admits)
 
 -- the mask that the code forms
 pub only-is : (F : Format) (p : ℕ) (i : Biased) → Supported F → p ≡ 2 ^ F .w % 2 ^ 64 → _≡_ {A = Mask} (record { care = p - 1; value = i .0 }) (onlyField F i)
@@ -92,9 +80,18 @@ place-unique f k n hk hn e = ap₂ (λ (o l : ℕ). record { order = o; low = fi
     go zero (suc (suc p)) ho hp is = absurd (omega arith)
     go (suc zero) (suc (suc p)) ho hp is = absurd (omega arith)
 
--- every format has room for its classes, and behind them for the highest larger fields
-pub table-room : (F : Format) → Supported F → classPlaces (F .f) + 2 * farFields ≤ places
+-- every format has room for its classes, and behind them for the two orders
+pub table-room : (F : Format) → Supported F → classPlaces (F .f) + 2 ≤ places
 table-room F ok = omega (arith, significand-room F ok)
+
+-- the classes of an order have a bit each
+bit-unique : (f o k l : ℕ) → k ≤ topField f .0 → l ≤ topField f .0 → closedBit f o k ≡ closedBit f o l → k ≡ l
+bit-unique f zero k l hk hl e = e
+bit-unique f (suc o) k l hk hl e = omega arith
+
+pub bit-le : (f o low : ℕ) → low ≤ topField f .0 → closedBit f o low ≤ topField f .0
+bit-le f zero low h = h
+bit-le f (suc o) low h = omega arith
 
 -- ---- the table
 replicated : (k : ℕ) → _≡_ {A = ℕ} (getD (replicate places 0) k 0) 0
@@ -107,53 +104,54 @@ replicated k = go (decLt k places)
 pub kept-fresh : (j : Job) → Kept j (replicate places 0)
 kept-fresh j = record {
   size = length-replicate {A = ℕ} places 0;
-  answers = λ k h. subst (Refuses j k) (sym (replicated (placeOf (j .setting .format .f) k))) (fresh j k);
-  far = λ o E ho hE is. absurd (omega (arith, replicated (farPlace (j .setting .format) o E)));
+  answers = λ k h i known. absurd (no-bit (i .0) (rw (replicated (placeOf (j .setting .format .f) k)) at known));
+  closed = λ k h known. absurd (no-bit (closedBit (j .setting .format .f) (k .order) (k .low .0)) (rw (replicated (closedPlace (j .setting .format .f) (k .order))) at known));
 }
 
-pub kept-set : (j : Job) (t : List ℕ) (k : Class) (word : ℕ) → Supported (j .setting .format) → ClassIn (j .setting .format .f) k → Kept j t → Refuses j k word
-    → Kept j (set t (placeOf (j .setting .format .f) k) word)
-kept-set j t k word ok h kept new = record {
-  size = length-set t at word ∙ kept .size;
-  answers = λ n hn. go n hn (ℕ-discrete (placeOf f n) at);
-  far = λ o E ho hE is. kept .far o E ho hE (sym (getD-set-other t at (farPlace (j .setting .format) o E) word 0 (λ e. omega (arith, place-lt f k h))) ∙ is);
-}
-  where
-    f : ℕ
-    f = j .setting .format .f
+module _ (j : Job) (t : List ℕ) (k : Class) (ok : Supported (j .setting .format)) (h : ClassIn (j .setting .format .f) k) (kept : Kept j t) where
+  abbrev f : ℕ
+  f = j .setting .format .f
 
-    at : ℕ
-    at = placeOf (j .setting .format .f) k
-
-    go : (n : Class) → ClassIn (j .setting .format .f) n → Dec (placeOf (j .setting .format .f) n ≡ placeOf (j .setting .format .f) k) → Refuses j n (getD (set t (placeOf (j .setting .format .f) k) word) (placeOf (j .setting .format .f) n) 0)
-    go n hn (yes e) =
-        subst (λ (m : Class). Refuses j m (getD (set t at word) (placeOf f m) 0)) (sym (place-unique f n k hn h e))
-        (subst (Refuses j k) (sym (getD-set-same t at word 0 (omega (arith, kept .size, place-lt f k h, table-room (j .setting .format) ok)))) new)
-    go n hn (no ne) = subst (Refuses j n) (sym (getD-set-other t at (placeOf f n) word 0 ne)) (kept .answers n hn)
-
--- ---- the pairs with a far gap
-module _ (j : Job) (t : List ℕ) (p : Fields) (place : ℕ) (fin : FiniteFields (j .setting .format) p) (far : FarPair (j .setting .format) p place) (kept : Kept j t) where
-  pub far-known : getD t place 0 ≡ 1 → InOrder (PairFits j) (p .order) (p .larger) (p .smaller) → ⊥
-  far-known is =
-      kept .far (p .order) (p .larger) (fin .by-size .order-lt) (fin .finite) (subst (λ (k : ℕ). getD t k 0 ≡ 1) (far .at) is) (p .smaller) (far .some) (far .far)
-
-  -- one that is refused refuses all of its kind
-  pub far-kept : Valid j → Meets (p .smaller .0) (smallerMask j (p .order)) → (InOrder (PairFits j) (p .order) (p .larger) (p .smaller) → ⊥) → Kept j (set t place 1)
-  far-kept valid met never = record {
-    size = length-set t place 1 ∙ kept .size;
-    answers = λ n h. subst (Refuses j n) (sym (getD-set-other t place (placeOf (j .setting .format .f) n) 1 0 (λ e. omega (arith, far .at, place-lt (j .setting .format .f) n h)))) (kept .answers n h);
-    far = λ o E ho hE is. go o E ho hE is (ℕ-discrete (farPlace (j .setting .format) o E) place);
+  -- a class's word, put into its place
+  pub kept-set : (word : ℕ) → Refuses j k word → Kept j (set t (placeOf f k) word)
+  kept-set word new = record {
+    size = length-set t (placeOf f k) word ∙ kept .size;
+    answers = λ n hn. go n hn (ℕ-discrete (placeOf f n) (placeOf f k));
+    closed = λ n hn known. kept .closed n hn (rw (getD-set-other t (placeOf f k) (closedPlace f (n .order)) word 0 (λ e. omega (arith, place-lt f k h))) at known);
   }
     where
-      none : NoneFar j (p .order) (p .larger)
-      none e some gap P = never (far-pair j valid (p .larger) e (p .smaller) (fin .finite) some (far .some) gap (far .far) (p .order) met P)
+      go : (n : Class) → ClassIn f n → Dec (placeOf f n ≡ placeOf f k) → Refuses j n (getD (set t (placeOf f k) word) (placeOf f n) 0)
+      go n hn (yes e) =
+          subst (λ (m : Class). Refuses j m (getD (set t (placeOf f k) word) (placeOf f m) 0)) (sym (place-unique f n k hn h e))
+          (subst (Refuses j k) (sym (getD-set-same t (placeOf f k) word 0 (omega (arith, kept .size, place-lt f k h, table-room (j .setting .format) ok)))) new)
+      go n hn (no ne) = subst (Refuses j n) (sym (getD-set-other t (placeOf f k) (placeOf f n) word 0 ne)) (kept .answers n hn)
 
-      go : (o : ℕ) (E : Biased) → o < 2 → E .0 < allOnes (j .setting .format) → getD (set t place 1) (farPlace (j .setting .format) o E) 0 ≡ 1 → Dec (farPlace (j .setting .format) o E ≡ place) → NoneFar j o E
-      go o E ho hE is (yes e) =
-          let one : p .order ≡ o = omega (arith, far .at, fin .finite, fin .by-size .order-lt) in
-          let two : p .larger ≡ E = ap fieldIs (omega (arith, far .at, fin .finite, fin .by-size .order-lt)) in
-          rw (← one, ← two) none
-      go o E ho hE is (no ne) = kept .far o E ho hE (sym (getD-set-other t place (farPlace (j .setting .format) o E) 1 0 ne) ∙ is)
+  abbrev at : ℕ
+  at = closedPlace f (k .order)
+
+  abbrev closing : ℕ
+  closing = bitOr (getD t at 0) (2 ^ closedBit f (k .order) (k .low .0))
+
+  -- one closed class more
+  pub kept-close : Closed j k → Kept j (set t at closing)
+  kept-close never = record {
+    size = length-set t at closing ∙ kept .size;
+    answers = λ n hn. subst (Refuses j n) (sym (getD-set-other t at (placeOf f n) closing 0 (λ e. omega (arith, place-lt f n hn)))) (kept .answers n hn);
+    closed = λ n hn. go n hn (ℕ-discrete (n .order) (k .order));
+  }
+    where
+      same : getD (set t at closing) at 0 ≡ closing
+      same = getD-set-same t at closing 0 (omega (arith, kept .size, h .order-lt, table-room (j .setting .format) ok))
+
+      there : (n : Class) → ClassIn f n → n .order ≡ k .order → bit closing (closedBit f (k .order) (n .low .0)) ≡ 1 → Dec (closedBit f (k .order) (k .low .0) ≡ closedBit f (k .order) (n .low .0)) → Closed j n
+      there n hn o known (yes e) =
+          subst (Closed j) (ap₂ (λ (q l : ℕ). record { order = q; low = fieldIs l }) (sym o) (bit-unique f (k .order) (k .low .0) (n .low .0) (h .low-le) (hn .low-le) e)) never
+      there n hn o known (no ne) =
+          kept .closed n hn (rw o (sym (or-other (getD t at 0) (closedBit f (k .order) (k .low .0)) (closedBit f (k .order) (n .low .0)) ne) ∙ known))
+
+      go : (n : Class) → ClassIn f n → Dec (n .order ≡ k .order) → bit (getD (set t at closing) (closedPlace f (n .order)) 0) (closedBit f (n .order) (n .low .0)) ≡ 1 → Closed j n
+      go n hn (yes o) known = there n hn o (rw (o, same) at known) (ℕ-discrete (closedBit f (k .order) (k .low .0)) (closedBit f (k .order) (n .low .0)))
+      go n hn (no o) known = kept .closed n hn (rw (getD-set-other t at (closedPlace f (n .order)) closing 0 (λ e. o (omega arith))) at known)
 
 -- ---- the pairs that classes answer for
 pub end-short : (j : Job) (ones : ℕ) → ones ≡ allOnes (j .setting .format) → Wide (j .setting .format) → ClassEnd j (fieldIs (ones - 2))
@@ -172,3 +170,15 @@ pub pair-never : (j : Job) (p : Fields) → FiniteFields (j .setting .format) p 
 pair-never j p fin valid classed none P =
     let r = class-reached j valid (p .order) (p .larger) (p .smaller) (fin .finite) (fin .by-size .ordered) P classed in
     none (r .field) (r .least) (r .meets) (r .most) (r .holds)
+
+pub pair-closed : (j : Job) (p : Fields) → FiniteFields (j .setting .format) p → Valid j → Classed (j .setting .format) (j .c .mask) (p .larger) (p .smaller)
+    → Closed j (classOf (j .setting .format .f) p) → InOrder (PairFits j) (p .order) (p .larger) (p .smaller) → ⊥
+pair-closed j p fin valid classed never = pair-never j p fin valid classed (λ i least met. closed-never j (classOf (j .setting .format .f) p) valid (classed .wide) never i)
+
+-- what the table says of the closed classes it says of their pairs
+pub partner-closed : (j : Job) (t : List ℕ) (end : Biased) (p : Fields) → Valid j → ClassEnd j end → Kept j t → Ordered p → topField (j .setting .format .f) .0 ≤ p .larger .0 → p .larger .0 < end .0
+    → bit (getD t (closedPlace (j .setting .format .f) (p .order)) 0) (closedBit (j .setting .format .f) (p .order) (classOf (j .setting .format .f) p .low .0)) ≡ 1
+    → InOrder (PairFits j) (p .order) (p .larger) (p .smaller) → ⊥
+partner-closed j t end p valid within kept sorted top l known =
+    let by = within (p .larger) (p .smaller) (inl top) l in
+    pair-closed j p (record { by-size = sorted; finite = by .1 }) valid (by .0) (kept .closed (classOf (j .setting .format .f) p) (class-in (j .setting .format .f) p sorted) known)

@@ -24,11 +24,9 @@ ghost use Rattle.format.specs.Format.{Supported};
 ghost use Rattle.mask.specs.Mask.{Meets};
 ghost use Rattle.word.specs.Masks.{exponentMask};
 ghost use Rattle.classes.specs.Class.{fieldAt, mostField, leastField, ClassIn, ClassFor};
-ghost use Rattle.answers.specs.Kept.{placeOf, Never, Refuses, Kept, NoField};
+ghost use Rattle.answers.specs.Kept.{placeOf, Never, Refuses, Closed, closedPlace, closedBit, Kept, NoField};
 
-// The bit that answers for all of c's fields, and the bit that says that the class was asked.
-const CLOSED: u64 = 63;
-
+// The bit that says that the class was asked.
 const ASKED: u64 = 62;
 
 // Whether a class may admit a case, and its word.
@@ -120,18 +118,22 @@ fn try_fields(job: Job, class: Class, unit: Unit, known: u64) -> Known
 }
 
 // What is known of a class, with the question whether it admits anything at all put first.
-fn opened(job: Job, class: Class, known: u64) -> u64
+fn opened(job: Job, class: Class, known: u64) -> Known
     requires { ⌜ Supported (job .setting .format) ⌝ }
-    ensures { λ r. ⌜ (ClassFor job class → Refuses job class known → Refuses job class r) ⌝ }
+    ensures { λ r. ⌜ (ClassFor job class → Refuses job class known → Refuses job class (r .refused) × (r .possible ≡ false → Closed job class)) ⌝ }
 {
     if known != 0 {
-        return known;
+        return Known {
+            possible: true,
+            refused: known,
+        };
     }
     let any = Mask { care: 0, value: 0 };
-    if class_admits(job, class, any) {
-        return 1 << ASKED;
+    let possible = class_admits(job, class, any);
+    Known {
+        possible,
+        refused: 1 << ASKED,
     }
-    1 << CLOSED
 }
 
 // The place of a class in the table.
@@ -143,6 +145,26 @@ fn place_of(f: u64, class: Class) -> u64
         class.low.0
     } else {
         f + TOP_FIELD + 1 + class.low.0
+    }
+}
+
+// The place of the closed classes of an order.
+pub(crate) fn closed_place(f: u64, order: u64) -> u64
+    requires { ⌜ (f < 64) × (order < 2) ⌝ }
+    ensures { λ r. ⌜ r ≡ closedPlace f order ⌝ }
+{
+    2 * (f + TOP_FIELD + 1) + order
+}
+
+// The bit of a class among the closed ones of its order.
+fn closed_bit(f: u64, class: Class) -> u64
+    requires { ⌜ (f < 64) × ClassIn f class ⌝ }
+    ensures { λ r. ⌜ r ≡ closedBit f (class .order) (class .low .0) ⌝ }
+{
+    if class.order == 0 {
+        class.low.0
+    } else {
+        f + TOP_FIELD - class.low.0
     }
 }
 
@@ -158,23 +180,25 @@ fn askable(format: Format, unit: Unit) -> bool
 
 // Whether a class may admit a case where the larger operand has this unit; what is found is kept.
 pub(crate) fn class_may(job: Job, class: Class, unit: Unit, table: &mut [u64; PLACES]) -> bool
-    requires { ⌜ (job .setting .format .f < 60) × ClassIn (job .setting .format .f) class ⌝ }
+    requires { ⌜ (job .setting .format .f < 59) × ClassIn (job .setting .format .f) class ⌝ }
     ensures { λ r. ⌜ (ClassFor job class → unit .0 < 2 ^ 16 → Kept job (now (table .entry)) → Kept job (now (table .exit)) × (r ≡ false → NoField job class unit)) ⌝ }
 {
-    let at = place_of(job.setting.format.f, class) as usize;
-    let known = table[at];
-    if bit_at(known, CLOSED) == 1 {
+    let f = job.setting.format.f;
+    let bit = closed_bit(f, class);
+    let order = closed_place(f, class.order) as usize;
+    if bit_at(table[order], bit) == 1 {
         return false;
     }
     if !askable(job.setting.format, unit) {
         return true;
     }
-    let asked = opened(job, class, known);
-    if bit_at(asked, CLOSED) == 1 {
-        table[at] = asked;
+    let at = place_of(f, class) as usize;
+    let asked = opened(job, class, table[at]);
+    if !asked.possible {
+        table[order] = table[order] | (1 << bit);
         return false;
     }
-    let found = try_fields(job, class, unit, asked);
+    let found = try_fields(job, class, unit, asked.refused);
     table[at] = found.refused;
     found.possible
 }

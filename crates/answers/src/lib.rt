@@ -1,5 +1,4 @@
-// Whether a pair of exponent fields admits a case, with the answers kept that pairs share: those of one class have one answer, and so have
-// those with a far gap and the same larger field.
+// Whether a pair of exponent fields admits a case, with the answers kept that pairs of one class share.
 use bits::minus;
 use bits::power;
 use classes::FAR_GAP;
@@ -8,8 +7,6 @@ use classes::MOST_FIELD;
 use classes::TOP_FIELD;
 use classes::class_of;
 use classes::fields_of;
-use far::far_open;
-use far::keep_refused;
 use format::Format;
 use format::format_cause;
 use job::Job;
@@ -21,13 +18,12 @@ use word::Biased;
 use word::exponent::unit_of;
 use word::masks::fraction_mask;
 
-mod far;
 mod known;
+pub mod open;
 
 ghost use mathlib.Core.Bool.{true, false};
 ghost use mathlib.Core.Logic.{_↔_};
 ghost use mathlib.Core.Path.{_≡_};
-ghost use Prim.Native.Nat.{_≤_};
 ghost use Rattle.format.specs.Format.{Supported};
 ghost use Rattle.job.specs.Job.{Valid};
 ghost use Rattle.special.specs.Asked.{InRange, PairFits};
@@ -37,8 +33,8 @@ ghost use Rattle.answers.specs.Kept.{Kept, ClassEnd};
 // The places of the table that a pass over the exponent fields keeps; its words are 0 in the beginning.
 pub const PLACES: usize = 128;
 
-// The most fraction bits of a format whose classes all have a place.
-const MOST_FRACTION: u64 = 64 - (TOP_FIELD + 1);
+// The most fraction bits of a format whose classes all have a place, with one for each order behind them.
+const MOST_FRACTION: u64 = 63 - (TOP_FIELD + 1);
 
 // Whether each sum of a pair is 0 or has digits enough for a normal number, by its unit or by its gap.
 fn normal(f: u64, fields: Fields) -> bool
@@ -60,7 +56,7 @@ fn may_admit(job: Job, fields: Fields, end: Biased, table: &mut [u64; PLACES]) -
         → Kept job (now (table .exit)) × (r ≡ false → InOrder (PairFits job) (fields .order) (fields .larger) (fields .smaller) → ⊥)) ⌝ }
 {
     if end.0 <= fields.larger.0 {
-        return far_open(job, fields, table);
+        return true;
     }
     let f = job.setting.format.f;
     if MOST_FRACTION < f {
@@ -83,11 +79,7 @@ pub fn admits(job: Job, ea: Biased, eb: Biased, end: Biased, table: &mut [u64; P
     if !may_admit(job, fields, end, table) {
         return false;
     }
-    if pair_admits(job, ea, eb) {
-        return true;
-    }
-    keep_refused(job, fields, table);
-    false
+    pair_admits(job, ea, eb)
 }
 
 // Whether no word past the largest finite number meets c's mask: those have the fraction 0 or all ones, whatever the significands.

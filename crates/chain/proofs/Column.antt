@@ -3,11 +3,15 @@
 use mathlib.Core.Path.{_≡_, refl, sym, ap, ap₂, _∙_, fun-ext}
 use mathlib.Core.Bool.{Bool, true, false, not, _&&_, cond, and-eq-true-iff, or-false}
 use mathlib.Core.Logic.{⊎-elim}
-use Prim.Native.Nat.{ℕ, _+_, _*_}
+use Prim.Native.Nat.{ℕ, suc, _+_, _*_}
 use native.Mathlib.Omega.{arith}
 use borrow.Author.Tests.{eqb-true, eq-eqb}
 use lib.Bits.{bitAnd, bitOr}
+use lib.Dec.{eqb}
+use Rattle.bits.proofs.Laws.{bit-shr}
+use Rattle.columns.specs.Column.{allows}
 use Rattle.columns.proofs.Some.{or-cases, or-left, or-right}
+use Rattle.mask.specs.Mask.{high}
 use Rattle.mask.specs.declared.Mask.{Mask}
 use Rattle.chain.specs.declared.ways.Places.{Places}
 use Rattle.chain.specs.declared.ways.Ways.{Ways}
@@ -158,6 +162,13 @@ way-cong s l l′ t t′ x x′ c c′ pl pt px pc cin cout b =
 side-turned : (p : Places) (b : Bool) → side (turnedOf true p) b ≡ side p (not b)
 side-turned p true = refl
 side-turned p false = refl
+
+-- the mask of the carries out: bit i of the mask without its lowest bit is bit i + 1
+pub lets-next : (m : Mask) (i : ℕ) (b : Bool) → lets (high 1 m) i b ≡ allows (m .care) (m .value) (suc i) (digit b)
+lets-next m i b =
+    let e : 1 + i ≡ suc i = omega arith in
+    ap₂ (λ (u v : ℕ). eqb (bitAnd (digit b) u) v) (bit-shr (m .care) 1 i) (bit-shr (m .value) 1 i)
+    ∙ ap (λ (j : ℕ). allows (m .care) (m .value) j (digit b)) e
 
 -- the places p are those that the mask m leaves in column i
 abbrev pub PlacesOf : Mask → ℕ → Places → Type 0

@@ -10,7 +10,7 @@ use lib.Bits.{bitAnd, and-zero-r}
 use lib.Dec.{eqb}
 use lib.Pow.{pow-pos}
 use Rattle.bits.specs.Bit.{bit}
-use Rattle.bits.proofs.Laws.{bit-lt, bit-shr}
+use Rattle.bits.proofs.Laws.{bit-lt}
 use Rattle.columns.specs.Column.{allows}
 use Rattle.columns.specs.Machine.{some, into}
 use Rattle.columns.proofs.Some.{some-sound, some-complete}
@@ -23,11 +23,11 @@ use Rattle.chain.specs.declared.walk.States.{States}
 use Rattle.chain.specs.declared.walk.Table.{Table}
 use Rattle.chain.specs.Ways.{mem, digit, lets, may, way, either, wayOf, secondOf, linked}
 use Rattle.chain.specs.Walk.{firstSum, lBit, xBit, secondSum, step, state, stateWord, waysTo}
-use Rattle.chain.proofs.Words.{digit-lt, ones-bit}
-use Rattle.chain.proofs.Column.{same-test, both, and-both, either-sound, either-complete, Way, way-sound, way-complete, way-cong}
+use Rattle.chain.proofs.Words.{digit-lt, as-test, ones-bit}
+use Rattle.chain.proofs.Column.{same-test, both, and-both, either-sound, either-complete, Way, way-sound, way-complete, way-cong, lets-next}
 use Rattle.chain.proofs.Step.{Fine, step-is, step-fine, nextState}
 
--- ---- masks of the second adder, and of the carries one column on
+-- ---- masks of the second adder
 
 lets-fixed : (k i : ℕ) → i < 64 → (b : Bool) → lets (record { care = 2 ^ 64 - 1; value = k }) i b ≡ eqb (digit b) (bit k i)
 lets-fixed k i h b = ap (λ (u : ℕ). eqb (bitAnd (digit b) u) (bit k i)) (ones-bit 64 i h) ∙ go b
@@ -47,18 +47,7 @@ pub second-way : (z : Mask) (k i : ℕ) → i < 64 → (cin cout b : Bool)
 unfolding secondOf
 second-way z k i h = way-cong true _ _ _ _ _ _ _ _ (λ a. refl) (lets-fixed k i h) (lets-free i) (lets-free i)
 
-lets-next : (m : Mask) (i : ℕ) (b : Bool) → lets (high 1 m) i b ≡ allows (m .care) (m .value) (suc i) (digit b)
-lets-next m i b =
-    let e : 1 + i ≡ suc i = omega arith in
-    ap₂ (λ (u v : ℕ). eqb (bitAnd (digit b) u) v) (bit-shr (m .care) 1 i) (bit-shr (m .value) 1 i)
-    ∙ ap (λ (j : ℕ). allows (m .care) (m .value) j (digit b)) e
-
 -- ---- bits as tests and as numbers
-
-as-test : (n : ℕ) → n < 2 → (b : Bool) × (digit b ≡ n)
-as-test zero h = (false, refl)
-as-test (suc zero) h = (true, refl)
-as-test (suc (suc n)) h = absurd (omega arith)
 
 -- l and x are the number read and the sum, or the other way round
 pick-l : (s a b : Bool) → cond s (digit (cond s a b)) (digit (cond s b a)) ≡ digit a

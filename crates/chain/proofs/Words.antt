@@ -2,7 +2,7 @@
 -- Assumes nothing.
 use mathlib.Core.Path.{_≡_, refl, sym, ap, _∙_}
 use mathlib.Core.Bool.{Bool, true, false, not, _&&_, _||_}
-use Prim.Native.Nat.{ℕ, suc, _+_, _-_, _*_, _%_, _^_, _<_}
+use Prim.Native.Nat.{ℕ, zero, suc, _+_, _-_, _*_, _%_, _^_, _<_}
 use native.Mathlib.Nat.{mod-eq-of-lt, mod-lt, div-eq-of-lt, pow-suc, one-mul, zero-mul}
 use native.Mathlib.Decide.{ℕ-discrete}
 use native.Mathlib.Omega.{arith}
@@ -32,6 +32,12 @@ digit-one false = refl
 pub byte-digit : (b : Bool) → boolByte b ≡ digit b
 byte-digit true = refl
 byte-digit false = refl
+
+-- a number below 2 as a bit
+pub as-test : (n : ℕ) → n < 2 → (b : Bool) × (digit b ≡ n)
+as-test zero h = (false, refl)
+as-test (suc zero) h = (true, refl)
+as-test (suc (suc n)) h = absurd (omega arith)
 
 -- ---- bits of operations
 

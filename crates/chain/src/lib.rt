@@ -2,7 +2,7 @@
 use mask::Mask;
 
 mod walk;
-mod ways;
+pub mod ways;
 
 ghost use mathlib.Core.Path.{_≡_};
 ghost use mathlib.Core.Bool.{true};

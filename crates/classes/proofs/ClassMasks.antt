@@ -20,7 +20,7 @@ use Rattle.rounding.specs.declared.Direction.{Direction}
 use Rattle.rounding.specs.declared.Direction.the-variants.{NearestEven, NearestAway, TowardZero, Away}
 use Rattle.rounding.specs.Rounding.{overflowWord}
 use Rattle.word.specs.Masks.{signMask, exponentMask, fractionMask}
-use Rattle.classes.specs.Class.{withExponent, NeverPast}
+use Rattle.classes.specs.Class.{withExponent, anyField, NeverPast}
 
 -- a mask on a number in two parts
 meets-split : (k q r : ℕ) (m : Mask) → r < 2 ^ k → Meets (q * 2 ^ k + r) m ↔ (Meets r (mask.low k m) × Meets q (mask.high k m))
@@ -105,10 +105,6 @@ module _ (F : Format) (c n : Mask) (h : WellFormed (wordBits F) c) (hn : WellFor
       is-fraction = ap (λ (k : ℕ). k % 2 ^ F .f) above ∙ low (s * 2 ^ F .w + e) (F .f) ht
 
 -- ---- a weaker mask on the exponent field asks less
-
--- a mask that asks nothing
-abbrev pub anyField : Mask
-anyField = record { care = 0; value = 0 }
 
 pub any-formed : (F : Format) → WellFormed (F .w) anyField
 any-formed F = record { below = pow-pos (F .w); inside = and-zero-r 0 }

@@ -33,9 +33,9 @@ use Rattle.pair.specs.declared.Side.{Side}
 use Rattle.pair.specs.Pair.{FiniteSide, significandsOf, gapOf, alignedOf, Larger, Sums, sideA, sideB, SomeSigns}
 use Rattle.pair.proofs.Finites.{pair-finite}
 use Rattle.classes.specs.declared.Class.{Class}
-use Rattle.classes.specs.Class.{InOrder, farGap, classUnit, topField, lowField, fieldAt, mostField, leastField, atField, withExponent, asking, onlyField, ClassAdmits, NeverPast, Classed, smallerMask}
+use Rattle.classes.specs.Class.{InOrder, farGap, classUnit, topField, lowField, fieldAt, mostField, leastField, atField, withExponent, asking, onlyField, anyField, ClassAdmits, NeverPast, Classed, smallerMask}
 use Rattle.classes.proofs.Order.{Sides, sideWith, signs-of, sides-of}
-use Rattle.classes.proofs.ClassMasks.{past-never, asking-meets, own-meets, anyField, asking-less}
+use Rattle.classes.proofs.ClassMasks.{past-never, asking-meets, own-meets, asking-less}
 use Rattle.classes.proofs.Moved.{Moved, moved}
 use Rattle.classes.proofs.Aligning.{low-le, low-two, low-same, gap-two, head-same, far, aligned-same, made-long}
 
@@ -43,16 +43,17 @@ pub only-formed : (F : Format) (i : Biased) → i .0 ≤ allOnes F → WellForme
 only-formed F i h = record { below = omega (arith, pow-pos (F .w)); inside = lib.Bits.and-mask (i .0) (F .w) ∙ native.Mathlib.Nat.mod-eq-of-lt (omega (arith, pow-pos (F .w))) }
 
 -- what a class has where E is the larger exponent field, and low the smaller one of the pair that stands for it: c's exponent field is one
--- that its mask lets through
+-- that its mask lets through, and so is the fraction of a zero sum
 pub record FieldReached (j : Job) (E low : Biased) (P : Mask → Type 0) : Type 0 where
   pub field : Biased
   pub most : field .0 ≤ mostField (j .setting .format .f)
   pub least : low .0 + 2 ≤ topField (j .setting .format .f) .0 → farGap (j .setting .format .f) ≤ field .0
   pub meets : Meets (fieldAt (j .setting .format .f) (unitOf E) field .0) (exponentMask (j .setting .format) (j .c .mask))
+  pub zero-meets : field .0 ≡ 0 → Meets 0 (fractionMask (j .setting .format) (j .c .mask))
   pub holds : P (onlyField (j .setting .format) field)
 
 reached-map : (j : Job) (E low : Biased) (P Q : Mask → Type 0) → ((i : Mask) → P i → Q i) → FieldReached j E low P → FieldReached j E low Q
-reached-map j E low P Q h p = record { field = p .field; most = p .most; least = p .least; meets = p .meets; holds = h (onlyField (j .setting .format) (p .field)) (p .holds) }
+reached-map j E low P Q h p = record { field = p .field; most = p .most; least = p .least; meets = p .meets; zero-meets = p .zero-meets; holds = h (onlyField (j .setting .format) (p .field)) (p .holds) }
 
 -- ---- two sides, of which x has the larger exponent field
 module _ (j : Job) (valid : Valid j) (x y : Side) (fx : FiniteSide (j .setting .format) x) (fy : FiniteSide (j .setting .format) y)
@@ -102,6 +103,7 @@ module _ (j : Job) (valid : Valid j) (x y : Side) (fx : FiniteSide (j .setting .
     most = w .most;
     least = λ l. w .least (long (k .x) (k .made) l);
     meets = own .1;
+    zero-meets = λ z. subst (λ (t : ℕ). Meets t (fractionMask F c)) (w .zero-fraction z) (own .2);
     holds = (
       omega (arith, low-le f (gapOf x y) (y .exponent .0)),
       record {
@@ -188,6 +190,7 @@ sums-moved j valid x y fx fy classed under (inr l) = ⊎-elim both (λ h. absurd
           most = r .most;
           least = λ q. absurd (omega (arith, ap (λ (e : Biased). e .0) y-low));
           meets = subst (λ (e : Biased). Meets (fieldAt f (unitOf e) (r .field) .0) (exponentMask (j .setting .format) (j .c .mask))) same (r .meets);
+          zero-meets = r .zero-meets;
           holds = inr (subst₂ (λ (u v : Biased). Larger (asking j (onlyField (j .setting .format) (r .field))) (atField y u) (atField x v)) y-low x-low (r .holds));
         }
       where
@@ -200,6 +203,7 @@ pub record ClassFieldReached (j : Job) (E : Biased) (k : Class) : Type 0 where
   pub most : field .0 ≤ mostField (j .setting .format .f)
   pub least : leastField (j .setting .format .f) k .0 ≤ field .0
   pub meets : Meets (fieldAt (j .setting .format .f) (unitOf E) field .0) (exponentMask (j .setting .format) (j .c .mask))
+  pub zero-meets : field .0 ≡ 0 → Meets 0 (fractionMask (j .setting .format) (j .c .mask))
   pub holds : ClassAdmits j k (onlyField (j .setting .format) field)
 
 -- ---- a pair that admits a case, E being the larger exponent field and e the other, in either order
@@ -217,6 +221,7 @@ module _ (j : Job) (valid : Valid j) (o : ℕ) (E e : Biased) (finite : E .0 < a
     most = r .most;
     least = go (decLe (low .0 + 2) (topField f .0));
     meets = r .meets;
+    zero-meets = r .zero-meets;
     holds = S .back (asking j (onlyField (j .setting .format) (r .field)) .c) (topField f) low (r .holds);
   }
     where

@@ -3,3 +3,4 @@ pub mod ClassMasks
 pub mod Moved
 pub mod Aligning
 pub mod Classes
+pub mod Far

@@ -38,6 +38,7 @@ pub record Moved (F : Format) (mode : ℕ) (like : Bool) (s : ℕ) (u : exponent
   pub least : farGap (F .f) ≤ size x → farGap (F .f) ≤ field .0
   pub within : fieldAt (F .f) u field .0 < 2 ^ F .w
   pub fraction-lt : fraction < 2 ^ F .f
+  pub zero-fraction : field .0 ≡ 0 → fraction ≡ 0
   pub here : outcome F mode like s u x ≡ signed F sign (fieldAt (F .f) u field .0 * 2 ^ F .f + fraction)
   pub there : outcome F mode like s (classUnit (F .f)) x ≡ signed F sign (field .0 * 2 ^ F .f + fraction)
 
@@ -70,6 +71,7 @@ module _ (F : Format) (mode : ℕ) (like : Bool) (s : ℕ) (u : exponent.Unit) (
     least = λ l. absurd (omega (arith, size-zero));
     within = pow-pos (F .w);
     fraction-lt = pow-pos (F .f);
+    zero-fraction = λ z. refl;
     sign-lt = zero-lt like;
     here = ap (signed F (zeroSign mode like s)) none;
     there = ap (signed F (zeroSign mode like s)) none;
@@ -129,6 +131,7 @@ module _ (F : Format) (mode : ℕ) (like : Bool) (s : ℕ) (u : exponent.Unit) (
             within = rw (shifted (n + q) refl) (omega arith);
             sign-lt = sign-lt;
             fraction-lt = mod-lt (keptOf f d (suc x) u) (pow-pos f);
+            zero-fraction = λ z. absurd (omega arith);
             here = held ∙ word-within F d s here t h ∙ ap (λ (k : ℕ). signed F s (k * 2 ^ f + t)) (sym (shifted (n + q) refl));
             there = moved ∙ word-within F d s there t (omega arith) ∙ ap (λ (k : ℕ). signed F s (k * 2 ^ f + t)) at;
           }

@@ -7,7 +7,7 @@ use native.Mathlib.Omega.{arith}
 use borrow.Author.Tests.{le-leb, lt-leb}
 use Rattle.format.specs.declared.Format.{Format}
 use Rattle.mask.specs.declared.Mask.{Mask}
-use Rattle.mask.specs.Mask.{Meets, WellFormed}
+use Rattle.mask.specs.Mask.{WellFormed}
 use Rattle.job.specs.declared.Wanted.{Wanted}
 use Rattle.job.specs.declared.Job.{Job}
 use Rattle.job.specs.declared.Role.the-variants.{C}
@@ -18,7 +18,7 @@ use Rattle.word.specs.Word.{allOnes}
 use Rattle.pair.specs.declared.Side.{Side}
 use Rattle.pair.specs.Pair.{FiniteSide, Sums, sideA, sideB, SomeSigns, FinitePair}
 use Rattle.pair.proofs.Finites.{finite-a, finite-b}
-use Rattle.classes.specs.Class.{fieldsOf, InOrder, Ordered, smallerMask, Asked, atField}
+use Rattle.classes.specs.Class.{fieldsOf, InOrder, Ordered, atField}
 
 -- ---- the fields of a pair
 module _ (ea eb : Biased) where
@@ -37,14 +37,6 @@ module _ (ea eb : Biased) where
       go : Dec (eb .0 ≤ ea .0) → Ordered (fieldsOf ea eb)
       go (yes l) = rw (le-leb (eb .0) (ea .0) l) (record { order-lt = omega arith; ordered = l })
       go (no l) = rw (lt-leb (eb .0) (ea .0) (omega arith)) (record { order-lt = omega arith; ordered = omega arith })
-
-  pub smaller-meets : (j : Job) → Asked j ea eb → Meets (fieldsOf ea eb .smaller .0) (smallerMask j (fieldsOf ea eb .order))
-  unfolding fieldsOf
-  smaller-meets j asked = go (decLe (eb .0) (ea .0))
-    where
-      go : Dec (eb .0 ≤ ea .0) → Meets (fieldsOf ea eb .smaller .0) (smallerMask j (fieldsOf ea eb .order))
-      go (yes l) = rw (le-leb (eb .0) (ea .0) l) (asked .b-exponent)
-      go (no l) = rw (lt-leb (eb .0) (ea .0) (omega arith)) (asked .a-exponent)
 
 -- ---- the sides of a pair
 

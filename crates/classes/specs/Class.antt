@@ -119,6 +119,10 @@ asking j n = withWanted C j (withMask (j .c) (withExponent (j .setting .format) 
 abbrev pub onlyField : Format → Biased → Mask
 onlyField F i = record { care = allOnes F; value = i .0 }
 
+-- and the mask that asks nothing of it
+abbrev pub anyField : Mask
+anyField = record { care = 0; value = 0 }
+
 -- the pair that stands for the class k admits a case, where n is asked of c's exponent field
 abbrev pub ClassAdmits : Job → Class → Mask → Type 0
 ClassAdmits j k n = InOrder (SomeSigns (asking j n)) (k .order) (topField (j .setting .format .f)) (k .low)

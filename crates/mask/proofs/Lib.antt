@@ -5,3 +5,5 @@ pub mod ByParts
 pub mod Fixing
 pub mod Joining
 pub mod Replies
+pub mod Ones
+pub mod Stepping

@@ -1,3 +1,4 @@
 pub mod Mask
 pub mod Join
 pub mod Named
+pub mod Next

@@ -1,4 +1,6 @@
 // Masks: which bits of a word are fixed, and to what.
+pub mod next;
+
 use format::cause;
 use format::first;
 use format::unless;

@@ -10,7 +10,7 @@ use native.Mathlib.Omega.{arith}
 use borrow.Author.Tests.{not-true, eq-eqb}
 use lib.Bits.{bitAnd, and-zero-r}
 use lib.Dec.{eqb}
-use lib.Pow.{pow-mono, add-lt-pow, shl-shr}
+use lib.Pow.{pow-pos, pow-mono, pow-add, add-lt-pow, shl-shr}
 use Rattle.bits.specs.Bit.{bit}
 use Rattle.bits.proofs.Laws.{bit-mod, bit-shr, bit-above}
 use Rattle.mask.specs.declared.Mask.{Mask}
@@ -23,7 +23,7 @@ use Rattle.chain.specs.Chain.{Solved, Answered}
 use Rattle.outcome.specs.declared.Aligned as pair
 use Rattle.rounding.specs.Width.{guardBits, alignedBits, sumBits, columnsOf, mostRounded, shortBits, maskBits}
 use Rattle.rounding.proofs.Widths.{sum-width, columns-width, rounded-le}
-use Rattle.outcome.specs.Outcome.{Formed, Making}
+use Rattle.outcome.specs.Outcome.{mostAligned, Formed, Making}
 
 -- the wires of a question
 abbrev pub wiresOf : pair.Aligned → Mask → Mask → Mask → ℕ → ℕ → Wires
@@ -77,6 +77,10 @@ pub combined-lt : (subtract : Bool) (l t k : ℕ) → l < 2 ^ k → t < 2 ^ k �
 combined-lt true l t k hl ht = lt-of-le-of-lt (sub-le l t) (lt-of-lt-of-le hl (pow-mono {i = k} {j = suc k} (omega arith)))
 combined-lt false l t k hl ht = add-lt-pow k hl ht
 
+-- the largest aligned significand has no more bits than an aligned significand
+pub most-aligned-lt : (f : ℕ) → mostAligned f < 2 ^ alignedBits f
+most-aligned-lt f = omega (arith, pow-pos f, pow-add 2 f 1, pow-add 2 f (1 + guardBits))
+
 module _ (f : ℕ) (A : pair.Aligned) (formed : Formed f A) (most : columnsOf f < 64) (x z : Mask) (constant carry : ℕ) where
   below : (n : ℕ) → n < 2 ^ columnsOf f → n < 2 ^ maskBits
   below n h = lt-of-lt-of-le h (pow-mono {i = columnsOf f} {j = maskBits} (omega arith))
@@ -87,8 +91,8 @@ module _ (f : ℕ) (A : pair.Aligned) (formed : Formed f A) (most : columnsOf f 
     made = record {
       H = l;
       T = t;
-      head-lt = formed .head l (below l (s .l-lt)) (s .l-meets);
-      tail-lt = formed .tail t (below t (s .t-lt)) (s .t-meets);
+      head-lt = lt-of-le-of-lt (formed .head l (below l (s .l-lt)) (s .l-meets)) (most-aligned-lt f);
+      tail-lt = lt-of-le-of-lt (formed .tail t (below t (s .t-lt)) (s .t-meets)) (most-aligned-lt f);
       head-meets = s .l-meets;
       tail-meets = s .t-meets;
       ordered = λ e. s .ordered (ap not e);

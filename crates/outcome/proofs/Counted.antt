@@ -3,14 +3,11 @@
 -- Assumes nothing.
 use mathlib.Core.Logic.{_↔_, _⊎_, inl, inr, ⊎-elim}
 use mathlib.Core.Path.{_≡_, refl, sym, ap, ap₂, _∙_, subst}
-use mathlib.Core.Bool.{Bool, true, false, cond, false≢true}
+use mathlib.Core.Bool.{Bool, true, false, false≢true}
 use Prim.Native.Nat.{ℕ, zero, suc, _+_, _/_, _%_, _^_, _≤_, _<_}
 use native.Mathlib.Nat.{mod-lt, lt-of-lt-of-le}
-use native.Mathlib.Decide.{decLt}
 use native.Mathlib.Omega.{arith}
-use borrow.Author.Tests.{lt-ltb, le-ltb}
 use lib.Bits.{and-zero-r}
-use lib.Dec.{ltb}
 use lib.Ieee.{size}
 use lib.Ieee.Digits.{size-lt}
 use lib.Pow.{pow-pos, pow-mono}
@@ -26,12 +23,12 @@ use Rattle.rounding.specs.Rounding.{roundOff, direction}
 use Rattle.rounding.proofs.Size.{size-zero}
 use Rattle.outcome.specs.declared.Aligned as pair
 use Rattle.outcome.specs.declared.sought.Fractions as fractions-of
-use Rattle.rounding.specs.Width.{alignedBits, sumBits, columnsOf}
+use Rattle.rounding.specs.Width.{sumBits, columnsOf}
 use Rattle.rounding.specs.Outcome.{roundedUnit, keptOf, boundedHeld, zeroSign, outcome}
 use Rattle.outcome.specs.Outcome.{Made, Making}
-use Rattle.outcome.specs.Question.{topped, OfDigits, wordOrOverflow, Seeks}
+use Rattle.outcome.specs.Question.{leastQuotient, NextQuotient, topped, OfDigits, wordOrOverflow, Seeks}
 use Rattle.outcome.proofs.Topped.{topped-meets, size-none, anything}
-use Rattle.outcome.proofs.Kept.{roundedBits, addedZeros, kept-shifted, kept-lt, quotient-low, quotient-high}
+use Rattle.outcome.proofs.Kept.{roundedBits, addedZeros, kept-shifted, kept-lt, quotient-low, quotient-high, least-known}
 use Rattle.outcome.proofs.Fields.{held-word}
 use Rattle.outcome.proofs.Rounds.{zeros-meets}
 use Rattle.outcome.proofs.Making.{some-made, none-made, making-map, making-answer}
@@ -119,20 +116,16 @@ quotient-asked F d s u A c count q e so r ee seeks asks =
 
 -- the two quotients
 module _ (f : ℕ) (d : Direction) (u : exponent.Unit) (least : ℕ) where
-  quotients : (n count : ℕ) → 0 < count → count ≤ sumBits f → size n ≡ count → least ≡ cond (ltb (count + u .0) (alignedBits f)) 0 1
+  quotients : (n count : ℕ) → 0 < count → count ≤ sumBits f → size n ≡ count → least ≡ leastQuotient f count u
       → (keptOf f d n u / 2 ^ f ≡ least) ⊎ (keptOf f d n u / 2 ^ f ≡ least + 1)
   quotients n zero some most digits e = absurd (omega arith)
-  quotients n (suc m) some most digits e = go (decLt (suc m + u .0) (alignedBits f))
-    where
-      go : Dec (suc m + u .0 < alignedBits f) → (keptOf f d n u / 2 ^ f ≡ least) ⊎ (keptOf f d n u / 2 ^ f ≡ least + 1)
-      go (yes h) =
-          let l : least ≡ 0 = e ∙ ap (λ (b : Bool). cond b 0 1) (lt-ltb (suc m + u .0) (alignedBits f) h) in
-          ⊎-elim (λ z. inl (z ∙ sym l)) (λ z. inr (omega arith)) (quotient-low f d n u m digits most h)
-      go (no h) =
-          let l : least ≡ 1 = e ∙ ap (λ (b : Bool). cond b 0 1) (le-ltb (suc m + u .0) (alignedBits f) (omega arith)) in
-          ⊎-elim (λ z. inl (z ∙ sym l)) (λ z. inr (omega arith)) (quotient-high f d n u m digits most (omega arith))
+  quotients n (suc m) some most digits e =
+      ⊎-elim
+      (λ l. ⊎-elim (λ z. inl (omega arith)) (λ z. inr (omega arith)) (quotient-low f d n u m digits most (l .0)))
+      (λ l. ⊎-elim (λ z. inl (omega arith)) (λ z. inr (omega arith)) (quotient-high f d n u m digits most (l .0)))
+      (least-known f (suc m) u)
 
-  module _ (A : pair.Aligned) (count : ℕ) (W : ℕ → Type 0) (some : 0 < count) (most : count ≤ sumBits f) (e : least ≡ cond (ltb (count + u .0) (alignedBits f)) 0 1) (r : Bool)
+  module _ (A : pair.Aligned) (count : ℕ) (W : ℕ → Type 0) (some : 0 < count) (most : count ≤ sumBits f) (e : least ≡ leastQuotient f count u) (r : Bool)
       (asks : (r ≡ true) ↔ Making f A (λ (n : ℕ). (size n ≡ count) × (keptOf f d n u / 2 ^ f ≡ least) × W n)) where
     pub first-quotient : r ≡ true → (true ≡ true) ↔ Making f A (λ (n : ℕ). (size n ≡ count) × W n)
     first-quotient t = some-made f A (λ (n : ℕ). (size n ≡ count) × W n) (making-map f A (λ (n : ℕ). (size n ≡ count) × (keptOf f d n u / 2 ^ f ≡ least) × W n) (λ (n : ℕ). (size n ≡ count) × W n) (λ n p. (p .0, p .2)) (asks .0 t))
@@ -146,6 +139,14 @@ module _ (f : ℕ) (d : Direction) (u : exponent.Unit) (least : ℕ) where
           (λ k. asks′ .1 (record { x = p .x; made = p .made; holds = (p .holds .0, k, p .holds .1) }))
           (quotients (p .x) count some most (p .holds .0) e),
     )
+
+    -- where none has the next quotient, that is not asked
+    pub only-quotient : r ≡ false → (NextQuotient f d u A count → ⊥)
+        → (false ≡ true) ↔ Making f A (λ (n : ℕ). (size n ≡ count) × W n)
+    only-quotient t never =
+        second-quotient t false
+        (none-made f A (λ (n : ℕ). (size n ≡ count) × (keptOf f d n u / 2 ^ f ≡ least + 1) × W n)
+        (λ p. never (record { x = p .x; made = p .made; holds = (p .holds .0, p .holds .1 ∙ ap (λ (k : ℕ). k + 1) e) })))
 
 -- the word of 0, and of any other number
 module _ (F : Format) (mode : ℕ) (like : Bool) (s : ℕ) (u : exponent.Unit) where

@@ -20,6 +20,7 @@ use Rattle.rounding.specs.Sticky.{keptPart}
 use Rattle.rounding.proofs.RoundOff.{increment-le, round-off-none, round-off-scale}
 use Rattle.rounding.specs.Width.{guardBits, alignedBits, sumBits, mostRounded}
 use Rattle.rounding.specs.Outcome.{roundedUnit, keptOf}
+use Rattle.outcome.specs.Question.{leastQuotient}
 
 -- the guard bits less u - k are rounded off, one more than they after a carry, or else zeros are added
 pub kept-scaled : (d : Direction) (x u k : ℕ) → k ≤ suc u → keptPart d x u k ≡ roundOff d x (k + guardBits - u) * 2 ^ (u - (k + guardBits))
@@ -149,3 +150,14 @@ module _ (f : ℕ) (d : Direction) (x : ℕ) (u : exponent.Unit) (n : ℕ) (digi
       go (suc zero) o l = inl refl
       go (suc (suc zero)) o l = inr refl
       go (suc (suc (suc q))) o l = absurd (omega arith)
+
+-- the smaller of the two neighbours
+pub least-known : (f N : ℕ) (u : exponent.Unit) → ((N + u .0 < alignedBits f) × (leastQuotient f N u ≡ 0)) ⊎ ((alignedBits f ≤ N + u .0) × (leastQuotient f N u ≡ 1))
+least-known f N u = go (decLt (N + u .0) (alignedBits f))
+  where
+    go : Dec (N + u .0 < alignedBits f) → ((N + u .0 < alignedBits f) × (leastQuotient f N u ≡ 0)) ⊎ ((alignedBits f ≤ N + u .0) × (leastQuotient f N u ≡ 1))
+    go (yes h) = inl (h, rw (lt-ltb (N + u .0) (alignedBits f) h))
+    go (no h) = let l : alignedBits f ≤ N + u .0 = omega arith in inr (l, rw (le-ltb (N + u .0) (alignedBits f) l))
+
+pub least-le : (f N : ℕ) (u : exponent.Unit) → leastQuotient f N u ≤ 1
+least-le f N u = ⊎-elim (λ l. omega arith) (λ l. omega arith) (least-known f N u)

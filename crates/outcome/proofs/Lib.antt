@@ -7,4 +7,5 @@ pub mod Making
 pub mod Last
 pub mod Asked
 pub mod Range
+pub mod Carried
 pub mod Counted

@@ -1,7 +1,7 @@
 -- How many digits a number that two aligned significands make can have: one more than they at most, or as many where they are subtracted;
 -- and where the larger one has its top bit, at least as many if the smaller one is added, or one fewer if that has its two top bits 0.
 -- Assumes nothing.
-use mathlib.Core.Path.{_≡_, sym, ap, _∙_, subst}
+use mathlib.Core.Path.{_≡_, refl, sym, ap, _∙_, subst}
 use mathlib.Core.Bool.{Bool, true, false, not, true≢false}
 use Prim.Native.Nat.{ℕ, zero, suc, _+_, _-_, _*_, _/_, _^_, _≤_, _<_}
 use native.Mathlib.Nat.{lt-of-le-of-lt, sub-le, div-eq-of-lt, div-lt-iff-lt-mul}
@@ -20,6 +20,7 @@ use Rattle.rounding.proofs.Size.{size-least}
 use Rattle.columns.specs.Carry.{combined}
 use Rattle.outcome.specs.declared.Aligned as pair
 use Rattle.outcome.specs.Outcome.{Made}
+use Rattle.outcome.specs.Question.{mostDigits}
 use Rattle.outcome.proofs.Asked.{combined-lt}
 
 -- a test of the high part
@@ -48,6 +49,11 @@ module _ (k n : ℕ) (m : Mask) (met : Meets n m) where
       go (suc (suc (suc zero))) e l = absurd (refused 3 three e)
       go (suc (suc (suc (suc v)))) e l = absurd (omega arith)
 
+-- a sum has one digit more
+pub most-digits-bounds : (f : ℕ) (like : Bool) → (alignedBits f ≤ mostDigits f like) × (mostDigits f like ≤ sumBits f)
+most-digits-bounds f true = omega arith
+most-digits-bounds f false = omega arith
+
 module _ (f : ℕ) (A : pair.Aligned) (x : ℕ) (made : Made f A x) where
   pub made-most : size x ≤ sumBits f
   made-most =
@@ -64,8 +70,15 @@ module _ (f : ℕ) (A : pair.Aligned) (x : ℕ) (made : Made f A x) where
   pub made-difference : A .like ≡ false → made .H - made .T ≡ x
   made-difference e = sym (ap (λ (b : Bool). combined (not b) (made .H) (made .T)) e) ∙ made .makes
 
-  pub made-difference-most : A .like ≡ false → size x ≤ alignedBits f
+  made-difference-most : A .like ≡ false → size x ≤ alignedBits f
   made-difference-most e = size-le x (alignedBits f) (subst (λ (n : ℕ). n < 2 ^ alignedBits f) (made-difference e) (lt-of-le-of-lt (sub-le (made .H) (made .T)) (made .head-lt)))
+
+  pub made-digits : size x ≤ mostDigits f (A .like)
+  made-digits = go (A .like) refl
+    where
+      go : (like : Bool) → A .like ≡ like → size x ≤ mostDigits f like
+      go true e = made-most
+      go false e = made-difference-most e
 
   pub made-like : A .like ≡ true → 2 ^ (f + guardBits) ≤ made .H → alignedBits f ≤ size x
   made-like e h = let s = size-least x (f + guardBits) (omega (arith, made-sum e)) in omega arith

@@ -2,7 +2,7 @@
 -- Assumes nothing.
 use mathlib.Core.Path.{_≡_}
 use mathlib.Core.Bool.{true, false, not}
-use Prim.Native.Nat.{ℕ, _+_, _^_, _≤_, _<_}
+use Prim.Native.Nat.{ℕ, _+_, _-_, _^_, _≤_, _<_}
 use Rattle.format.specs.declared.Format.{Format}
 use Rattle.format.specs.Format.{Supported}
 use Rattle.mask.specs.declared.Mask.{Mask}
@@ -11,6 +11,7 @@ use Rattle.columns.specs.Carry.{combined, carryOf}
 use Rattle.columns.specs.Column.{allows}
 use Rattle.word.specs.declared.Unit as exponent
 use Rattle.rounding.specs.Width.{guardBits, alignedBits, maskBits}
+use Rattle.rounding.specs.Sticky.{headAt}
 use Rattle.rounding.specs.Outcome.{outcome}
 use Rattle.outcome.specs.declared.Aligned as pair
 
@@ -43,9 +44,13 @@ pub record InFormat (F : Format) (s : ℕ) (u : exponent.Unit) : Type 0 where
   pub sign-lt : s < 2
   pub unit-lt : u .0 < 2 ^ F .w
 
--- a mask that only numbers of an aligned significand's width meet
+-- the largest significand with its guard bits 0, which no aligned significand exceeds
+abbrev pub mostAligned : ℕ → ℕ
+mostAligned f = headAt guardBits (2 ^ (f + 1) - 1)
+
+-- a mask that only numbers up to it meet
 abbrev pub Bounded : ℕ → Mask → Type 0
-Bounded f m = (x : ℕ) → x < 2 ^ maskBits → Meets x m → x < 2 ^ alignedBits f
+Bounded f m = (x : ℕ) → x < 2 ^ maskBits → Meets x m → x ≤ mostAligned f
 
 -- the masks of two aligned significands are such, and the carry mask has p bits
 pub record Formed (f : ℕ) (A : pair.Aligned) : Type 0 where

@@ -1,24 +1,43 @@
--- The parts that the question of `Admits` (`Outcome`) is taken apart into: the masks that fix the number of digits and the kept part, and
--- the word c by its exponent field and its fraction. Contracts inside this crate speak of them. Assumes nothing.
+-- The parts that the question of `Admits` (`Outcome`) is taken apart into: the number of digits and the quotient above the fraction, the
+-- masks that fix them and the kept part, and the word c by its exponent field and its fraction. Contracts inside this crate speak of
+-- them. Assumes nothing.
 -- Internal: no public contract cites this.
 use mathlib.Core.Path.{_≡_}
-use mathlib.Core.Bool.{true, cond}
+use mathlib.Core.Bool.{Bool, true, false, cond}
 use mathlib.Core.Logic.{_↔_}
-use Prim.Native.Nat.{ℕ, _+_, _-_, _*_, _^_, _<_}
+use Prim.Native.Nat.{ℕ, _+_, _-_, _*_, _/_, _^_, _<_}
 use lib.Dec.{ltb}
 use lib.Ieee.{size}
 use Rattle.format.specs.declared.Format.{Format}
 use Rattle.mask.specs.declared.Mask.{Mask}
 use Rattle.mask.specs.Mask.{Inside, Meets}
 use Rattle.word.specs.declared.Biased.{Biased}
+use Rattle.word.specs.declared.Unit as exponent
 use Rattle.rounding.specs.declared.Direction as way
 use Rattle.word.specs.Word.{allOnes, signed}
 use Rattle.rounding.specs.Rounding.{overflowWord}
+use Rattle.rounding.specs.Width.{alignedBits, sumBits}
+use Rattle.rounding.specs.Outcome.{keptOf}
+use Rattle.outcome.specs.declared.Aligned as pair
 use Rattle.outcome.specs.declared.sought.Fractions as fractions-of
+use Rattle.outcome.specs.Outcome.{Making}
 
 -- the mask m on the low k bits, and the number h on r bits above them
 abbrev pub topped : ℕ → ℕ → ℕ → Mask → Mask
 topped r k h m = record { care = (2 ^ r - 1) * 2 ^ k + m .care; value = h * 2 ^ k + m .value }
+
+-- the most digits that a sum has, or else a difference
+abbrev pub mostDigits : ℕ → Bool → ℕ
+mostDigits f true = sumBits f
+mostDigits f false = alignedBits f
+
+-- the smaller of the two numbers that can stand above the fraction of what is made, rounded, where that has N digits
+abbrev pub leastQuotient : ℕ → ℕ → exponent.Unit → ℕ
+leastQuotient f N u = cond (ltb (N + u .0) (alignedBits f)) 0 1
+
+-- they make a number of N digits whose kept part has the other one
+abbrev pub NextQuotient : ℕ → way.Direction → exponent.Unit → pair.Aligned → ℕ → Type 0
+NextQuotient f d u A N = Making f A (λ (x : ℕ). (size x ≡ N) × (keptOf f d x u / 2 ^ f ≡ leastQuotient f N u + 1))
 
 -- m is met by exactly those numbers of n bits that have N binary digits
 pub record OfDigits (n N : ℕ) (m : Mask) : Type 0 where

@@ -3,6 +3,7 @@ use crate::Aligned;
 use crate::ask::ask;
 use crate::ask::rounds;
 use crate::masks;
+use crate::most;
 use crate::sought::Fractions;
 use crate::sought::sought;
 use bits::minus;
@@ -17,19 +18,19 @@ use rounding::width::GUARD_BITS;
 use word::Unit;
 use word::exponent::field_of;
 use word::pack::signed;
-ghost use mathlib.Core.Bool.{true, cond};
+ghost use mathlib.Core.Bool.{true, false};
 ghost use mathlib.Core.Logic.{_↔_};
 ghost use mathlib.Core.Path.{_≡_};
 ghost use Prim.Native.Nat.{ℕ, _+_, _/_, _%_, _^_, _≤_, _<_};
-ghost use lib.Dec.{ltb};
 ghost use lib.Ieee.{size};
 ghost use Rattle.format.specs.Format.{Supported};
 ghost use Rattle.mask.specs.Mask.{Meets};
 ghost use Rattle.word.specs.declared.Unit.{Unit};
 ghost use Rattle.word.specs.Word.{signed};
-ghost use Rattle.rounding.specs.Width.{alignedBits, sumBits, columnsOf};
+ghost use Rattle.rounding.specs.Width.{sumBits, columnsOf};
 ghost use Rattle.rounding.specs.Outcome.{roundedUnit, keptOf, boundedHeld, outcome};
 ghost use Rattle.outcome.specs.Outcome.{InFormat, Formed, Making};
+ghost use Rattle.outcome.specs.Question.{leastQuotient, NextQuotient};
 
 // The exponent of the unit of what they make, rounded, where that has so many digits.
 fn rounded_unit(f: u64, count: u64, unit: Unit) -> Unit
@@ -42,7 +43,7 @@ fn rounded_unit(f: u64, count: u64, unit: Unit) -> Unit
 // The smaller of the two numbers that can stand above the fraction.
 fn least_quotient(f: u64, unit: Unit, count: u64) -> u64
     requires { ⌜ (columnsOf f < 64) × (unit .0 < 2 ^ 63) × (count ≤ sumBits f) ⌝ }
-    ensures { λ r. ⌜ r ≡ cond (ltb (count + unit .0) (alignedBits f)) 0 1 ⌝ }
+    ensures { λ r. ⌜ r ≡ leastQuotient f count unit ⌝ }
 {
     if count + unit.0 < f + ALIGNED { 0 } else { 1 }
 }
@@ -100,6 +101,23 @@ fn at_quotient(
     rounds_to(aligned, f, direction, unit, count, quotient, fractions)
 }
 
+// Whether rounding may carry into the next quotient. It never does where nothing is rounded off, nor toward zero, nor in the longest sum or
+// difference: that is at most the largest significand with zeros below it, and so is rounded to no more than this significand.
+fn may_carry(f: u64, direction: Direction, unit: Unit, aligned: Aligned, count: u64) -> bool
+    requires { ⌜ (columnsOf f < 64) × (unit .0 < 2 ^ 63) × (0 < count) × (count ≤ sumBits f) ⌝ }
+    ensures { λ r. ⌜ (r ≡ false → Formed f aligned → NextQuotient f direction unit aligned count → ⊥) ⌝ }
+{
+    if rounded_unit(f, count, unit).0 + GUARD_BITS <= unit.0 {
+        return false;
+    }
+    match direction {
+        Direction::TowardZero => false,
+        Direction::NearestEven | Direction::NearestAway | Direction::Away => {
+            count != most(aligned.like, f)
+        }
+    }
+}
+
 // Whether they make a number of so many digits, not 0, whose word meets c.
 fn at_count(
     format: Format,
@@ -116,6 +134,9 @@ fn at_count(
     let least = least_quotient(format.f, unit, count);
     if at_quotient(format, direction, sign, unit, aligned, c, count, least) {
         return true;
+    }
+    if !may_carry(format.f, direction, unit, aligned, count) {
+        return false;
     }
     at_quotient(format, direction, sign, unit, aligned, c, count, least + 1)
 }

@@ -19,8 +19,9 @@ ghost use mathlib.Core.Path.{_≡_};
 ghost use Prim.Native.Nat.{ℕ, _^_, _≤_, _<_};
 ghost use lib.Ieee.{size};
 ghost use Rattle.mask.specs.Mask.{Meets};
-ghost use Rattle.rounding.specs.Width.{alignedBits, smallBits, sumBits, columnsOf};
+ghost use Rattle.rounding.specs.Width.{alignedBits, smallBits, columnsOf};
 ghost use Rattle.outcome.specs.Outcome.{Made, Admits, InFormat, Formed};
+ghost use Rattle.outcome.specs.Question.{mostDigits};
 
 // The masks of two aligned significands and of their carries; like tells whether they are added.
 pub struct Aligned {
@@ -63,12 +64,12 @@ fn fewest(aligned: Aligned, f: u64) -> u64
     0
 }
 
-// A number of digits that what they make has at most.
-fn most(aligned: Aligned, f: u64) -> u64
+// The most digits that what they make has: a sum's where they are like, else a difference's.
+pub(crate) fn most(like: bool, f: u64) -> u64
     requires { ⌜ columnsOf f < 64 ⌝ }
-    ensures { λ r. ⌜ (r ≤ sumBits f) × ((x : ℕ) → Made f aligned x → size x ≤ r) ⌝ }
+    ensures { λ r. ⌜ r ≡ mostDigits f like ⌝ }
 {
-    if aligned.like { f + SUM } else { f + ALIGNED }
+    if like { f + SUM } else { f + ALIGNED }
 }
 
 // Whether they make a number whose word meets c.
@@ -76,7 +77,7 @@ fn some_count(format: Format, mode: u64, sign: u64, unit: Unit, aligned: Aligned
     requires { ⌜ InFormat format sign unit ⌝ }
     ensures { λ r. ⌜ (Formed (format .f) aligned → (r ≡ true) ↔ Admits format mode sign unit aligned c) ⌝ }
 {
-    let last = most(aligned, format.f);
+    let last = most(aligned.like, format.f);
     let mut count = fewest(aligned, format.f);
     while count <= last {
         if fits(format, mode, sign, unit, aligned, c, count) {

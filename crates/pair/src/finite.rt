@@ -119,7 +119,7 @@ fn some_signs(job: Job, ea: Biased, eb: Biased) -> bool
 }
 
 // Whether the exponent fields are those of finite operands of a supported format.
-pub fn finite_fields(format: Format, ea: Biased, eb: Biased) -> bool
+pub(crate) fn finite_fields(format: Format, ea: Biased, eb: Biased) -> bool
     ensures { λ r. ⌜ (r ≡ true) ↔ FinitePair format ea eb ⌝ }
 {
     if format_cause(format) != 0 {

@@ -3,7 +3,8 @@
 use mathlib.Core.Path.{_≡_, refl, sym, ap, ap₂, _∙_}
 use mathlib.Core.Bool.{Bool, true, false, cond}
 use Prim.Native.Nat.{ℕ, suc, _+_, _*_, _/_, _%_, _^_, _≤_, _<_}
-use native.Mathlib.Nat.{mod-lt, mul-assoc, mul-comm, zero-mul, pow-suc, mod-one, div-one, add-zero}
+use native.Mathlib.Nat.{mod-lt, mul-assoc, mul-comm, zero-mul, pow-suc, mod-one, div-one, add-zero, zero-add, div-lt-iff-lt-mul}
+use native.Mathlib.Decide.{ℕ-discrete}
 use native.Mathlib.Omega.{arith}
 use lib.Dec.{ltb, eqb, lit<}
 use lib.Arith.{digits-div, digits-mod}
@@ -67,6 +68,17 @@ round-off-none NearestEven X = rw (mod-one X, div-one X) (add-zero X)
 round-off-none NearestAway X = rw (mod-one X, div-one X) (add-zero X)
 round-off-none TowardZero X = rw (div-one X) (add-zero X)
 round-off-none Away X = rw (mod-one X, div-one X) (add-zero X)
+
+-- what is at most M units of 2^k is rounded off to M at most
+pub round-off-most : (d : Direction) (X M k : ℕ) → X ≤ M * 2 ^ k → roundOff d X k ≤ M
+unfolding roundOff
+round-off-most d X M k h = go (ℕ-discrete X (M * 2 ^ k))
+  where
+    go : Dec (X ≡ M * 2 ^ k) → X / 2 ^ k + increment d (X / 2 ^ k) (X % 2 ^ k) (2 ^ k) ≤ M
+    go (yes e) = omega (arith, ap₂ (roundOff d) e (sym (zero-add k)) ∙ round-off-scale d M 0 k ∙ round-off-none d M)
+    go (no e) =
+        let q = div-lt-iff-lt-mul {k = 2 ^ k} {x = X} {y = M} (pow-pos k) .1 (omega arith) in
+        omega (arith, increment-le d (X / 2 ^ k) (X % 2 ^ k) (2 ^ k))
 
 -- the increment of h whole units and s of 2^u, against that of h and the sticky bit
 increment-sticky : (d : Direction) (q h s j u : ℕ) → s < 2 ^ u → increment d q (h * 2 + sticky s) (2 ^ (j + 2)) ≡ increment d q (h * 2 ^ u + s) (2 ^ (suc j + u))

@@ -1,4 +1,5 @@
 -- Two walks, one for each operand, end at the chosen pair: the first fixes a, the second b among the cases with that a. Assumes nothing.
+use mathlib.Core.Logic.{inl, inr}
 use mathlib.Core.Path.{_≡_, refl, subst}
 use Prim.Native.Nat.{ℕ}
 use native.Mathlib.Omega.{arith}
@@ -10,18 +11,24 @@ use Rattle.choice.specs.Walk.{Has}
 use Rattle.job.specs.declared.Job.{Job}
 use Rattle.job.specs.declared.Role.{Role}
 use Rattle.job.specs.declared.Role.the-variants.{A, B}
-use Rattle.word.specs.declared.Biased.{Biased}
+use Rattle.special.specs.Asked.{fieldIs}
 use Rattle.fit.specs.Fit.{Fits, Fitting}
+use Rattle.search.specs.declared.Exponents.{Exponents}
 use Rattle.search.specs.Left.{Ready}
-use Rattle.search.specs.Walk.{NoneBelow, OpenBits, Triple, TripleFits, memberOf, WalkEnd}
+use Rattle.search.specs.Walk.{NoneBefore, OpenBits, Triple, TripleFits, memberOf, WalkEnd}
 use Rattle.search.proofs.Roles.{none-back}
 
 -- before a walk every bit is open
 pub all-open : (j : Job) (role : Role) (width : ℕ) → Ready j → width ≡ wordBits (j .setting .format) → OpenBits j role width
 all-open j role width ready e = record { ready = ready; most = omega arith; fixed = λ i l h. absurd (omega arith) }
 
--- and no case that the first walk leaves has an exponent field of a that none had
-pub end-none : (j : Job) (word : ℕ) (t : Job) (n : Biased) → t .setting ≡ j .setting → WalkEnd j A word t → NoneBelow j n → NoneBelow t n
+-- no pair of exponent fields comes before the first
+pub none-first : (j : Job) → NoneBefore j (record { a = fieldIs 0; b = fieldIs 0 })
+none-first j d e (inl l) P = omega arith
+none-first j d e (inr (same, l)) P = omega arith
+
+-- and no case that the first walk leaves has exponent fields that none had
+pub end-none : (j : Job) (word : ℕ) (t : Job) (n : Exponents) → t .setting ≡ j .setting → WalkEnd j A word t → NoneBefore j n → NoneBefore t n
 end-none j word t n same q = none-back j t n same (λ p f. q .ends .same p .0 f .0)
 
 module _ (j : Job) (r1 r2 : ℕ) (t u : Job) (qa : WalkEnd j A r1 t) (qb : WalkEnd t B r2 u) where

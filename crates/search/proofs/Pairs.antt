@@ -2,17 +2,17 @@
 -- these meet the masks on them. Assumes nothing.
 use mathlib.Core.Path.{_≡_, refl, sym, ap, _∙_, subst}
 use mathlib.Core.Bool.{Bool, true}
-use mathlib.Core.Logic.{_↔_}
-use Prim.Native.Nat.{ℕ, _/_, _%_, _^_, _≤_, _<_}
-use native.Mathlib.Nat.{mod-lt, mod-eq-of-lt}
+use mathlib.Core.Logic.{_↔_, inl}
+use Prim.Native.Nat.{ℕ, _+_, _/_, _^_, _≤_, _<_}
+use native.Mathlib.Nat.{mod-lt}
 use native.Mathlib.Omega.{arith}
-use lib.Pow.{pow-pos, pow-lt}
+use lib.Pow.{pow-pos}
 use Rattle.format.specs.declared.Format.{Format}
 use Rattle.format.specs.Format.{wordBits}
 use Rattle.mask.specs.declared.Mask.{Mask}
-use Rattle.mask.specs.Mask.{WellFormed, Meets, meets}
+use Rattle.mask.specs.Mask.{WellFormed, Meets, meets, high}
 use Rattle.mask.proofs.Checks.{meets-true}
-use Rattle.mask.proofs.ByParts.{meets-fields}
+use Rattle.mask.proofs.ByParts.{low-formed, high-formed, meets-fields}
 use Rattle.job.specs.declared.Job.{Job}
 use Rattle.job.specs.Job.{Valid}
 use Rattle.word.specs.declared.Biased.{Biased}
@@ -21,7 +21,8 @@ use Rattle.special.specs.Asked.{InRange, PairFits}
 use Rattle.classes.specs.Class.{Asked}
 use Rattle.word.specs.Masks.{exponentMask}
 use Rattle.search.specs.Left.{Left}
-use Rattle.search.specs.Walk.{FirstField}
+use Rattle.search.specs.declared.Exponents.{Exponents}
+use Rattle.search.specs.Walk.{FirstPair}
 
 -- the exponent field of a word is below 2^w
 field-lt : (F : Format) (x : ℕ) → biased F x .0 < 2 ^ F .w
@@ -30,6 +31,10 @@ field-lt F x = mod-lt (x / 2 ^ F .f) (pow-pos (F .w))
 -- and that of a word that meets a mask meets the mask on it
 field-meets : (F : Format) (m : Mask) (x : ℕ) (e : Biased) → WellFormed (wordBits F) m → Meets x m → biased F x ≡ e → Meets (e .0) (exponentMask F m)
 field-meets F m x e h met is = subst (λ (u : Biased). Meets (u .0) (exponentMask F m)) is (meets-fields (F .w) (F .f) m h x .0 met .1)
+
+-- the mask on an exponent field is well formed
+pub field-formed : (F : Format) (m : Mask) → WellFormed (wordBits F) m → WellFormed (F .w) (exponentMask F m)
+field-formed F m h = low-formed (F .w) (high (F .f) m) (high-formed (F .w + 1) (F .f) m (subst (λ (n : ℕ). WellFormed n m) (omega arith) h) .inside)
 
 -- the fields of a pair that admits a case are fields of the format
 pub pair-range : (j : Job) (ea eb : Biased) → Valid j → PairFits j ea eb → InRange (j .setting .format) ea eb
@@ -58,7 +63,7 @@ tested F m e is q =
     (λ h. law .0 (sym same ∙ h), λ h. same ∙ law .1 h)
 
 -- past the last exponent field of a no case is left
-pub past-none : (j : Job) (first : Biased) → FirstField j first → 2 ^ j .setting .format .w ≤ first .0 → Left j → ⊥
+pub past-none : (j : Job) (first : Exponents) → FirstPair j first → 2 ^ j .setting .format .w ≤ first .a .0 → Left j → ⊥
 past-none j first is past p =
-    is .none (biased (j .setting .format) (p .a)) (biased (j .setting .format) (p .b)) (omega (arith, field-lt (j .setting .format) (p .a)))
+    is .none (biased (j .setting .format) (p .a)) (biased (j .setting .format) (p .b)) (inl (omega (arith, field-lt (j .setting .format) (p .a))))
     (record { a = p .a; b = p .b; c = p .c; fits = p .fits; a-exponent = refl; b-exponent = refl })

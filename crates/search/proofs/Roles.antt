@@ -1,6 +1,5 @@
 -- The words of a case alike, by their role, as the bit walk needs them. Assumes nothing.
 use mathlib.Core.Path.{_≡_, sym, ap, _∙_, subst}
-use Prim.Native.Nat.{ℕ}
 use Rattle.mask.specs.declared.Mask.{Mask}
 use Rattle.choice.proofs.Walk.{Replaced}
 use Rattle.job.specs.declared.Setting.{Setting}
@@ -8,10 +7,10 @@ use Rattle.job.specs.declared.Job.{Job}
 use Rattle.job.specs.declared.Role.{Role}
 use Rattle.job.specs.Role.{wanted, withWanted, withMask}
 use Rattle.job.proofs.Roles.{setting-with}
-use Rattle.word.specs.declared.Biased.{Biased}
 use Rattle.word.specs.Word.{biased}
 use Rattle.fit.proofs.Roles.{fits-with, with-allowed, fits-back}
-use Rattle.search.specs.Walk.{NoneBelow, Triple, TripleFits, memberOf}
+use Rattle.search.specs.declared.Exponents.{Exponents}
+use Rattle.search.specs.Walk.{NoneBefore, Triple, TripleFits, memberOf}
 
 -- the cases that fit the job with another mask of one word
 pub fits-replaced : (j : Job) (role : Role) (m : Mask) (t : Job) → t ≡ withWanted role j (withMask (wanted role j) m)
@@ -26,8 +25,8 @@ fits-replaced j role m t is = subst (λ (u : Job). Replaced Triple (memberOf rol
 pub replaced-setting : (j : Job) (role : Role) (m : Mask) (t : Job) → t ≡ withWanted role j (withMask (wanted role j) m) → t .setting ≡ j .setting
 replaced-setting j role m t is = ap (λ (u : Job). u .setting) is ∙ setting-with role j (withMask (wanted role j) m)
 
--- where each case of t fits j, no case of t has an exponent field of a that none of j has
-pub none-back : (j t : Job) (n : Biased) → t .setting ≡ j .setting → ((p : Triple) → TripleFits t p → TripleFits j p) → NoneBelow j n → NoneBelow t n
+-- where each case of t fits j, no case of t has exponent fields that none of j has
+pub none-back : (j t : Job) (n : Exponents) → t .setting ≡ j .setting → ((p : Triple) → TripleFits t p → TripleFits j p) → NoneBefore j n → NoneBefore t n
 none-back j t n same back none d e h p = none d e h (record {
   a = p .a;
   b = p .b;

@@ -17,10 +17,10 @@ use Rattle.job.specs.declared.Role.{Role}
 use Rattle.job.specs.Job.{Valid}
 use Rattle.job.specs.Role.{wanted, withWanted, withMask}
 use Rattle.job.proofs.Roles.{wanted-with, valid-wanted, valid-with}
-use Rattle.word.specs.declared.Biased.{Biased}
 use Rattle.fit.proofs.Roles.{member-lt, fits-allowed}
+use Rattle.search.specs.declared.Exponents.{Exponents}
 use Rattle.search.specs.Left.{Left, Ready}
-use Rattle.search.specs.Walk.{NoneBelow, FirstField, OpenBits, WalkStart, Triple, TripleFits, memberOf, WalkEnd}
+use Rattle.search.specs.Walk.{NoneBefore, FirstPair, OpenBits, WalkStart, Triple, TripleFits, memberOf, WalkEnd}
 use Rattle.search.proofs.Roles.{fits-replaced, replaced-setting, none-back}
 use Rattle.search.proofs.Pairs.{past-none}
 
@@ -66,7 +66,7 @@ module _ (j : Job) (role : Role) where
     next-fits = fits-replaced j role (fix (wanted role j .mask) (n - 1) v) t is
 
     -- fixing more never gains a case
-    next-none : (s : Biased) → NoneBelow j s → NoneBelow t s
+    next-none : (s : Exponents) → NoneBefore j s → NoneBefore t s
     next-none s = none-back j t s next-setting (walk-back (walked n o) h v hv next-fits)
 
 -- ---- as the code has it: n bits are open, and the highest, where it is free, is first tried as that of the random word
@@ -89,7 +89,7 @@ module _ (j : Job) (role : Role) (n : ℕ) (o : OpenBits j role n) (h : n ≡ 0 
     pub tried-valid : Valid t
     tried-valid = next-valid j role n v o h v-lt t is
 
-    pub tried-none : (s : Biased) → NoneBelow j s → NoneBelow t s
+    pub tried-none : (s : Exponents) → NoneBefore j s → NoneBefore t s
     tried-none = next-none j role n v o h v-lt t is
 
     tried-setting : t .setting ≡ j .setting
@@ -98,17 +98,17 @@ module _ (j : Job) (role : Role) (n : ℕ) (o : OpenBits j role n) (h : n ≡ 0 
     tried-fits : Replaced Triple (memberOf role) (TripleFits j) (wanted role j .mask) (fix (wanted role j .mask) (n - 1) v) (TripleFits t)
     tried-fits = next-fits j role n v o h v-lt t is
 
-    -- the field that was found starts the walk below
-    pub tried-started : (first : Biased) → FirstField t first → first .0 < 2 ^ j .setting .format .w → WalkStart t role (n - 1) first
+    -- the pair that was found starts the walk below
+    pub tried-started : (first : Exponents) → FirstPair t first → first .a .0 < 2 ^ j .setting .format .w → WalkStart t role (n - 1) first
     tried-started first found l = record {
-      top = next-open j role n v o h v-lt t is (found .left (subst (λ (S : Setting). first .0 < 2 ^ S .format .w) (sym tried-setting) l));
+      top = next-open j role n v o h v-lt t is (found .left (subst (λ (S : Setting). first .a .0 < 2 ^ S .format .w) (sym tried-setting) l));
       none = found .none;
     }
 
     -- past the last field no case is left
-    pub tried-past : (first : Biased) → FirstField t first → 2 ^ j .setting .format .w ≤ first .0 → Ready t → ⊥
+    pub tried-past : (first : Exponents) → FirstPair t first → 2 ^ j .setting .format .w ≤ first .a .0 → Ready t → ⊥
     tried-past first is past ready =
-        past-none t first is (subst (λ (S : Setting). 2 ^ S .format .w ≤ first .0) (sym tried-setting) past) (ready .left)
+        past-none t first is (subst (λ (S : Setting). 2 ^ S .format .w ≤ first .a .0) (sym tried-setting) past) (ready .left)
 
     pub tried-end : (u : Job) → WalkEnd t role word u → WalkEnd j role word u
     tried-end u q = record {
@@ -126,7 +126,7 @@ module _ (j : Job) (role : Role) (n : ℕ) (o : OpenBits j role n) (h : n ≡ 0 
       other-fits : Replaced Triple (memberOf role) (TripleFits j) (wanted role j .mask) (fix (wanted role j .mask) (n - 1) (1 - v)) (TripleFits t′)
       other-fits = next-fits j role n (1 - v) o h w-lt t′ is′
 
-      pub other-started : (s : Biased) → NoneBelow j s → WalkStart t′ role (n - 1) s
+      pub other-started : (s : Exponents) → NoneBefore j s → WalkStart t′ role (n - 1) s
       other-started s below =
           let p = o .ready .left in
           let kept = walk-left (walked j role n o) h word v e tried-fits no-case other-fits (p .a, p .b, p .c) (p .fits) in

@@ -1,6 +1,8 @@
 -- What the bit walk asks and promises (document 01, "each bit of a, from the top, follows the first random word": recursion over the bits
 -- still open). Nothing here is needed to read the choice. Assumes nothing.
 -- Internal: no public contract cites this.
+use mathlib.Core.Bool.{false}
+use mathlib.Core.Logic.{_⊎_}
 use mathlib.Core.Path.{_≡_}
 use Prim.Native.Nat.{ℕ, _^_, _≤_, _<_}
 use Rattle.format.specs.Format.{wordBits}
@@ -12,10 +14,13 @@ use Rattle.fit.specs.Fit.{Fits}
 use Rattle.mask.specs.Mask.{Meets}
 use Rattle.word.specs.Masks.{exponentMask}
 use Rattle.word.specs.declared.Biased.{Biased}
-use Rattle.special.specs.Asked.{PairFits}
+use Rattle.special.specs.Asked.{fieldIs, PairFits}
 use Rattle.pair.specs.Signs.{signsLeft}
-use Rattle.search.specs.declared.Pass.{Pass}
-use Rattle.answers.specs.Kept.{ClassEnd}
+use Rattle.classes.specs.Far.{LetsZero}
+use Rattle.answers.specs.Kept.{ClassEnd, NoPartner}
+use Rattle.search.specs.declared.Exponents.{Exponents}
+use Rattle.search.specs.declared.pass.Pass.{Pass}
+use Rattle.search.specs.declared.row.Row.{Row}
 use Rattle.search.specs.Left.{Left, Ready}
 
 -- a case is left, and the word's bits from position k on are fixed
@@ -24,33 +29,50 @@ pub record OpenBits (j : Job) (role : Role) (k : ℕ) : Type 0 where
   pub most : k ≤ wordBits (j .setting .format)
   pub fixed : FixedFrom (wordBits (j .setting .format)) (wanted role j .mask) k
 
--- no pair of exponent fields of which a's is below n admits a case
+-- the exponent fields d of a and e of b come before p: a's is below, or b's with the same of a
+abbrev pub Before : Biased → Biased → Exponents → Type 0
+Before d e p = (d .0 < p .a .0) ⊎ ((d .0 ≡ p .a .0) × (e .0 < p .b .0))
+
+-- no pair of exponent fields before p admits a case
+abbrev pub NoneBefore : Job → Exponents → Type 0
+NoneBefore j p = (d e : Biased) → Before d e p → PairFits j d e → ⊥
+
+-- none with an exponent field of a below n does
 abbrev pub NoneBelow : Job → Biased → Type 0
 NoneBelow j n = (d e : Biased) → d .0 < n .0 → PairFits j d e → ⊥
 
--- what a pass over the exponent fields asks: the masks on them, one past the last one, whether signs are left for finite operands, and
--- one past the fields that the classes of pairs answer for
+-- what a pass over the exponent fields asks: the masks on them, one past the last one, a field from 1 on that meets a's mask, whether signs are
+-- left for finite operands, whether c may be a zero, and one past the fields that the classes of pairs answer for
 pub record PassOf (j : Job) (p : Pass) : Type 0 where
   pub a : p .a ≡ exponentMask (j .setting .format) (j .a .mask)
   pub b : p .b ≡ exponentMask (j .setting .format) (j .b .mask)
+  pub c : p .c ≡ exponentMask (j .setting .format) (j .c .mask)
   pub past : p .past .0 ≡ 2 ^ j .setting .format .w
+  pub first-some : 1 ≤ p .first .0
+  pub first-meets : p .first .0 < 2 ^ j .setting .format .w → Meets (p .first .0) (exponentMask (j .setting .format) (j .a .mask))
   pub signs : p .signs ≡ signsLeft j
+  pub zero : p .zero ≡ false → LetsZero j → ⊥
   pub end : ClassEnd j (p .end)
 
--- no pair of a's exponent field e with one of b's below n admits a case, and where n is a field of b, a's meets its mask
-pub record PartnersFrom (j : Job) (e n : Biased) : Type 0 where
-  pub none : (d : Biased) → d .0 < n .0 → PairFits j e d → ⊥
-  pub meets : n .0 < 2 ^ j .setting .format .w → Meets (e .0) (exponentMask (j .setting .format) (j .a .mask))
+-- b's exponent fields from `from` on and below `end` are fields of the format, and where there are such, e of a meets its mask
+pub record RowIn (j : Job) (e : Biased) (r : Row) : Type 0 where
+  pub within : r .end .0 ≤ 2 ^ j .setting .format .w
+  pub meets : r .from .0 < r .end .0 → Meets (e .0) (exponentMask (j .setting .format) (j .a .mask))
 
--- r is the first exponent field of a that a case left has, or one past them all
-pub record FirstField (j : Job) (r : Biased) : Type 0 where
-  pub none : NoneBelow j r
-  pub left : r .0 < 2 ^ j .setting .format .w → Left j
+-- no other one admits a case with e of a
+pub record RowOf (j : Job) (e : Biased) (r : Row) : Type 0 where
+  pub low : NoPartner j e (fieldIs 0) (r .from)
+  pub high : (d : Biased) → r .end .0 ≤ d .0 → PairFits j e d → ⊥
 
--- and no case left has an exponent field of a below n
-pub record WalkStart (j : Job) (role : Role) (k : ℕ) (n : Biased) : Type 0 where
+-- r is the first pair of exponent fields that a case left has, or past them all
+pub record FirstPair (j : Job) (r : Exponents) : Type 0 where
+  pub none : NoneBefore j r
+  pub left : r .a .0 < 2 ^ j .setting .format .w → Left j
+
+-- and no case left has exponent fields before p
+pub record WalkStart (j : Job) (role : Role) (k : ℕ) (p : Exponents) : Type 0 where
   pub top : OpenBits j role k
-  pub none : NoneBelow j n
+  pub none : NoneBefore j p
 
 -- the three words of a case as one, which fit, and of which one is fixed
 abbrev pub Triple : Type 0

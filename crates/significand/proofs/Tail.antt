@@ -4,7 +4,7 @@
 use mathlib.Core.Logic.{_↔_}
 use mathlib.Core.Path.{_≡_, sym, ap, ap₂, _∙_, subst}
 use Prim.Native.Nat.{ℕ, _+_, _-_, _*_, _/_, _%_, _^_, _≤_, _<_}
-use native.Mathlib.Nat.{mod-lt, div-eq-of-lt, mod-eq-of-lt, lt-of-lt-of-le, lt-of-le-of-lt, mul-lt-mul-of-pos-right}
+use native.Mathlib.Nat.{mod-lt, div-eq-of-lt, mod-eq-of-lt, lt-of-lt-of-le, lt-of-le-of-lt, mul-lt-mul-of-pos-right, mul-le-mul-left, add-zero}
 use native.Mathlib.Decide.{ℕ-discrete}
 use native.Mathlib.Omega.{arith}
 use borrow.Author.Tests.{le-leb}
@@ -18,7 +18,7 @@ use Rattle.rounding.specs.Sticky.{sticky, withSticky, guardedAt, headAt, tailAt
 use Rattle.rounding.specs.Width.{guardBits, shortBits, maskBits}
 use Rattle.rounding.proofs.Sticky.{sticky-lt}
 use Rattle.rounding.proofs.Widths.{guards, short-room}
-use Rattle.rounding.proofs.Align.{tail-none, tail-short}
+use Rattle.rounding.proofs.Align.{tail-none, tail-short, tail-ordered}
 use Rattle.significand.specs.Tail.{least, greatest, spanned, formsMask, alignedMask, tailMask}
 use Rattle.significand.proofs.Part.{Part, part-le, part-shr, part-mod, part-block, part-scale, part-unscale, part-with-sticky}
 use Rattle.significand.proofs.Range.{greatest-lt, meets-range, spanned-meets}
@@ -109,9 +109,14 @@ module _ (n q p : ℕ) (m : Mask) (d : ℕ) (some : 0 < q) (room : p + q ≤ n) 
       let b = lt-of-le-of-lt (part-le (r .0) (greatest p m) (r .2)) (greatest-lt p m w) in
       (r .0, b, meets-range p m w (r .0) b .1 (r .1, r .2), ap (λ (k : ℕ). withSticky k d) (r .3) ∙ x .3)
 
-  -- so such a number has p + q bits
-  pub forms-below : (t : ℕ) → t < 2 ^ n → Meets t (formsMask n q p m d) → t < 2 ^ (p + q)
-  forms-below t h met = let r = forms-complete t h met in subst (λ (k : ℕ). k < 2 ^ (p + q)) (r .3) (tail-short q some p (r .0) (r .1) d)
+  -- so such a number is at most the largest significand with q zeros below it
+  pub forms-most : (t : ℕ) → t < 2 ^ n → Meets t (formsMask n q p m d) → t ≤ headAt q (2 ^ p - 1)
+  forms-most t h met = let r = forms-complete t h met in subst (λ (k : ℕ). k ≤ headAt q (2 ^ p - 1)) (r .3) (most (r .0) (r .1))
+    where
+      most : (r : ℕ) → r < 2 ^ p → tailAt q r d ≤ headAt q (2 ^ p - 1)
+      most r b =
+          let s = mul-le-mul-left (2 ^ p - 1) (pow-pos d) in
+          tail-ordered q some (2 ^ p - 1) r d 0 d (add-zero d) .1 (omega arith)
 
 -- a gap of p + q - 1 places or more drops the whole significand: which one does not matter
 far-sticky : (x d : ℕ) → x < 2 ^ d → withSticky x d ≡ sticky x
@@ -146,8 +151,8 @@ module _ (p : ℕ) (m : Mask) (d : ℕ) (hp : p ≤ shortBits) (w : WellFormed p
   pub tail-complete : (t : ℕ) → t < 2 ^ maskBits → Meets t (tailMask p m d) → (r : ℕ) × (r < 2 ^ p) × Meets r m × (tailAt guardBits r d ≡ t)
   tail-complete t h met = forms-complete maskBits guardBits p m d guards (short-room p hp) w t h (rw tail-aligned at met)
 
-  pub tail-below : (t : ℕ) → t < 2 ^ maskBits → Meets t (tailMask p m d) → t < 2 ^ (p + guardBits)
-  tail-below t h met = forms-below maskBits guardBits p m d guards (short-room p hp) w t h (rw tail-aligned at met)
+  pub tail-most : (t : ℕ) → t < 2 ^ maskBits → Meets t (tailMask p m d) → t ≤ headAt guardBits (2 ^ p - 1)
+  tail-most t h met = forms-most maskBits guardBits p m d guards (short-room p hp) w t h (rw tail-aligned at met)
 
 pub tail-far : (p : ℕ) (m : Mask) (d e : ℕ) → p ≤ shortBits → WellFormed p m → p + (guardBits - 1) ≤ d → p + (guardBits - 1) ≤ e → tailMask p m d ≡ tailMask p m e
 tail-far p m d e hp w hd he = tail-aligned p m d hp w ∙ forms-far maskBits guardBits p m d e w hd he ∙ sym (tail-aligned p m e hp w)

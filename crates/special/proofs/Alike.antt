@@ -118,3 +118,24 @@ unfolding result
 alike-result F operation mode {b = b} {b' = b'} la lb (inl e) = alike-sum F mode la (alike-effective F operation b b' lb) (inl e)
 alike-result F operation mode {b = b} {b' = b'} la lb (inr e) =
     alike-sum F mode la (alike-effective F operation b b' lb) (inr (effective-biased F operation b ∙ e))
+
+-- ---- a finite operand beside one that is not
+
+-- any two have one rounded result with it
+module _ (F : Format) (operation mode : ℕ) where
+  pub finite-second : (a b b' : ℕ) → biased F a .0 ≡ allOnes F → (biased F b .0 ≡ allOnes F → ⊥) → (biased F b' .0 ≡ allOnes F → ⊥) → result F operation mode a b ≡ result F operation mode a b'
+  unfolding result
+  finite-second a b b' e n n' =
+      ap (kindSum F mode (operandOf F a)) (finite b n)
+      ∙ sum-first F mode (operandOf F a) (not-finite F a e) (finiteOf F (effective F operation b)) (finiteOf F (effective F operation b'))
+      ∙ sym (ap (kindSum F mode (operandOf F a)) (finite b' n'))
+    where
+      finite : (x : ℕ) → (biased F x .0 ≡ allOnes F → ⊥) → operandOf F (effective F operation x) ≡ Finite (finiteOf F (effective F operation x))
+      finite x ne = operand-finite F (effective F operation x) (λ q. ne (sym (effective-biased F operation x) ∙ q))
+
+  pub finite-first : (a a' b : ℕ) → biased F b .0 ≡ allOnes F → (biased F a .0 ≡ allOnes F → ⊥) → (biased F a' .0 ≡ allOnes F → ⊥) → result F operation mode a b ≡ result F operation mode a' b
+  unfolding result
+  finite-first a a' b e n n' =
+      ap (λ (k : kind.Operand). kindSum F mode k (operandOf F (effective F operation b))) (operand-finite F a n)
+      ∙ sum-second F mode (operandOf F (effective F operation b)) (not-finite F (effective F operation b) (effective-biased F operation b ∙ e)) (finiteOf F a) (finiteOf F a')
+      ∙ sym (ap (λ (k : kind.Operand). kindSum F mode k (operandOf F (effective F operation b))) (operand-finite F a' n'))

@@ -1,3 +1,4 @@
 pub mod Alike
 pub mod Representatives
 pub mod Laws
+pub mod Beside

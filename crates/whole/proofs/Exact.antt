@@ -41,11 +41,11 @@ alive true v h = refl
 alive false v h = absurd (lt-irrefl 2 h)
 
 -- every mask is met in column i
-record Column (s : Masks) (i c l r : ℕ) : Type 0 where
-  at-x : at (s .x) i l ≡ true
-  at-y : at (s .y) i r ≡ true
-  at-z : at (s .z) i ((l + r + c) % 2) ≡ true
-  at-carries : at (s .carries) (suc i) ((l + r + c) / 2) ≡ true
+pub record Column (s : Masks) (i c l r : ℕ) : Type 0 where
+  pub at-x : at (s .x) i l ≡ true
+  pub at-y : at (s .y) i r ≡ true
+  pub at-z : at (s .z) i ((l + r + c) % 2) ≡ true
+  pub at-carries : at (s .carries) (suc i) ((l + r + c) / 2) ≡ true
 
 module _ (s : Masks) where
   column-told : (i c l r : ℕ) → column s i c l r ≡ true → Column s i c l r
@@ -64,13 +64,13 @@ module _ (s : Masks) where
   unfolding column
   told-column i c l r h = rw (add-one, h .at-x, h .at-y, h .at-z, h .at-carries)
 
-  step-live : (i c l r : ℕ) → step s i c l r < 2 → (c < 2) × Column s i c l r
+  pub step-live : (i c l r : ℕ) → step s i c l r < 2 → (c < 2) × Column s i c l r
   unfolding step
   step-live i c l r h =
       let both = and-eq-true-iff (ltb c 2) (column s i c l r) .0 (alive (ltb c 2 && column s i c l r) ((l + r + c) / 2) h) in
       (ltb-true c 2 (both .0), column-told i c l r (both .1))
 
-  step-next : (i c l r : ℕ) → c < 2 → Column s i c l r → step s i c l r ≡ (l + r + c) / 2
+  pub step-next : (i c l r : ℕ) → c < 2 → Column s i c l r → step s i c l r ≡ (l + r + c) / 2
   unfolding step
   step-next i c l r hc h = rw (lt-ltb c 2 hc, told-column i c l r h)
 

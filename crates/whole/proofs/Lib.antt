@@ -1,4 +1,5 @@
 pub mod Exact
+pub mod Ways
 pub mod Roles
 pub mod Walking
 pub mod Choosing

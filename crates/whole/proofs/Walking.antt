@@ -1,13 +1,15 @@
 -- The bit walk over whole-number masks, once over the three roles, by the laws of `choice`. Assumes nothing.
 use mathlib.Core.Path.{_≡_, refl, sym, ap, _∙_, subst}
+use mathlib.Core.Bool.{Bool, false}
 use Prim.Native.Nat.{ℕ, _-_, _<_}
 use native.Mathlib.Omega.{arith}
+use borrow.Author.Tests.{eqb-false}
 use Rattle.bits.specs.Bit.{bit}
 use Rattle.bits.proofs.Laws.{bit-lt}
 use Rattle.mask.specs.declared.Mask.{Mask}
-use Rattle.mask.specs.Mask.{fix}
+use Rattle.mask.specs.Mask.{free, fix}
 use Rattle.choice.specs.Walk.{FixedFrom}
-use Rattle.choice.proofs.Walk.{Walked, Replaced, walk-done, walk-formed, walk-top, walk-tried, walk-left, walk-other}
+use Rattle.choice.proofs.Walk.{Walked, Replaced, fixed-below, walk-done, walk-formed, walk-top, walk-tried, walk-left, walk-other}
 use Rattle.whole.specs.declared.Masks.{Masks}
 use Rattle.whole.specs.declared.Case.{Case}
 use Rattle.whole.specs.declared.Role.{Role}
@@ -47,43 +49,53 @@ module _ (n : ℕ) (s : Masks) (role : Role) where
       fixed = subst (λ (m : Mask). FixedFrom n m (b - 1)) (sym (ap (maskOf role) is ∙ mask-with role s (fix (maskOf role s) (b - 1) v))) (walk-top (walked b o) h v hv);
     }
 
--- ---- as the code has it: the highest open bit is first tried as that of the random word
+-- ---- as the code has it: b bits are open, and the highest, where it is free, is first tried as that of the random word
 
-module _ (n : ℕ) (s : Masks) (role : Role) (b word v : ℕ) (o : OpenBits n s role b) (h : b ≡ 0 → ⊥) (e : v ≡ bit word (b - 1)) (t : Masks)
-    (is : t ≡ withMask role s (fix (maskOf role s) (b - 1) v)) where
-  v-lt : v < 2
-  v-lt = omega (arith, bit-lt word (b - 1))
+module _ (n : ℕ) (s : Masks) (role : Role) (b : ℕ) (o : OpenBits n s role b) (h : b ≡ 0 → ⊥) where
+  pub skipped-bit : {m : Mask} {t : Bool} → m ≡ maskOf role s → t ≡ free m (b - 1) → t ≡ false → OpenBits n s role (b - 1)
+  skipped-bit is e held =
+      let care = maskOf role s .care in
+      let some = eqb-false (bit care (b - 1)) 0 (sym (e ∙ ap (λ (m : Mask). free m (b - 1)) is) ∙ held) in
+      record {
+        ready = o .ready;
+        most = omega (arith, o .most);
+        fixed = fixed-below n (maskOf role s) b (o .fixed) (omega (arith, some, bit-lt care (b - 1)));
+      }
 
-  pub tried-formed : Formed n t
-  tried-formed = next-formed n s role b v o h v-lt t is
+  module _ (word v : ℕ) (e : v ≡ bit word (b - 1)) (t : Masks) (is : t ≡ withMask role s (fix (maskOf role s) (b - 1) v)) where
+    v-lt : v < 2
+    v-lt = omega (arith, bit-lt word (b - 1))
 
-  pub tried-open : Left n t → OpenBits n t role (b - 1)
-  tried-open = next-open n s role b v o h v-lt t is
+    pub tried-formed : Formed n t
+    tried-formed = next-formed n s role b v o h v-lt t is
 
-  tried-fits : Replaced Case (number role) (Fits n s) (maskOf role s) (fix (maskOf role s) (b - 1) v) (Fits n t)
-  tried-fits = fits-replaced n s role (fix (maskOf role s) (b - 1) v) t is
+    pub tried-open : Left n t → OpenBits n t role (b - 1)
+    tried-open = next-open n s role b v o h v-lt t is
 
-  pub tried-end : (u : Masks) → WalkEnd n t role word u → WalkEnd n s role word u
-  tried-end u q = record {
-    ready = q .ready;
-    ends = walk-tried (walked n s role b o) h word v e tried-fits (q .ends);
-  }
+    tried-fits : Replaced Case (number role) (Fits n s) (maskOf role s) (fix (maskOf role s) (b - 1) v) (Fits n t)
+    tried-fits = fits-replaced n s role (fix (maskOf role s) (b - 1) v) t is
 
-  module _ (none : Left n t → ⊥) (t′ : Masks) (is′ : t′ ≡ withMask role s (fix (maskOf role s) (b - 1) (1 - v))) where
-    no-case : (c : Case) → Fits n t c → ⊥
-    no-case c f = none (record { case = c; fits = f })
-
-    other-fits : Replaced Case (number role) (Fits n s) (maskOf role s) (fix (maskOf role s) (b - 1) (1 - v)) (Fits n t′)
-    other-fits = fits-replaced n s role (fix (maskOf role s) (b - 1) (1 - v)) t′ is′
-
-    pub other-open : OpenBits n t′ role (b - 1)
-    other-open =
-        let p = o .ready .left in
-        let kept = walk-left (walked n s role b o) h word v e tried-fits no-case other-fits (p .case) (p .fits) in
-        next-open n s role b (1 - v) o h (omega arith) t′ is′ (record { case = kept .case; fits = kept .fits })
-
-    pub other-end : (u : Masks) → WalkEnd n t′ role word u → WalkEnd n s role word u
-    other-end u q = record {
+    pub tried-end : (u : Masks) → WalkEnd n t role word u → WalkEnd n s role word u
+    tried-end u q = record {
       ready = q .ready;
-      ends = walk-other (walked n s role b o) h word v e tried-fits no-case other-fits (q .ends);
+      ends = walk-tried (walked n s role b o) h word v e tried-fits (q .ends);
     }
+
+    module _ (none : Left n t → ⊥) (t′ : Masks) (is′ : t′ ≡ withMask role s (fix (maskOf role s) (b - 1) (1 - v))) where
+      no-case : (c : Case) → Fits n t c → ⊥
+      no-case c f = none (record { case = c; fits = f })
+
+      other-fits : Replaced Case (number role) (Fits n s) (maskOf role s) (fix (maskOf role s) (b - 1) (1 - v)) (Fits n t′)
+      other-fits = fits-replaced n s role (fix (maskOf role s) (b - 1) (1 - v)) t′ is′
+
+      pub other-open : OpenBits n t′ role (b - 1)
+      other-open =
+          let p = o .ready .left in
+          let kept = walk-left (walked n s role b o) h word v e tried-fits no-case other-fits (p .case) (p .fits) in
+          next-open n s role b (1 - v) o h (omega arith) t′ is′ (record { case = kept .case; fits = kept .fits })
+
+      pub other-end : (u : Masks) → WalkEnd n t′ role word u → WalkEnd n s role word u
+      other-end u q = record {
+        ready = q .ready;
+        ends = walk-other (walked n s role b o) h word v e tried-fits no-case other-fits (q .ends);
+      }

@@ -4,5 +4,6 @@ pub mod Fits
 pub mod Choice
 pub mod Reply
 pub mod Column
+pub mod Carries
 pub mod Walk
 pub mod Sum

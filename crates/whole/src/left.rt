@@ -1,57 +1,78 @@
-// Whether a case is left: a walk over the columns, lowest first, that keeps the set of the carries that can stand before a column.
+// Whether a case is left: a walk over the columns, lowest first, with the set of the carries that can stand before a column.
 use super::Masks;
+use chain::ways::Places;
+use chain::ways::adder;
 use mask::Mask;
 ghost use mathlib.Core.Path.{_≡_};
-ghost use mathlib.Core.Bool.{true, _||_, _&&_};
+ghost use mathlib.Core.Bool.{Bool, true, _&&_};
 ghost use mathlib.Core.Logic.{_↔_};
-ghost use Prim.Native.Nat.{_<_, _≤_};
+ghost use Prim.Native.Nat.{ℕ, suc, _<_, _≤_};
 ghost use Rattle.format.specs.Limits.{mostLength};
-ghost use Rattle.columns.specs.Machine.{into};
+ghost use Rattle.columns.specs.Machine.{some, into};
+ghost use Rattle.chain.specs.Ways.{mem, may, either};
+ghost use Rattle.chain.specs.Walk.{flag};
 ghost use Rattle.whole.specs.Job.{Formed};
 ghost use Rattle.whole.specs.Fits.{Left};
 ghost use Rattle.whole.specs.Column.{at, step};
+ghost use Rattle.whole.specs.Carries.{carryWord, waysTo, flags};
 
-// A set of carries.
+// A word for each carry.
 pub struct Carries {
-    pub zero: bool,
-    pub one: bool,
+    pub zero: u64,
+    pub one: u64,
 }
 
-// Whether a mask lets bit i be b.
-fn at(m: Mask, i: u64, b: u64) -> bool
-    ensures { λ r. ⌜ r ≡ at m i b ⌝ }
-{
-    columns::allows(m.care, m.value, i, b)
+// The columns that lead to each carry, by the carry that goes in.
+pub struct Table {
+    pub to0: Carries,
+    pub to1: Carries,
 }
 
-// The carry out of column i, from the bits l and r and the carry c into it; 2 where a mask is not met there.
-fn next(s: Masks, i: u64, c: u64, l: u64, r: u64) -> u64
-    requires { ⌜ (i < mostLength) × (c < 2) × (l < 2) × (r < 2) ⌝ }
-    ensures { λ t. ⌜ t ≡ step s i c l r ⌝ }
+// The columns where a wire may be 0 or 1.
+fn any(p: Places) -> u64
+    ensures { λ r. ⌜ ((i : ℕ) → mem r i ≡ either (may p i)) ⌝ }
 {
-    let sum = l + r + c;
-    if (at(s.x, i, l) & at(s.y, i, r)) & (at(s.z, i, sum % 2) & at(s.carries, i + 1, sum / 2)) {
-        sum / 2
-    } else {
-        2
+    p.zero | p.one
+}
+
+fn transitions(s: Masks) -> Table
+    ensures { λ r. ⌜ ((i c t : ℕ) → i < 64 → c < 2 → t < 2 → mem (carryWord (waysTo r t) c) i ≡ into (step s) i c t) ⌝ }
+{
+    let w = adder(false, s.x, s.y, s.z, mask::high(s.carries, 1));
+    Table {
+        to0: Carries {
+            zero: any(w.c00),
+            one: any(w.c10),
+        },
+        to1: Carries {
+            zero: any(w.c01),
+            one: any(w.c11),
+        },
     }
 }
 
-// Whether the carry t can come out of column i where c goes in.
-fn leads(s: Masks, i: u64, c: u64, t: u64) -> bool
-    requires { ⌜ (i < mostLength) × (c < 2) ⌝ }
-    ensures { λ r. ⌜ r ≡ into (step s) i c t ⌝ }
+// Whether a carry of the set leads to one more, in the column where the set stands.
+fn lead(to: Carries, set: Carries) -> u64
+    ensures { λ r. ⌜ ((i : ℕ) (b : ℕ → Bool) → set ≡ flags b i → r ≡ flag (some 2 (λ (c : ℕ). b c && mem (carryWord to c) i)) i) ⌝ }
 {
-    ((next(s, i, c, 0, 0) == t) | (next(s, i, c, 0, 1) == t))
-        | ((next(s, i, c, 1, 0) == t) | (next(s, i, c, 1, 1) == t))
+    (set.zero & to.zero) | (set.one & to.one)
 }
 
-// Whether the carry t can come out of column i where one of `before` goes in.
-fn reached(s: Masks, i: u64, before: Carries, t: u64) -> bool
-    requires { ⌜ i < mostLength ⌝ }
-    ensures { λ r. ⌜ r ≡ ((before .zero && into (step s) i 0 t) || (before .one && into (step s) i 1 t)) ⌝ }
+// The set one column on. A set stands in its column: the word of a carry has that one bit, or none.
+fn next(table: Table, set: Carries) -> Carries
+    ensures { λ r. ⌜ ((i : ℕ) (b : ℕ → Bool) → i < 63 → set ≡ flags b i → r ≡ flags (λ (t : ℕ). some 2 (λ (c : ℕ). b c && mem (carryWord (waysTo table t) c) i)) (suc i)) ⌝ }
 {
-    (before.zero & leads(s, i, 0, t)) | (before.one & leads(s, i, 1, t))
+    Carries {
+        zero: lead(table.to0, set) << 1,
+        one: lead(table.to1, set) << 1,
+    }
+}
+
+// 1 where the carry in may be b, else 0.
+fn carry_in(carries: Mask, b: u64) -> u64
+    ensures { λ r. ⌜ r ≡ flag (at carries 0 b) 0 ⌝ }
+{
+    columns::allows(carries.care, carries.value, 0, b) as u64
 }
 
 // Whether a case of n bits is left under the masks.
@@ -59,17 +80,15 @@ pub(crate) fn left(n: u64, s: Masks) -> bool
     requires { ⌜ (n ≤ mostLength) × Formed n s ⌝ }
     ensures { λ r. ⌜ (r ≡ true) ↔ Left n s ⌝ }
 {
+    let table = transitions(s);
     let mut set = Carries {
-        zero: at(s.carries, 0, 0),
-        one: at(s.carries, 0, 1),
+        zero: carry_in(s.carries, 0),
+        one: carry_in(s.carries, 1),
     };
     let mut i = 0;
     while i < n {
-        set = Carries {
-            zero: reached(s, i, set, 0),
-            one: reached(s, i, set, 1),
-        };
+        set = next(table, set);
         i += 1;
     }
-    set.zero | set.one
+    set.zero | set.one != 0
 }

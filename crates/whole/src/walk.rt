@@ -4,6 +4,7 @@ use super::Role;
 use super::left::left;
 use mask::Mask;
 use mask::fix;
+use mask::free;
 ghost use mathlib.Core.Path.{_≡_};
 ghost use Rattle.mask.specs.Mask.{fix};
 ghost use Rattle.whole.specs.Role.{maskOf, withMask};
@@ -57,8 +58,8 @@ fn fix_bit(s: Masks, role: Role, i: u64, v: u64) -> Masks
     with_mask(s, role, fix(mask_of(s, role), i, v))
 }
 
-// The masks with one number fixed to its closest value, where its bits from position `open_bits` on are fixed: the bit below them follows
-// the random word, or is the other where no case would be left.
+// The masks with one number fixed to its closest value, where its bits from position `open_bits` on are fixed: the bit below them, where it
+// is free, follows the random word, or is the other where no case would be left.
 pub(crate) fn follow(n: u64, s: Masks, role: Role, word: u64, open_bits: u64) -> Masks
     requires { ⌜ OpenBits n s role open_bits ⌝ }
     ensures { λ r. ⌜ WalkEnd n s role word r ⌝ }
@@ -67,6 +68,9 @@ pub(crate) fn follow(n: u64, s: Masks, role: Role, word: u64, open_bits: u64) ->
         return s;
     }
     let k = open_bits - 1;
+    if !free(mask_of(s, role), k) {
+        return follow(n, s, role, word, k);
+    }
     let v = bits::bit_at(word, k);
     let tried = fix_bit(s, role, k, v);
     if left(n, tried) {

@@ -1,65 +1,49 @@
 //! The report: what docs/SPEED.md holds.
 
 use std::path::Path;
+use std::time::Duration;
 
 use crate::case_13::{self, Runs};
-use crate::times::{microseconds, ratio, text, RUNS};
-use crate::walks::{formats, Walks};
-use crate::{Options, Row};
+use crate::options::Options;
+use crate::rows::Row;
+use crate::slow::{Slowest, BEGINNINGS, COMPARED};
+use crate::solver::ENOUGH;
+use crate::targets;
+use crate::times::{microseconds, plain, text, RUNS};
+use crate::walks::{formats, Counted, Counts, COUNTED};
+
+/// What a run found.
+pub struct Found {
+    /// z3's version, where it was asked.
+    pub version: Option<String>,
+    pub rows: Vec<Row>,
+    pub case_13: Vec<Runs>,
+    pub counts: Option<Vec<Counts>>,
+    /// The slowest jobs, where they were searched for, and how long.
+    pub slowest: Option<(Vec<Slowest>, Duration)>,
+}
 
 /// The whole report.
-pub fn report(
-    options: &Options,
-    version: Option<&str>,
-    rows: &[Row],
-    case_13: &[Runs],
-    walks: Option<Vec<Walks>>,
-) -> String {
-    let compared: Vec<&Row> = rows.iter().filter(|row| row.other.is_some()).collect();
-    let mut parts = vec!["# Speed\n".to_string()];
-    match version {
-        Some(version) => {
-            parts.push(headline(&compared));
-            parts.push(comparison(version, options, &compared));
-        }
+pub fn report(options: &Options, found: &Found) -> String {
+    let rows = &found.rows;
+    let mut parts = vec!["# Speed\n".to_string(), targets::section(rows)];
+    match &found.version {
+        Some(version) => parts.push(comparison(version, options, rows)),
         None => parts.push("z3 was not asked, so there is no comparison.\n".to_string()),
     }
     parts.push(own(rows));
-    parts.push(signs(case_13));
-    if let Some(walks) = walks {
-        parts.push(columns(&walks));
+    if let Some((slowest, time)) = &found.slowest {
+        parts.push(slow(options, slowest, *time));
+    }
+    parts.push(signs(&found.case_13));
+    if let Some(counts) = &found.counts {
+        parts.extend((0..COUNTED.len()).map(|which| count(counts, which)));
     }
     parts.push(conditions(options, rows));
     parts.join("\n")
 }
 
-/// The ratio first: its range over the kinds that have no case, and over the others.
-fn headline(compared: &[&Row]) -> String {
-    let range = |impossible: bool| {
-        let mut ratios: Vec<f64> = compared
-            .iter()
-            .filter(|row| row.name.contains("impossible") == impossible)
-            .filter_map(|row| Some(ratio(row.other.as_ref()?.times.median, row.times.median)))
-            .collect();
-        ratios.sort_by(f64::total_cmp);
-        let text = |at: Option<&f64>| at.map_or("-".to_string(), |ratio| plain(*ratio));
-        format!("{} to {}", text(ratios.first()), text(ratios.last()))
-    };
-    format!(
-        "**Ratio of medians, z3's time by the generator's: {} where it is decided that there is no \
-         case, {} where the smallest case is found.**\n",
-        range(true),
-        range(false)
-    )
-}
-
-/// A ratio with a digit after the point where it is small.
-fn plain(ratio: f64) -> String {
-    let digits = usize::from(ratio < 10.0);
-    format!("{ratio:.digits$}")
-}
-
-fn comparison(version: &str, options: &Options, compared: &[&Row]) -> String {
+fn comparison(version: &str, options: &Options, rows: &[Row]) -> String {
     let mut table = format!(
         "## Beside z3\n\n\
          {version}. It is started once and asked over its standard input, so its start is not in \
@@ -67,23 +51,28 @@ fn comparison(version: &str, options: &Options, compared: &[&Row]) -> String {
          difference (fp.add, fp.sub) in the job's mode and the one NaN. Of a job with a case z3's \
          optimizer is asked for the smallest a exclusive-or the first random word, then b with the \
          second; of an impossible one whether it has a case (QF_BVFP). These jobs have no carry \
-         mask. A job may take z3 {} s; one that hits the limit counts with the time so far. Every answer \
-         that z3 gave is the generator's.\n\n\
-         | Ratio of medians | Jobs | z3 median | z3 mean | z3 largest | no answer | answers alike | generator median |\n\
-         |---|---|---|---|---|---|---|---|\n",
+         mask: those with one are timed alone. A job may take z3 {} s; one that hits the limit \
+         counts with the time so far. Every answer that z3 gave is the generator's.\n\n\
+         | Ratio of medians | Least ratio of a job | Jobs | z3 median | z3 mean | z3 largest | no answer \
+         | answers alike | generator median | generator largest |\n\
+         |---|---|---|---|---|---|---|---|---|---|\n",
         options.limit.as_secs()
     );
-    for row in compared {
-        let Some(other) = &row.other else { continue };
-        table += &format!(
-            "| {} | {} | {} | {} | {} | {} |\n",
-            plain(ratio(other.times.median, row.times.median)),
-            row.name,
+    for row in rows {
+        let (Some(other), Some(ratio)) = (&row.other, row.ratio()) else {
+            continue;
+        };
+        let columns = [
+            plain(ratio),
+            plain(other.least_ratio),
+            row.name.clone(),
             other.times.columns(),
-            other.unanswered,
-            other.alike,
-            text(row.times.median)
-        );
+            other.unanswered.to_string(),
+            other.alike.to_string(),
+            text(row.times.median),
+            text(row.times.largest),
+        ];
+        table += &format!("| {} |\n", columns.join(" | "));
     }
     table
 }
@@ -96,11 +85,68 @@ fn own(rows: &[Row]) -> String {
         table += &format!(
             "| {} | {} | {} |\n",
             row.name,
-            row.jobs,
+            row.times.count(),
             row.times.columns()
         );
     }
     table
+}
+
+/// The slowest job found in each format, a column for each.
+pub fn slow(options: &Options, slowest: &[Slowest], time: Duration) -> String {
+    let mut table = format!(
+        "## The slowest found\n\n\
+         A search for slow jobs (`--slow`), {} s, half of it in each format, seed {:#x}. {BEGINNINGS} \
+         random jobs, of every kind in turn, are changed at random: bits, runs of bits and fields \
+         of the masks, bits of the random words, the mode, the operation. A change is kept where \
+         the reply takes longer, by the least of {COMPARED} runs, and the slower half of the jobs goes on \
+         until one is left. Its time here is the least of {RUNS} runs. The times have a part in \
+         the way that the search takes, so the seed alone does not repeat it. That no job is \
+         slower is not shown.\n\n",
+        time.as_secs(),
+        options.seed,
+    );
+    let lines: Vec<Vec<String>> = slowest.iter().map(lines_of).collect();
+    for (number, name) in SLOW_LINES.iter().enumerate() {
+        let columns: Vec<&str> = lines.iter().map(|lines| lines[number].as_str()).collect();
+        table += &format!("| {name} | {} |\n", columns.join(" | "));
+        if number == 0 {
+            table += &format!("|---|{}\n", "---|".repeat(columns.len()));
+        }
+    }
+    table
+}
+
+/// What is said of a slow job, line by line.
+const SLOW_LINES: [&str; 11] = [
+    "Format",
+    "time",
+    "reply",
+    "operation",
+    "mode",
+    "a: care, value",
+    "b: care, value",
+    "c: care, value",
+    "carries: care, value",
+    "random words",
+    "jobs timed",
+];
+
+fn lines_of(slowest: &Slowest) -> Vec<String> {
+    let (w, f) = slowest.format;
+    let conditions = &slowest.job.conditions;
+    let reply = if slowest.has_case { "a case" } else { "none" };
+    let hexadecimal = |[one, other]: [u64; 2]| format!("`{one:x}` `{other:x}`");
+    let mut lines = vec![format!("{w}/{f}"), text(slowest.time), reply.to_string()];
+    lines.extend([conditions.operation, conditions.mode].map(|number| number.to_string()));
+    lines.extend(
+        conditions
+            .masks()
+            .map(|mask| hexadecimal([mask.care, mask.value])),
+    );
+    lines.push(hexadecimal(slowest.job.words));
+    lines.push(slowest.tried.to_string());
+    lines
 }
 
 /// Case 13, a line for each format and mode.
@@ -124,19 +170,31 @@ fn signs(lines: &[Runs]) -> String {
     table
 }
 
-/// Walks over columns, one format beside the other.
-fn columns(walks: &[Walks]) -> String {
+/// One of the counts, a line for each kind and one format beside the other.
+fn count(counts: &[Counts], which: usize) -> String {
+    let Counted {
+        title,
+        text,
+        function,
+        ..
+    } = COUNTED[which];
+    let mut means = counts.iter().flat_map(|row| &row.means);
+    if means.all(|mean| mean[which] == 0.0) {
+        return format!("## {title}\n\nCallgrind saw no call of `{function}`.\n");
+    }
     let names = formats();
     let mut table = format!(
-        "## Walks over columns\n\n\
-         How often a reply asks the columns, in the mean, counted by callgrind. Those with 23 \
-         fraction bits differ in the exponent bits alone.\n\n\
-         | Jobs | {} |\n|---|{}\n",
+        "## {title}\n\n{text} In the mean, counted by callgrind at `{function}`; those with 23 \
+         fraction bits differ in the exponent bits alone.\n\n| Jobs | {} |\n|---|{}\n",
         names.join(" | "),
         "---|".repeat(names.len())
     );
-    for row in walks {
-        let means: Vec<String> = row.means.iter().map(|mean| format!("{mean:.0}")).collect();
+    for row in counts {
+        let means: Vec<String> = row
+            .means
+            .iter()
+            .map(|mean| format!("{:.0}", mean[which]))
+            .collect();
         table += &format!("| {} | {} |\n", row.name, means.join(" | "));
     }
     table
@@ -148,16 +206,29 @@ fn conditions(options: &Options, rows: &[Row]) -> String {
         "## How it was measured\n\n\
          {}, then `cargo run --release --offline --manifest-path \
          outside/bench/Cargo.toml -- --write`, on {}. Seed {:#x}. Each job is given {RUNS} times, \
-         to z3 as to the generator, and the least time counts; the operation and the mode of each \
-         are random. Masks are made around a true case, but those of impossible jobs, of which \
-         {left_out} were drawn again because they had a case. All jobs ran on a thread with a stack \
-         of {} KiB. That no job takes longer than the largest here is not shown.\n",
+         to z3 as to the generator, and the least time counts; z3 is not given a job again that it \
+         has had {} s for. All jobs ran on a thread with a stack of {} KiB. That no job takes longer \
+         than the largest here is not shown.\n\n\
+         {KINDS_MEAN} {left_out} impossible jobs were drawn again because they had a case.\n",
         library(),
         machine(),
         options.seed,
+        ENOUGH.as_secs(),
         options.stack
     )
 }
+
+/// How the masks of the kinds are made, where their names do not tell it.
+const KINDS_MEAN: &str = "Operation and mode of a job are random, but case 13 is an addition and \
+    overflow has no mode toward zero. Masks are made around a true case, but with all fractions \
+    fixed and in case 13; with any share of each mask fixed, each has its own share, and one of four is \
+    made around no case. Where cancellation is needed c's exponent is fixed, and of a's and b's \
+    the top bits that keep each 3 or more above it. For a subnormal result c's exponent and a 1 of \
+    its fraction are fixed. For overflow c is fixed to infinity, but for its sign, and a 0 of each \
+    operand's exponent. Impossible only by c's exponent: this is fixed to another field than the \
+    true case's, and about a quarter of a's and b's exponents is fixed; only by the carries: one is fixed \
+    to the other value than the true case's. Without that both have a case. All else in these is \
+    half fixed.";
 
 /// What was linked: the library that the toolchain writes, or the file that a variable names.
 fn library() -> String {

@@ -28,6 +28,9 @@ pub struct Solver {
     limit: Duration,
 }
 
+/// The time for a job after which z3 is not asked it again.
+pub const ENOUGH: Duration = Duration::from_secs(1);
+
 /// z3's version, where it is installed.
 pub fn version() -> Option<String> {
     let output = Command::new("z3").arg("--version").output().ok()?;
@@ -60,17 +63,18 @@ impl Solver {
         })
     }
 
-    /// What z3 says of a job that it is asked `runs` times, and the least time; nothing where the
-    /// limit was hit once.
+    /// What z3 says of a job that it is asked `runs` times, or until it has had `ENOUGH` time for
+    /// it, and the least time; nothing where the limit was hit once.
     pub fn ask_again(
         &mut self,
         job: &Job,
         has_case: bool,
         runs: usize,
     ) -> std::io::Result<(Said, Duration)> {
+        let start = Instant::now();
         let (mut said, mut least) = self.ask(job, has_case)?;
         for _ in 1..runs {
-            if said == Said::Nothing {
+            if said == Said::Nothing || start.elapsed() >= ENOUGH {
                 break;
             }
             let (again, time) = self.ask(job, has_case)?;

@@ -16,13 +16,20 @@ pub fn each<R>(runs: usize, call: impl Fn() -> R) -> Vec<Duration> {
     (0..runs).map(time).collect()
 }
 
-/// The least time of a few runs of a call.
+/// The least time of some runs of a call, at least one.
+pub fn least_of<R>(runs: usize, call: impl Fn() -> R) -> Duration {
+    each(runs, call).into_iter().min().expect("some runs")
+}
+
+/// The least time of the runs that count.
 pub fn least<R>(call: impl Fn() -> R) -> Duration {
-    each(RUNS, call).into_iter().min().expect("some runs")
+    least_of(RUNS, call)
 }
 
 /// The median, mean and largest of some times.
 pub struct Times {
+    /// From the least on.
+    sorted: Vec<Duration>,
     pub median: Duration,
     pub mean: Duration,
     pub largest: Duration,
@@ -37,7 +44,17 @@ impl Times {
             median: (times[low] + times[high]) / 2,
             mean: times.iter().sum::<Duration>() / times.len() as u32,
             largest: times[times.len() - 1],
+            sorted: times,
         }
+    }
+
+    pub fn count(&self) -> usize {
+        self.sorted.len()
+    }
+
+    /// How many are over a bound.
+    pub fn over(&self, bound: Duration) -> usize {
+        self.count() - self.sorted.partition_point(|&time| time <= bound)
     }
 
     /// Three columns of a table.
@@ -67,4 +84,10 @@ pub fn microseconds(time: Duration) -> String {
 /// How many times longer the first is.
 pub fn ratio(long: Duration, short: Duration) -> f64 {
     long.as_secs_f64() / short.as_secs_f64()
+}
+
+/// A ratio with a digit after the point where it is small.
+pub fn plain(ratio: f64) -> String {
+    let digits = usize::from(ratio < 10.0);
+    format!("{ratio:.digits$}")
 }

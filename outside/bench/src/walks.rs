@@ -1,30 +1,68 @@
-//! How many walks over columns a reply takes, counted by valgrind where it is installed.
+//! What a reply takes, by count and not by time: walks over columns, pairs of exponent fields and
+//! instructions, counted by valgrind where it is installed.
 //!
 //! The static library keeps no count, so this program runs itself under callgrind on a file of
-//! records and reads off how often the one function was called that puts a question to the
-//! columns.
+//! records and reads off how often a function was called or how many instructions its calls took.
 
 use std::path::{Path, PathBuf};
 use std::process::{Command, Stdio};
 
 use second::random::Random;
 
-use crate::jobs::{self, Kind, Recorded, KINDS};
+use crate::jobs::{jobs, Recorded};
+use crate::kinds::KINDS;
 
 /// The word on the command line after which the file of records stands.
 pub const REPLAY: &str = "--replay";
-/// The function that makes one walk over the columns.
-const WALK: &str = "outcome::ask::ask";
-/// The formats whose counts are set side by side: three that differ in the exponent bits alone, and
+/// Something that is counted for a reply.
+pub struct Counted {
+    pub title: &'static str,
+    pub text: &'static str,
+    /// The function of the library whose calls tell it.
+    pub function: &'static str,
+    figure: Figure,
+}
+
+/// The figure of a function that counts.
+enum Figure {
+    Calls,
+    /// Thousands of instructions within its calls.
+    Instructions,
+}
+
+/// What is counted. A function that the compiler made a part of its caller cannot be.
+pub const COUNTED: [Counted; 3] = [
+    Counted {
+        title: "Walks over columns",
+        text: "How often a reply asks the columns.",
+        function: "outcome::ask::ask",
+        figure: Figure::Calls,
+    },
+    Counted {
+        title: "Pairs of exponent fields",
+        text: "How many pairs of exponent fields with their signs a reply asks about. Those that \
+               the table of known answers settles are not among them: the instructions below are \
+               those of all.",
+        function: "pair::finite::signs_admit",
+        figure: Figure::Calls,
+    },
+    Counted {
+        title: "Instructions",
+        text: "How many thousand instructions a reply takes.",
+        function: "vindacsor_generate",
+        figure: Figure::Instructions,
+    },
+];
+/// The formats whose counts are set side by side: some that differ in the exponent bits alone, and
 /// double precision.
-const FORMATS: [(u64, u64); 4] = [(4, 23), (6, 23), (8, 23), (11, 52)];
+const FORMATS: [(u64, u64); 5] = [(4, 23), (6, 23), (8, 23), (10, 23), (11, 52)];
 /// No record is longer than this; in the file each has this many bytes after its length.
 const SLOT: usize = 127;
 
-/// The mean count of walks per reply for one kind, in each of the formats.
-pub struct Walks {
+/// The mean counts per reply for one kind, in each of the formats.
+pub struct Counts {
     pub name: &'static str,
-    pub means: Vec<f64>,
+    pub means: Vec<[f64; COUNTED.len()]>,
 }
 
 /// The names of the formats.
@@ -51,28 +89,32 @@ fn write_records(path: &Path, jobs: &[Recorded]) -> std::io::Result<()> {
     std::fs::write(path, bytes)
 }
 
-/// How often a function was called, by a file that callgrind wrote. A function has a number there,
-/// which stands for its name after the first time; a line `calls=N ..` follows that of the callee.
-fn calls(profile: &str, function: &str) -> u64 {
+/// How often a function was called and how many instructions its calls took, by a file that
+/// callgrind wrote. A function has a number there, which stands for its name after the first time;
+/// a line `calls=N ..` follows that of the callee, and then one that ends with the instructions.
+fn calls(profile: &str, function: &str) -> [u64; 2] {
     let mut numbers = Vec::new();
-    let (mut callee, mut count) = (false, 0);
-    for line in profile.lines() {
+    let (mut callee, mut counts) = (false, [0, 0]);
+    let mut lines = profile.lines();
+    while let Some(line) = lines.next() {
         let named = line.strip_prefix("cfn=").or(line.strip_prefix("fn="));
         if let Some(named) = named {
             let (number, name) = named.split_once(' ').unwrap_or((named, ""));
-            if name.starts_with(function) {
-                numbers.push(number.to_string());
+            if name == function {
+                numbers.push(number);
             }
-            callee = line.starts_with("cfn=") && numbers.iter().any(|known| known == number);
-        } else if let Some(calls) = line.strip_prefix("calls=") {
-            let calls = calls.split(' ').next().and_then(|n| n.parse().ok());
-            count += if callee { calls.unwrap_or(0) } else { 0 };
+            callee = line.starts_with("cfn=") && numbers.contains(&number);
+        } else if let (Some(calls), true) = (line.strip_prefix("calls="), callee) {
+            let number = |word: Option<&str>| word.and_then(|n| n.parse().ok()).unwrap_or(0);
+            counts[0] += number(calls.split(' ').next());
+            counts[1] += number(lines.next().and_then(|line| line.split(' ').next_back()));
         }
     }
-    count
+    counts
 }
 
-fn counted(folder: &Path, jobs: &[Recorded]) -> Result<f64, String> {
+/// The mean of each count over the jobs.
+fn means_of(folder: &Path, jobs: &[Recorded]) -> Result<[f64; COUNTED.len()], String> {
     let (records, profile) = (folder.join("records"), folder.join("profile"));
     let told = |error: std::io::Error| error.to_string();
     write_records(&records, jobs).map_err(told)?;
@@ -89,27 +131,31 @@ fn counted(folder: &Path, jobs: &[Recorded]) -> Result<f64, String> {
         return Err(format!("valgrind ended with {status}"));
     }
     let text = std::fs::read_to_string(&profile).map_err(told)?;
-    Ok(calls(&text, WALK) as f64 / jobs.len() as f64)
+    Ok(COUNTED.map(|counted| {
+        let [calls, instructions] = calls(&text, counted.function).map(|count| count as f64);
+        let figure = match counted.figure {
+            Figure::Calls => calls,
+            Figure::Instructions => instructions / 1e3,
+        };
+        figure / jobs.len() as f64
+    }))
 }
 
-fn all(folder: &Path, seed: u64, count: usize) -> Result<Vec<Walks>, String> {
-    let mut rows = Vec::new();
-    for (name, kind) in KINDS
-        .into_iter()
-        .filter(|(_, kind): &(_, Kind)| !kind.has_carries())
-    {
+fn all(folder: &Path, seed: u64, count: usize) -> Result<Vec<Counts>, String> {
+    let row = |(name, kind)| {
         let mut random = Random::new(seed);
-        let means = FORMATS
-            .map(|format| counted(folder, &jobs::jobs(&mut random, format, kind, count).0))
-            .into_iter()
-            .collect::<Result<_, _>>()?;
-        rows.push(Walks { name, means });
-    }
-    Ok(rows)
+        let mut means = Vec::new();
+        for format in FORMATS {
+            let (jobs, _) = jobs(&mut random, format, kind, count);
+            means.push(means_of(folder, &jobs)?);
+        }
+        Ok(Counts { name, means })
+    };
+    KINDS.into_iter().map(row).collect()
 }
 
 /// The counts for every kind, or nothing where valgrind is not installed.
-pub fn walks(seed: u64, count: usize) -> Result<Option<Vec<Walks>>, String> {
+pub fn counts(seed: u64, count: usize) -> Result<Option<Vec<Counts>>, String> {
     let there = Command::new("valgrind")
         .arg("--version")
         .stdout(Stdio::null())
@@ -131,7 +177,7 @@ mod tests {
     #[test]
     fn calls_are_summed_by_callee() {
         let profile = "fn=(1) main\ncfn=(2) outcome::ask::ask\ncalls=3 0\n0 9\ncfn=(4) other\n\
-                       calls=8 0\n0 1\nfn=(3) twice\ncfn=(2)\ncalls=4 0\n0 9\n";
-        assert_eq!(calls(profile, WALK), 7);
+                       calls=8 0\n0 1\nfn=(3) twice\ncfn=(2)\ncalls=4 0\n0 90\n";
+        assert_eq!(calls(profile, "outcome::ask::ask"), [7, 99]);
     }
 }

@@ -1,12 +1,11 @@
 -- `answers::admits` meets its contract. Assumes nothing.
 use mathlib.Core.Bool.{false≢true}
-use mathlib.Core.Path.{refl, sym, _∙_, subst}
+use mathlib.Core.Path.{sym, subst}
 use borrow.Author.Tests.{not-true}
-use Rattle.mask.specs.Mask.{Meets}
 use Rattle.special.specs.Asked.{PairFits}
 use Rattle.classes.specs.declared.Fields.{Fields}
-use Rattle.classes.specs.Class.{Ordered, InOrder, smallerMask}
-use Rattle.classes.proofs.Order.{fields-ordered, in-order, smaller-meets}
+use Rattle.classes.specs.Class.{Ordered, InOrder}
+use Rattle.classes.proofs.Order.{fields-ordered, in-order}
 use borrow.Author.Needs.{needs}
 use Rattle.answers.proofs.admits.Statement.{statement}
 use Rattle.answers.proofs.admits.Tie as tie
@@ -39,24 +38,8 @@ pair-admits-requires c κs = search needs
 
 returns-2 : tie.Need-returns-2
 returns-2 c = (
-  λ e. c .before .pair-admits .ensures .0 (c .if2 .taken),
-  λ asked end kept. (c .before .before .before .may-admit .ensures (asked .valid) end kept .0, (λ e. c .before .pair-admits .ensures .1 (asked .valid) .0 (c .if2 .taken), λ p. refl)),
-)
-
-keep-refused-requires : tie.Need-keep-refused-requires
-keep-refused-requires c κs = ordered-at (c .before .before .before .before .before .before)
-
-returns-3 : tie.Need-returns-3
-returns-3 c = let a = c .before .before .before .before .before .before .before .before .args in (
-  λ e. absurd (false≢true e),
-  λ asked end kept.
-      let none : (PairFits (a .job) (a .ea) (a .eb) → ⊥) = λ p. false≢true (sym (c .before .before .if2 .left) ∙ c .before .before .before .pair-admits .ensures .1 (asked .valid) .1 p) in (
-        c .keep-refused .ensures (asked .valid)
-            (subst (λ (q : Fields). Meets (q .smaller .0) (smallerMask (a .job) (q .order))) (sym (c .before .before .before .before .before .before .before .fields-of .ensures)) (smaller-meets (a .ea) (a .eb) (a .job) asked))
-            (λ p. none (in-order (a .ea) (a .eb) (PairFits (a .job)) .0 (subst (λ (q : Fields). InOrder (PairFits (a .job)) (q .order) (q .larger) (q .smaller)) (c .before .before .before .before .before .before .before .fields-of .ensures) p)))
-            (c .before .before .before .before .before .may-admit .ensures (asked .valid) end kept .0),
-        (λ e. absurd (false≢true e), λ p. absurd (none p)),
-      ),
+  λ e. c .pair-admits .ensures .0 e,
+  λ asked end kept. (c .before .before .may-admit .ensures (asked .valid) end kept .0, c .pair-admits .ensures .1 (asked .valid)),
 )
 
 pub admits-spec : {M : Type 1} → statement M
@@ -67,6 +50,4 @@ admits-spec =
     may-admit-requires
     returns
     pair-admits-requires
-    returns-2
-    keep-refused-requires
-    returns-3)
+    returns-2)

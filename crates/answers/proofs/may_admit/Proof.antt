@@ -15,11 +15,8 @@ use borrow.Author.Needs.{needs}
 use Rattle.answers.proofs.may_admit.Statement.{statement}
 use Rattle.answers.proofs.may_admit.Tie as tie
 
-far-open-requires : tie.Need-far-open-requires
-far-open-requires c κs = c .before .before .before .before .pre
-
 returns : tie.Need-returns
-returns c = λ valid end kept. (kept, c .far-open .ensures kept)
+returns c = λ valid end kept. (kept, λ e. absurd (true≢false e))
 
 returns-2 : tie.Need-returns-2
 returns-2 c = λ valid end kept. (kept, λ e. absurd (true≢false e))
@@ -62,7 +59,6 @@ pub may-admit-spec : {M : Type 1} → statement M
 may-admit-spec =
     tie.close
     (tie.spec
-    far-open-requires
     returns
     returns-2
     normal-requires

@@ -10,6 +10,7 @@ use Rattle.mask.specs.Mask.{Meets}
 use Rattle.rounding.specs.Outcome.{outcome}
 use Rattle.outcome.specs.Outcome.{Formed, Making}
 use Rattle.outcome.proofs.Room.{columns-lt}
+use Rattle.outcome.proofs.Range.{most-digits-bounds, made-digits}
 use Rattle.outcome.proofs.some_count.Statement.{statement}
 use Rattle.outcome.proofs.some_count.Tie as tie
 
@@ -41,7 +42,7 @@ loop-holds c = (omega arith, λ n l h formed m. absurd (omega arith))
 fits-requires : tie.Need-fits-requires Inv-loop μ-loop
 fits-requires c κs =
     let s = c .before .before .before .before in
-    (s .pre, omega (arith, c .loop-test .taken, c .before .before .before .most .ensures .0))
+    (s .pre, omega (arith, c .loop-test .taken, c .before .before .before .most .ensures, most-digits-bounds (s .args .format .f) (s .args .aligned .like) .1))
 
 returns : tie.Need-returns Inv-loop μ-loop
 returns c =
@@ -53,7 +54,7 @@ returns c =
 add-count : tie.Need-add-count Inv-loop μ-loop
 add-count c =
     let s = c .before .before .before .before .before .before in
-    omega (arith, c .before .before .loop-test .taken, c .before .before .before .before .before .most .ensures .0, columns-lt (s .args .format) (s .pre .supported))
+    omega (arith, c .before .before .loop-test .taken, c .before .before .before .before .before .most .ensures, most-digits-bounds (s .args .format .f) (s .args .aligned .like) .1, columns-lt (s .args .format) (s .pre .supported))
 
 loop-less : tie.Need-loop-less Inv-loop μ-loop
 loop-less c = omega (arith, c .before .before .loop-test .taken)
@@ -72,9 +73,10 @@ returns-2 : tie.Need-returns-2 Inv-loop μ-loop
 returns-2 c =
     let few = c .before .before .fewest in
     let top = c .before .before .before .most in
+    let a = c .before .before .before .before .args in
     λ formed. (
       (λ t. absurd (false≢true t)),
-      λ p. absurd (c .before .loop .inv .1 (size (p .x)) (few .ensures (p .x) (p .made)) (omega (arith, top .ensures .1 (p .x) (p .made), c .loop-test .left)) formed
+      λ p. absurd (c .before .loop .inv .1 (size (p .x)) (few .ensures (p .x) (p .made)) (omega (arith, top .ensures, made-digits (a .format .f) (a .aligned) (p .x) (p .made), c .loop-test .left)) formed
           (record { x = p .x; made = p .made; holds = (refl, p .holds) })),
     )
 

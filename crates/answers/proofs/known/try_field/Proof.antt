@@ -1,6 +1,6 @@
 -- `answers::known::try_field` meets its contract. Assumes nothing.
 use mathlib.Core.Bool.{true, false≢true, true≢false}
-use mathlib.Core.Logic.{inr, _↔_}
+use mathlib.Core.Logic.{_↔_}
 use mathlib.Core.Path.{_≡_, sym, ap₂, _∙_, subst}
 use native.Mathlib.Omega.{arith}
 use lib.Pow.{pow-pos}
@@ -25,7 +25,7 @@ bit-at-requires : tie.Need-bit-at-requires
 bit-at-requires c κs = search needs
 
 returns : tie.Need-returns
-returns c = let st = c .before .before in λ p kept. (kept, λ e met. kept (st .args .field) (inr (sym (c .before .bit-at .ensures) ∙ c .if1 .taken)))
+returns c = let st = c .before .before in λ p kept. (kept, λ e met. kept (st .args .field) (sym (c .before .bit-at .ensures) ∙ c .if1 .taken))
 
 exponent-mask-requires : tie.Need-exponent-mask-requires
 exponent-mask-requires c κs = search needs
@@ -67,7 +67,7 @@ returns-4 c =
     λ p kept.
     let asks = subst (λ (n : Mask). ClassFor (a .job) (a .class) → WellFormed (F .w) n → (c .before .class-admits .result ≡ true) ↔ ClassAdmits (a .job) (a .class) n) (only-is F (c .before .before .power .result) (a .field) (st .pre .0) (c .before .before .power .ensures)) (c .before .class-admits .ensures) in
     let never : Never (a .job) (a .class) (a .field) = λ l A. false≢true (sym (c .if3 .left) ∙ asks p (only-formed F (a .field) (omega (arith, l, p .wide))) .1 A) in (
-      rw (one-shl (a .field .0) (omega (arith, st .pre .2))) (refuse-more (a .job) (a .class) (a .refused) (a .field) (omega (arith, st .pre .2)) kept never),
+      rw (one-shl (a .field .0) (omega (arith, st .pre .2))) (refuse-more (a .job) (a .class) (a .refused) (a .field) kept never),
       λ e met. never,
     )
 

@@ -1,21 +1,16 @@
--- `outcome::digits::at_count` meets its contract: above the fraction stands one of two neighbours, and each is asked. Assumes nothing.
-use mathlib.Core.Path.{_≡_}
-use mathlib.Core.Bool.{Bool, true, false, cond}
-use Prim.Native.Nat.{ℕ, _+_, _≤_}
+-- `outcome::digits::at_count` meets its contract: above the fraction stands one of two neighbours, and each that may stand there is asked.
+-- Assumes nothing.
+use Prim.Native.Nat.{ℕ}
 use native.Mathlib.Omega.{arith}
-use lib.Dec.{ltb}
+use borrow.Author.Tests.{not-true}
 use Rattle.mask.specs.Mask.{Meets}
 use Rattle.word.specs.Word.{signed}
-use Rattle.rounding.specs.Width.{alignedBits}
 use Rattle.rounding.specs.Outcome.{boundedHeld}
 use Rattle.outcome.proofs.Room.{columns-lt, unit-short}
-use Rattle.outcome.proofs.Counted.{first-quotient, second-quotient}
+use Rattle.outcome.proofs.Kept.{least-le}
+use Rattle.outcome.proofs.Counted.{first-quotient, second-quotient, only-quotient}
 use Rattle.outcome.proofs.digits.at_count.Statement.{statement}
 use Rattle.outcome.proofs.digits.at_count.Tie as tie
-
-small : (b : Bool) (n : ℕ) → n ≡ cond b 0 1 → n ≤ 1
-small true n e = omega arith
-small false n e = omega arith
 
 least-quotient-requires : tie.Need-least-quotient-requires
 least-quotient-requires c κs =
@@ -28,7 +23,7 @@ at-quotient-requires c κs =
     let s = c .before in
     let a = s .args in
     let q = c .least-quotient in
-    (s .pre .0, s .pre .1, s .pre .2, omega (arith, small (ltb (a .count + a .unit .0) (alignedBits (a .format .f))) (q .result) (q .ensures)))
+    (s .pre .0, s .pre .1, s .pre .2, omega (arith, least-le (a .format .f) (a .count) (a .unit), q .ensures))
 
 returns : tie.Need-returns
 returns c =
@@ -38,26 +33,43 @@ returns c =
     λ formed. first-quotient (a .format .f) (a .direction) (a .unit) (q .result) (a .aligned) (a .count) (λ (n : ℕ). Meets (signed (a .format) (a .sign) (boundedHeld (a .format) (a .direction) n (a .unit))) (a .c))
     (s .pre .1) (s .pre .2) (q .ensures) (c .before .at-quotient .result) (c .before .at-quotient .ensures formed) (c .if1 .taken)
 
-add-at-quotient : tie.Need-add-at-quotient
-add-at-quotient c =
-    let a = c .before .before .before .args in
-    let q = c .before .before .least-quotient in
-    omega (arith, small (ltb (a .count + a .unit .0) (alignedBits (a .format .f))) (q .result) (q .ensures))
-
-at-quotient-requires-2 : tie.Need-at-quotient-requires-2
-at-quotient-requires-2 c κs =
+may-carry-requires : tie.Need-may-carry-requires
+may-carry-requires c κs =
     let s = c .before .before .before in
     let a = s .args in
-    let q = c .before .before .least-quotient in
-    (s .pre .0, s .pre .1, s .pre .2, omega (arith, small (ltb (a .count + a .unit .0) (alignedBits (a .format .f))) (q .result) (q .ensures)))
+    let given = s .pre .0 in
+    (columns-lt (a .format) (given .supported), unit-short (a .format) (a .sign) (a .unit) given, s .pre .1, s .pre .2)
 
 returns-2 : tie.Need-returns-2
 returns-2 c =
-    let s = c .before .before .before .before in
+    let s = c .before .before .before .before .before in
     let a = s .args in
-    let q = c .before .before .before .least-quotient in
+    let q = c .before .before .before .before .least-quotient in
+    let m = c .before .may-carry in
+    λ formed. only-quotient (a .format .f) (a .direction) (a .unit) (q .result) (a .aligned) (a .count) (λ (n : ℕ). Meets (signed (a .format) (a .sign) (boundedHeld (a .format) (a .direction) n (a .unit))) (a .c))
+    (s .pre .1) (s .pre .2) (q .ensures) (c .before .before .before .at-quotient .result) (c .before .before .before .at-quotient .ensures formed) (c .before .before .if1 .left)
+    (m .ensures (not-true (m .result) (c .if2 .taken)) formed)
+
+add-at-quotient : tie.Need-add-at-quotient
+add-at-quotient c =
+    let a = c .before .before .before .before .before .args in
+    let q = c .before .before .before .before .least-quotient in
+    omega (arith, least-le (a .format .f) (a .count) (a .unit), q .ensures)
+
+at-quotient-requires-2 : tie.Need-at-quotient-requires-2
+at-quotient-requires-2 c κs =
+    let s = c .before .before .before .before .before in
+    let a = s .args in
+    let q = c .before .before .before .before .least-quotient in
+    (s .pre .0, s .pre .1, s .pre .2, omega (arith, least-le (a .format .f) (a .count) (a .unit), q .ensures))
+
+returns-3 : tie.Need-returns-3
+returns-3 c =
+    let s = c .before .before .before .before .before .before in
+    let a = s .args in
+    let q = c .before .before .before .before .before .least-quotient in
     λ formed. second-quotient (a .format .f) (a .direction) (a .unit) (q .result) (a .aligned) (a .count) (λ (n : ℕ). Meets (signed (a .format) (a .sign) (boundedHeld (a .format) (a .direction) n (a .unit))) (a .c))
-    (s .pre .1) (s .pre .2) (q .ensures) (c .before .before .at-quotient .result) (c .before .before .at-quotient .ensures formed) (c .before .if1 .left)
+    (s .pre .1) (s .pre .2) (q .ensures) (c .before .before .before .before .at-quotient .result) (c .before .before .before .before .at-quotient .ensures formed) (c .before .before .before .if1 .left)
     (c .at-quotient2 .result) (c .at-quotient2 .ensures formed)
 
 pub at-count-spec : {M : Type 1} → statement M
@@ -67,6 +79,8 @@ at-count-spec =
     least-quotient-requires
     at-quotient-requires
     returns
+    may-carry-requires
+    returns-2
     add-at-quotient
     at-quotient-requires-2
-    returns-2)
+    returns-3)

@@ -2,7 +2,7 @@
 use mathlib.Core.Bool.{Bool, true, false≢true}
 use mathlib.Core.Logic.{_↔_}
 use mathlib.Core.Path.{_≡_, ap, ap₂, _∙_, subst}
-use Prim.Native.Nat.{ℕ, _-_, _^_, _<_}
+use Prim.Native.Nat.{ℕ, _-_}
 use native.Mathlib.Nat.{not-le-of-lt}
 use native.Mathlib.Omega.{arith}
 use lib.Dec.{eqb}
@@ -13,10 +13,9 @@ use Rattle.mask.specs.declared.Mask.{Mask}
 use Rattle.mask.specs.Mask.{WellFormed}
 use Rattle.word.specs.declared.Unit as exponent
 use Rattle.word.specs.Word.{unitOf}
-use Rattle.rounding.proofs.Widths.{aligned-width}
 use Rattle.significand.specs.Tail.{tailMask}
 use Rattle.significand.proofs.Significand.{significand-formed}
-use Rattle.significand.proofs.Tail.{tail-below}
+use Rattle.significand.proofs.Tail.{tail-most}
 use Rattle.outcome.specs.declared.Aligned as pair
 use Rattle.outcome.specs.Outcome.{Bounded, Admits, InFormat, Formed}
 use Rattle.pair.specs.declared.Side.{Side}
@@ -43,9 +42,8 @@ formed : (F : Format) → Supported F → (carries : Mask) → WellFormed (preci
 formed F ok carries fr x y fx fy = record { head = bounded x fx 0; tail = bounded y fy (gapOf x y); carries = fr }
   where
     bounded : (z : Side) → FiniteSide F z → (d : ℕ) → Bounded (F .f) (tailMask (precision F) (significandsOf F z) d)
-    bounded z fz d n below met =
-        subst (λ (k : ℕ). n < 2 ^ k) (aligned-width F)
-        (tail-below (precision F) (significandsOf F z) d (omega (arith, significand-room F ok)) (significand-formed (F .f) (z .fraction) (omega (arith, significand-room F ok)) (fz .formed) (z .exponent)) n below met)
+    bounded z fz d =
+        tail-most (precision F) (significandsOf F z) d (omega (arith, significand-room F ok)) (significand-formed (F .f) (z .fraction) (omega (arith, significand-room F ok)) (fz .formed) (z .exponent))
 
 -- the exponent that a unit holds
 at : exponent.Unit → ℕ

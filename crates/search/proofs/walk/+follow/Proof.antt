@@ -21,7 +21,7 @@ use Rattle.word.proofs.Bounds.{exponents}
 use Rattle.search.specs.Walk.{OpenBits}
 use Rattle.search.proofs.Roles.{replaced-setting}
 use Rattle.search.proofs.Walking.{end-done, skipped-bit, tried-valid, tried-none, tried-started, tried-past, tried-end, other-started, other-end}
-use Rattle.search.proofs.first_field.Reads as first-field-reads
+use Rattle.search.proofs.pass.first_pair.Reads as first-pair-reads
 use Rattle.search.proofs.walk.+follow.Lts-follow as follow-lts
 use Rattle.search.proofs.walk.+follow.{statement}
 use Rattle.search.proofs.walk.follow.Kinds as follow-kinds
@@ -38,23 +38,23 @@ follow-at t = and 0 follow-kinds.ps (is 0 follow-kinds.ps μ-follow t) follow.Pr
 abbrev follow-below : ℕ → In 0 follow-kinds.ps
 follow-below t = and 0 follow-kinds.ps (falls 0 follow-kinds.ps _<_ μ-follow t) follow.Pre
 
-follow-returns : (t : ℕ) → follow-lts.Need-returns (wanted-reads.Asked, wanted-reads.Learnt, free-reads.Asked, free-reads.Learnt, follow-below t, follow.Post, bit-at-reads.Asked, bit-at-reads.Learnt, fix-bit-reads.Asked, fix-bit-reads.Learnt, first-field-reads.Asked, first-field-reads.Learnt, power-reads.Asked, power-reads.Learnt) (follow-at t) follow.Post
+follow-returns : (t : ℕ) → follow-lts.Need-returns (wanted-reads.Asked, wanted-reads.Learnt, free-reads.Asked, free-reads.Learnt, follow-below t, follow.Post, bit-at-reads.Asked, bit-at-reads.Learnt, fix-bit-reads.Asked, fix-bit-reads.Learnt, first-pair-reads.Asked, first-pair-reads.Learnt, power-reads.Asked, power-reads.Learnt) (follow-at t) follow.Post
 follow-returns t c = let a = c .before .args in
     (refl, λ started. end-done (a .job) (a .role) (a .word) (subst (OpenBits (a .job) (a .role)) (c .if1 .taken) (started .top)))
 
-follow-sub-k : (t : ℕ) → follow-lts.Need-sub-k (wanted-reads.Asked, wanted-reads.Learnt, free-reads.Asked, free-reads.Learnt, follow-below t, follow.Post, bit-at-reads.Asked, bit-at-reads.Learnt, fix-bit-reads.Asked, fix-bit-reads.Learnt, first-field-reads.Asked, first-field-reads.Learnt, power-reads.Asked, power-reads.Learnt) (follow-at t) follow.Post
+follow-sub-k : (t : ℕ) → follow-lts.Need-sub-k (wanted-reads.Asked, wanted-reads.Learnt, free-reads.Asked, free-reads.Learnt, follow-below t, follow.Post, bit-at-reads.Asked, bit-at-reads.Learnt, fix-bit-reads.Asked, fix-bit-reads.Learnt, first-pair-reads.Asked, first-pair-reads.Learnt, power-reads.Asked, power-reads.Learnt) (follow-at t) follow.Post
 follow-sub-k t c = omega (arith, c .if1 .left)
 
-follow-wanted-requires : (t : ℕ) → follow-lts.Need-wanted-requires (wanted-reads.Asked, wanted-reads.Learnt, free-reads.Asked, free-reads.Learnt, follow-below t, follow.Post, bit-at-reads.Asked, bit-at-reads.Learnt, fix-bit-reads.Asked, fix-bit-reads.Learnt, first-field-reads.Asked, first-field-reads.Learnt, power-reads.Asked, power-reads.Learnt) (follow-at t) follow.Post
+follow-wanted-requires : (t : ℕ) → follow-lts.Need-wanted-requires (wanted-reads.Asked, wanted-reads.Learnt, free-reads.Asked, free-reads.Learnt, follow-below t, follow.Post, bit-at-reads.Asked, bit-at-reads.Learnt, fix-bit-reads.Asked, fix-bit-reads.Learnt, first-pair-reads.Asked, first-pair-reads.Learnt, power-reads.Asked, power-reads.Learnt) (follow-at t) follow.Post
 follow-wanted-requires t c κs = search needs
 
-follow-free-requires : (t : ℕ) → follow-lts.Need-free-requires (wanted-reads.Asked, wanted-reads.Learnt, free-reads.Asked, free-reads.Learnt, follow-below t, follow.Post, bit-at-reads.Asked, bit-at-reads.Learnt, fix-bit-reads.Asked, fix-bit-reads.Learnt, first-field-reads.Asked, first-field-reads.Learnt, power-reads.Asked, power-reads.Learnt) (follow-at t) follow.Post
+follow-free-requires : (t : ℕ) → follow-lts.Need-free-requires (wanted-reads.Asked, wanted-reads.Learnt, free-reads.Asked, free-reads.Learnt, follow-below t, follow.Post, bit-at-reads.Asked, bit-at-reads.Learnt, fix-bit-reads.Asked, fix-bit-reads.Learnt, first-pair-reads.Asked, first-pair-reads.Learnt, power-reads.Asked, power-reads.Learnt) (follow-at t) follow.Post
 follow-free-requires t c κs = search needs
 
-follow-follow-requires : (t : ℕ) → follow-lts.Need-follow-requires (wanted-reads.Asked, wanted-reads.Learnt, free-reads.Asked, free-reads.Learnt, follow-below t, follow.Post, bit-at-reads.Asked, bit-at-reads.Learnt, fix-bit-reads.Asked, fix-bit-reads.Learnt, first-field-reads.Asked, first-field-reads.Learnt, power-reads.Asked, power-reads.Learnt) (follow-at t) follow.Post
+follow-follow-requires : (t : ℕ) → follow-lts.Need-follow-requires (wanted-reads.Asked, wanted-reads.Learnt, free-reads.Asked, free-reads.Learnt, follow-below t, follow.Post, bit-at-reads.Asked, bit-at-reads.Learnt, fix-bit-reads.Asked, fix-bit-reads.Learnt, first-pair-reads.Asked, first-pair-reads.Learnt, power-reads.Asked, power-reads.Learnt) (follow-at t) follow.Post
 follow-follow-requires t c κs = (omega (arith, c .before .before .before .before .pre .0, c .before .before .before .if1 .left), c .before .before .before .before .pre .1)
 
-follow-returns-2 : (t : ℕ) → follow-lts.Need-returns-2 (wanted-reads.Asked, wanted-reads.Learnt, free-reads.Asked, free-reads.Learnt, follow-below t, follow.Post, bit-at-reads.Asked, bit-at-reads.Learnt, fix-bit-reads.Asked, fix-bit-reads.Learnt, first-field-reads.Asked, first-field-reads.Learnt, power-reads.Asked, power-reads.Learnt) (follow-at t) follow.Post
+follow-returns-2 : (t : ℕ) → follow-lts.Need-returns-2 (wanted-reads.Asked, wanted-reads.Learnt, free-reads.Asked, free-reads.Learnt, follow-below t, follow.Post, bit-at-reads.Asked, bit-at-reads.Learnt, fix-bit-reads.Asked, fix-bit-reads.Learnt, first-pair-reads.Asked, first-pair-reads.Learnt, power-reads.Asked, power-reads.Learnt) (follow-at t) follow.Post
 follow-returns-2 t c = let f = c .before .before in
     let i = c .before .before .before .before in
     let a = c .before .before .before .before .before .args in (
@@ -65,26 +65,26 @@ follow-returns-2 t c = let f = c .before .before in
       }),
     )
 
-follow-bit-at-requires : (t : ℕ) → follow-lts.Need-bit-at-requires (wanted-reads.Asked, wanted-reads.Learnt, free-reads.Asked, free-reads.Learnt, follow-below t, follow.Post, bit-at-reads.Asked, bit-at-reads.Learnt, fix-bit-reads.Asked, fix-bit-reads.Learnt, first-field-reads.Asked, first-field-reads.Learnt, power-reads.Asked, power-reads.Learnt) (follow-at t) follow.Post
+follow-bit-at-requires : (t : ℕ) → follow-lts.Need-bit-at-requires (wanted-reads.Asked, wanted-reads.Learnt, free-reads.Asked, free-reads.Learnt, follow-below t, follow.Post, bit-at-reads.Asked, bit-at-reads.Learnt, fix-bit-reads.Asked, fix-bit-reads.Learnt, first-pair-reads.Asked, first-pair-reads.Learnt, power-reads.Asked, power-reads.Learnt) (follow-at t) follow.Post
 follow-bit-at-requires t c κs = search needs
 
-follow-fix-bit-requires : (t : ℕ) → follow-lts.Need-fix-bit-requires (wanted-reads.Asked, wanted-reads.Learnt, free-reads.Asked, free-reads.Learnt, follow-below t, follow.Post, bit-at-reads.Asked, bit-at-reads.Learnt, fix-bit-reads.Asked, fix-bit-reads.Learnt, first-field-reads.Asked, first-field-reads.Learnt, power-reads.Asked, power-reads.Learnt) (follow-at t) follow.Post
+follow-fix-bit-requires : (t : ℕ) → follow-lts.Need-fix-bit-requires (wanted-reads.Asked, wanted-reads.Learnt, free-reads.Asked, free-reads.Learnt, follow-below t, follow.Post, bit-at-reads.Asked, bit-at-reads.Learnt, fix-bit-reads.Asked, fix-bit-reads.Learnt, first-pair-reads.Asked, first-pair-reads.Learnt, power-reads.Asked, power-reads.Learnt) (follow-at t) follow.Post
 follow-fix-bit-requires t c κs = search needs
 
-follow-first-field-requires : (t : ℕ) → follow-lts.Need-first-field-requires (wanted-reads.Asked, wanted-reads.Learnt, free-reads.Asked, free-reads.Learnt, follow-below t, follow.Post, bit-at-reads.Asked, bit-at-reads.Learnt, fix-bit-reads.Asked, fix-bit-reads.Learnt, first-field-reads.Asked, first-field-reads.Learnt, power-reads.Asked, power-reads.Learnt) (follow-at t) follow.Post
-follow-first-field-requires t c κs = let a = c .before .before .before .before .before .before .args in
+follow-first-pair-requires : (t : ℕ) → follow-lts.Need-first-pair-requires (wanted-reads.Asked, wanted-reads.Learnt, free-reads.Asked, free-reads.Learnt, follow-below t, follow.Post, bit-at-reads.Asked, bit-at-reads.Learnt, fix-bit-reads.Asked, fix-bit-reads.Learnt, first-pair-reads.Asked, first-pair-reads.Learnt, power-reads.Asked, power-reads.Learnt) (follow-at t) follow.Post
+follow-first-pair-requires t c κs = let a = c .before .before .before .before .before .before .args in
     subst (λ (S : Setting). Supported (S .format)) (sym (replaced-setting (a .job) (a .role) (fix (wanted (a .role) (a .job) .mask) (a .open-bits - 1) (c .before .bit-at .result)) (c .fix-bit .result) (c .fix-bit .ensures))) (c .before .before .before .before .before .before .pre .1)
 
-follow-power-requires : (t : ℕ) → follow-lts.Need-power-requires (wanted-reads.Asked, wanted-reads.Learnt, free-reads.Asked, free-reads.Learnt, follow-below t, follow.Post, bit-at-reads.Asked, bit-at-reads.Learnt, fix-bit-reads.Asked, fix-bit-reads.Learnt, first-field-reads.Asked, first-field-reads.Learnt, power-reads.Asked, power-reads.Learnt) (follow-at t) follow.Post
+follow-power-requires : (t : ℕ) → follow-lts.Need-power-requires (wanted-reads.Asked, wanted-reads.Learnt, free-reads.Asked, free-reads.Learnt, follow-below t, follow.Post, bit-at-reads.Asked, bit-at-reads.Learnt, fix-bit-reads.Asked, fix-bit-reads.Learnt, first-pair-reads.Asked, first-pair-reads.Learnt, power-reads.Asked, power-reads.Learnt) (follow-at t) follow.Post
 follow-power-requires t c κs = search needs
 
-follow-follow-requires-2 : (t : ℕ) → follow-lts.Need-follow-requires-2 (wanted-reads.Asked, wanted-reads.Learnt, free-reads.Asked, free-reads.Learnt, follow-below t, follow.Post, bit-at-reads.Asked, bit-at-reads.Learnt, fix-bit-reads.Asked, fix-bit-reads.Learnt, first-field-reads.Asked, first-field-reads.Learnt, power-reads.Asked, power-reads.Learnt) (follow-at t) follow.Post
+follow-follow-requires-2 : (t : ℕ) → follow-lts.Need-follow-requires-2 (wanted-reads.Asked, wanted-reads.Learnt, free-reads.Asked, free-reads.Learnt, follow-below t, follow.Post, bit-at-reads.Asked, bit-at-reads.Learnt, fix-bit-reads.Asked, fix-bit-reads.Learnt, first-pair-reads.Asked, first-pair-reads.Learnt, power-reads.Asked, power-reads.Learnt) (follow-at t) follow.Post
 follow-follow-requires-2 t c κs = let a = c .before .before .before .before .before .before .before .before .before .before .args in (
   omega (arith, c .before .before .before .before .before .before .before .before .before .before .pre .0, c .before .before .before .before .before .before .before .before .before .if1 .left),
   subst (λ (S : Setting). Supported (S .format)) (sym (replaced-setting (a .job) (a .role) (fix (wanted (a .role) (a .job) .mask) (a .open-bits - 1) (c .before .before .before .before .before .bit-at .result)) (c .before .before .before .before .fix-bit .result) (c .before .before .before .before .fix-bit .ensures))) (c .before .before .before .before .before .before .before .before .before .before .pre .1),
 )
 
-follow-returns-3 : (t : ℕ) → follow-lts.Need-returns-3 (wanted-reads.Asked, wanted-reads.Learnt, free-reads.Asked, free-reads.Learnt, follow-below t, follow.Post, bit-at-reads.Asked, bit-at-reads.Learnt, fix-bit-reads.Asked, fix-bit-reads.Learnt, first-field-reads.Asked, first-field-reads.Learnt, power-reads.Asked, power-reads.Learnt) (follow-at t) follow.Post
+follow-returns-3 : (t : ℕ) → follow-lts.Need-returns-3 (wanted-reads.Asked, wanted-reads.Learnt, free-reads.Asked, free-reads.Learnt, follow-below t, follow.Post, bit-at-reads.Asked, bit-at-reads.Learnt, fix-bit-reads.Asked, fix-bit-reads.Learnt, first-pair-reads.Asked, first-pair-reads.Learnt, power-reads.Asked, power-reads.Learnt) (follow-at t) follow.Post
 follow-returns-3 t c = let r = c .before .before .before .before in
     let f = c .before .before .before .before .before in
     let i = c .before .before .before .before .before .before .before .before .before .before in
@@ -93,24 +93,24 @@ follow-returns-3 t c = let r = c .before .before .before .before in
       λ started.
           let is = exponents (a .job .setting .format) (c .before .before .before .before .before .before .before .before .before .before .before .pre .1) (c .before .before .before .power .ensures) in
           let valid = tried-valid (a .job) (a .role) (a .open-bits) (started .top) (i .if1 .left) (a .word) (f .before .bit-at .result) (f .before .bit-at .ensures) (f .fix-bit .result) (f .fix-bit .ensures) in
-          let first = r .first-field .ensures valid (tried-none (a .job) (a .role) (a .open-bits) (started .top) (i .if1 .left) (a .word) (f .before .bit-at .result) (f .before .bit-at .ensures) (f .fix-bit .result) (f .fix-bit .ensures) (a .start) (started .none)) in
+          let first = r .first-pair .ensures valid (tried-none (a .job) (a .role) (a .open-bits) (started .top) (i .if1 .left) (a .word) (f .before .bit-at .result) (f .before .bit-at .ensures) (f .fix-bit .result) (f .fix-bit .ensures) (a .start) (started .none)) in
           tried-end (a .job) (a .role) (a .open-bits) (started .top) (i .if1 .left) (a .word) (f .before .bit-at .result) (f .before .bit-at .ensures) (f .fix-bit .result) (f .fix-bit .ensures) (c .follow2 .result)
-          (c .follow2 .ensures .1 (tried-started (a .job) (a .role) (a .open-bits) (started .top) (i .if1 .left) (a .word) (f .before .bit-at .result) (f .before .bit-at .ensures) (f .fix-bit .result) (f .fix-bit .ensures) (r .first-field .result) first (omega (arith, is, c .before .if3 .taken)))),
+          (c .follow2 .ensures .1 (tried-started (a .job) (a .role) (a .open-bits) (started .top) (i .if1 .left) (a .word) (f .before .bit-at .result) (f .before .bit-at .ensures) (f .fix-bit .result) (f .fix-bit .ensures) (r .first-pair .result) first (omega (arith, is, c .before .if3 .taken)))),
     )
 
-follow-sub-fix-bit : (t : ℕ) → follow-lts.Need-sub-fix-bit (wanted-reads.Asked, wanted-reads.Learnt, free-reads.Asked, free-reads.Learnt, follow-below t, follow.Post, bit-at-reads.Asked, bit-at-reads.Learnt, fix-bit-reads.Asked, fix-bit-reads.Learnt, first-field-reads.Asked, first-field-reads.Learnt, power-reads.Asked, power-reads.Learnt) (follow-at t) follow.Post
+follow-sub-fix-bit : (t : ℕ) → follow-lts.Need-sub-fix-bit (wanted-reads.Asked, wanted-reads.Learnt, free-reads.Asked, free-reads.Learnt, follow-below t, follow.Post, bit-at-reads.Asked, bit-at-reads.Learnt, fix-bit-reads.Asked, fix-bit-reads.Learnt, first-pair-reads.Asked, first-pair-reads.Learnt, power-reads.Asked, power-reads.Learnt) (follow-at t) follow.Post
 follow-sub-fix-bit t c = omega (arith, c .before .before .before .before .before .bit-at .ensures, bit-lt (c .before .before .before .before .before .before .before .before .before .before .args .word) (c .before .before .before .before .before .before .before .before .before .before .args .open-bits - 1))
 
-follow-fix-bit-requires-2 : (t : ℕ) → follow-lts.Need-fix-bit-requires-2 (wanted-reads.Asked, wanted-reads.Learnt, free-reads.Asked, free-reads.Learnt, follow-below t, follow.Post, bit-at-reads.Asked, bit-at-reads.Learnt, fix-bit-reads.Asked, fix-bit-reads.Learnt, first-field-reads.Asked, first-field-reads.Learnt, power-reads.Asked, power-reads.Learnt) (follow-at t) follow.Post
+follow-fix-bit-requires-2 : (t : ℕ) → follow-lts.Need-fix-bit-requires-2 (wanted-reads.Asked, wanted-reads.Learnt, free-reads.Asked, free-reads.Learnt, follow-below t, follow.Post, bit-at-reads.Asked, bit-at-reads.Learnt, fix-bit-reads.Asked, fix-bit-reads.Learnt, first-pair-reads.Asked, first-pair-reads.Learnt, power-reads.Asked, power-reads.Learnt) (follow-at t) follow.Post
 follow-fix-bit-requires-2 t c κs = search needs
 
-follow-follow-requires-3 : (t : ℕ) → follow-lts.Need-follow-requires-3 (wanted-reads.Asked, wanted-reads.Learnt, free-reads.Asked, free-reads.Learnt, follow-below t, follow.Post, bit-at-reads.Asked, bit-at-reads.Learnt, fix-bit-reads.Asked, fix-bit-reads.Learnt, first-field-reads.Asked, first-field-reads.Learnt, power-reads.Asked, power-reads.Learnt) (follow-at t) follow.Post
+follow-follow-requires-3 : (t : ℕ) → follow-lts.Need-follow-requires-3 (wanted-reads.Asked, wanted-reads.Learnt, free-reads.Asked, free-reads.Learnt, follow-below t, follow.Post, bit-at-reads.Asked, bit-at-reads.Learnt, fix-bit-reads.Asked, fix-bit-reads.Learnt, first-pair-reads.Asked, first-pair-reads.Learnt, power-reads.Asked, power-reads.Learnt) (follow-at t) follow.Post
 follow-follow-requires-3 t c κs = let a = c .before .before .before .before .before .before .before .before .before .before .before .args in (
   omega (arith, c .before .before .before .before .before .before .before .before .before .before .before .pre .0, c .before .before .before .before .before .before .before .before .before .before .if1 .left),
   subst (λ (S : Setting). Supported (S .format)) (sym (replaced-setting (a .job) (a .role) (fix (wanted (a .role) (a .job) .mask) (a .open-bits - 1) (1 - c .before .before .before .before .before .before .bit-at .result)) (c .fix-bit2 .result) (c .fix-bit2 .ensures))) (c .before .before .before .before .before .before .before .before .before .before .before .pre .1),
 )
 
-follow-returns-4 : (t : ℕ) → follow-lts.Need-returns-4 (wanted-reads.Asked, wanted-reads.Learnt, free-reads.Asked, free-reads.Learnt, follow-below t, follow.Post, bit-at-reads.Asked, bit-at-reads.Learnt, fix-bit-reads.Asked, fix-bit-reads.Learnt, first-field-reads.Asked, first-field-reads.Learnt, power-reads.Asked, power-reads.Learnt) (follow-at t) follow.Post
+follow-returns-4 : (t : ℕ) → follow-lts.Need-returns-4 (wanted-reads.Asked, wanted-reads.Learnt, free-reads.Asked, free-reads.Learnt, follow-below t, follow.Post, bit-at-reads.Asked, bit-at-reads.Learnt, fix-bit-reads.Asked, fix-bit-reads.Learnt, first-pair-reads.Asked, first-pair-reads.Learnt, power-reads.Asked, power-reads.Learnt) (follow-at t) follow.Post
 follow-returns-4 t c = let r = c .before .before .before .before .before in
     let f = c .before .before .before .before .before .before in
     let i = c .before .before .before .before .before .before .before .before .before .before .before in
@@ -120,14 +120,14 @@ follow-returns-4 t c = let r = c .before .before .before .before .before in
       λ started.
           let is = exponents (a .job .setting .format) (c .before .before .before .before .before .before .before .before .before .before .before .before .pre .1) (c .before .before .before .before .power .ensures) in
           let valid = tried-valid (a .job) (a .role) (a .open-bits) (started .top) (i .if1 .left) (a .word) (f .before .bit-at .result) (f .before .bit-at .ensures) (f .fix-bit .result) (f .fix-bit .ensures) in
-          let first = r .first-field .ensures valid (tried-none (a .job) (a .role) (a .open-bits) (started .top) (i .if1 .left) (a .word) (f .before .bit-at .result) (f .before .bit-at .ensures) (f .fix-bit .result) (f .fix-bit .ensures) (a .start) (started .none)) in
-          let none = tried-past (a .job) (a .role) (a .open-bits) (started .top) (i .if1 .left) (a .word) (f .before .bit-at .result) (f .before .bit-at .ensures) (f .fix-bit .result) (f .fix-bit .ensures) (r .first-field .result) first (omega (arith, is, c .before .before .if3 .left)) in
+          let first = r .first-pair .ensures valid (tried-none (a .job) (a .role) (a .open-bits) (started .top) (i .if1 .left) (a .word) (f .before .bit-at .result) (f .before .bit-at .ensures) (f .fix-bit .result) (f .fix-bit .ensures) (a .start) (started .none)) in
+          let none = tried-past (a .job) (a .role) (a .open-bits) (started .top) (i .if1 .left) (a .word) (f .before .bit-at .result) (f .before .bit-at .ensures) (f .fix-bit .result) (f .fix-bit .ensures) (r .first-pair .result) first (omega (arith, is, c .before .before .if3 .left)) in
           other-end (a .job) (a .role) (a .open-bits) (started .top) (i .if1 .left) (a .word) (f .before .bit-at .result) (f .before .bit-at .ensures) (f .fix-bit .result) (f .fix-bit .ensures) none (t .result) (t .ensures) (c .follow3 .result)
           (c .follow3 .ensures .1 (other-started (a .job) (a .role) (a .open-bits) (started .top) (i .if1 .left) (a .word) (f .before .bit-at .result) (f .before .bit-at .ensures) (f .fix-bit .result) (f .fix-bit .ensures) none (t .result) (t .ensures) (a .start) (started .none))),
     )
 
 pub +follow-spec : {M : Type 1} → statement M
-+follow-spec = close μ-follow λ t. follow-lts.spec (wanted-reads.Asked, wanted-reads.Learnt, free-reads.Asked, free-reads.Learnt, follow-below t, follow.Post, bit-at-reads.Asked, bit-at-reads.Learnt, fix-bit-reads.Asked, fix-bit-reads.Learnt, first-field-reads.Asked, first-field-reads.Learnt, power-reads.Asked, power-reads.Learnt)
++follow-spec = close μ-follow λ t. follow-lts.spec (wanted-reads.Asked, wanted-reads.Learnt, free-reads.Asked, free-reads.Learnt, follow-below t, follow.Post, bit-at-reads.Asked, bit-at-reads.Learnt, fix-bit-reads.Asked, fix-bit-reads.Learnt, first-pair-reads.Asked, first-pair-reads.Learnt, power-reads.Asked, power-reads.Learnt)
     (follow-at t)
     follow.Post
     (follow-returns t)
@@ -138,7 +138,7 @@ pub +follow-spec : {M : Type 1} → statement M
     (follow-returns-2 t)
     (follow-bit-at-requires t)
     (follow-fix-bit-requires t)
-    (follow-first-field-requires t)
+    (follow-first-pair-requires t)
     (follow-power-requires t)
     (follow-follow-requires-2 t)
     (follow-returns-3 t)

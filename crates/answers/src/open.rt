@@ -1,0 +1,91 @@
+// The partners of an exponent field of a whose classes are known to admit nothing.
+use crate::MOST_FRACTION;
+use crate::PLACES;
+use crate::known::closed_place;
+use bits::bit_at;
+use bits::minus;
+use classes::FAR_GAP;
+use job::Job;
+use word::Biased;
+ghost use mathlib.Core.Path.{_≡_};
+ghost use Prim.Native.Nat.{ℕ, _+_, _^_, _≤_, _<_};
+ghost use Rattle.bits.specs.Bit.{bit};
+ghost use Rattle.job.specs.Job.{Valid};
+ghost use Rattle.word.specs.declared.Biased.{Biased};
+ghost use Rattle.classes.specs.Class.{farGap, lowField};
+ghost use Rattle.answers.specs.Kept.{closedBit, Kept, ClassEnd, NoPartner};
+
+// How many bits from i on are ones.
+fn run_from(word: u64, i: u64) -> u64
+    requires { ⌜ (1 ≤ i) × (i < 64) ⌝ }
+    ensures { λ r. ⌜ (r ≤ 64) × ((k : ℕ) → k < r → bit word (i + k) ≡ 1) ⌝ }
+{
+    u64::trailing_zeros((word >> i) + 1) as u64
+}
+
+// From eb on, which is no larger than ea, the first field whose class is not among the closed ones, or the one after ea.
+fn open_below(f: u64, ea: Biased, eb: Biased, closed: u64) -> Biased
+    requires { ⌜ (f < 59) × (farGap f < ea .0) × (ea .0 + 1 < 2 ^ 64) × (eb .0 ≤ ea .0) ⌝ }
+    ensures { λ r. ⌜ (eb .0 ≤ r .0) × ((d : Biased) → eb .0 ≤ d .0 → d .0 < r .0 → (d .0 ≤ ea .0) × (bit closed (closedBit f 0 (lowField f ea d .0)) ≡ 1)) ⌝ }
+{
+    if eb.0 == 0 {
+        return Biased(bit_at(closed, 0));
+    }
+    let far = ea.0 - (f + FAR_GAP);
+    let from = eb.0 + minus(far, eb.0);
+    let run = run_from(closed, from - far + 1);
+    if run == 0 {
+        return eb;
+    }
+    if ea.0 - from < run {
+        return Biased(ea.0 + 1);
+    }
+    Biased(from + run)
+}
+
+// From eb on, which is larger than ea, the first field whose class is not among the closed ones, or `end`.
+fn open_above(f: u64, ea: Biased, eb: Biased, end: Biased, closed: u64) -> Biased
+    requires { ⌜ (f < 59) × (ea .0 < eb .0) × (eb .0 < end .0) ⌝ }
+    ensures { λ r. ⌜ (eb .0 ≤ r .0) × (r .0 ≤ end .0) × ((d : Biased) → eb .0 ≤ d .0 → d .0 < r .0 → bit closed (closedBit f 1 (lowField f d ea .0)) ≡ 1) ⌝ }
+{
+    let far = f + FAR_GAP;
+    if ea.0 == 0 {
+        if bit_at(closed, far + 1) == 1 {
+            return end;
+        }
+        return eb;
+    }
+    let gap = far - minus(far, eb.0 - ea.0);
+    let run = run_from(closed, gap);
+    if far < gap + run {
+        return end;
+    }
+    if end.0 - eb.0 < run {
+        return end;
+    }
+    Biased(eb.0 + run)
+}
+
+// From eb on, the first field of b that may admit a case with a's, as far as the closed classes tell. For a job with a malformed mask,
+// another end than `class_end` gives or another table than one that `admits` kept, the answer is free but for its side.
+pub fn open_from(job: Job, ea: Biased, eb: Biased, end: Biased, table: &[u64; PLACES]) -> Biased
+    ensures { λ r. ⌜ (eb .0 ≤ r .0) × (Valid job → ClassEnd job end → Kept job (now (table .entry)) → NoPartner job ea eb r) ⌝ }
+{
+    let f = job.setting.format.f;
+    if MOST_FRACTION < f {
+        return eb;
+    }
+    let larger = ea.0 + minus(eb.0, ea.0);
+    if larger <= f + FAR_GAP {
+        return eb;
+    }
+    if end.0 <= larger {
+        return eb;
+    }
+    if eb.0 <= ea.0 {
+        let at = closed_place(f, 0) as usize;
+        return open_below(f, ea, eb, table[at]);
+    }
+    let at = closed_place(f, 1) as usize;
+    open_above(f, ea, eb, end, table[at])
+}

@@ -1,0 +1,71 @@
+-- Pairs that need no question of their own: those whose smaller exponent field is far below the larger one have one answer, and where c's mask
+-- lets through no exponent field near the larger one only a zero sum is left, with a gap of 1 at most. Assumes nothing.
+use mathlib.Core.Logic.{_⊎_, inl, inr, ⊎-elim}
+use mathlib.Core.Path.{_≡_, refl, subst}
+use Prim.Native.Nat.{ℕ, zero, suc, _+_, _-_, _≤_, _<_}
+use native.Mathlib.Decide.{decLe}
+use native.Mathlib.Omega.{arith}
+use borrow.Author.Tests.{le-leb}
+use Rattle.mask.specs.Mask.{Meets}
+use Rattle.job.specs.declared.Job.{Job}
+use Rattle.job.specs.Job.{Valid}
+use Rattle.word.specs.declared.Biased.{Biased}
+use Rattle.word.specs.Word.{unitOf, allOnes}
+use Rattle.word.specs.Masks.{exponentMask}
+use Rattle.special.specs.Asked.{PairFits}
+use Rattle.special.proofs.Beside.{beside-a, beside-b}
+use Rattle.classes.specs.Class.{InOrder, farGap, topField, lowerField, lowField, movedField, leastField, Classed, smallerMask}
+use Rattle.classes.specs.Far.{FarBelow, LetsNear, LetsZero}
+use Rattle.classes.proofs.Classes.{ClassFieldReached, class-reached, far-pair}
+
+-- ---- fields far below E
+beside : (j : Job) → Valid j → (o : ℕ) (E e g : Biased) → E .0 ≡ allOnes (j .setting .format) → e .0 < allOnes (j .setting .format) → g .0 < allOnes (j .setting .format)
+    → Meets (g .0) (smallerMask j o) → InOrder (PairFits j) o E e → InOrder (PairFits j) o E g
+beside j valid zero E e g ones e-lt g-lt met P = beside-a j valid E e g ones e-lt g-lt met P
+beside j valid (suc o) E e g ones e-lt g-lt met P = beside-b j valid E e g ones e-lt g-lt met P
+
+-- they have one answer
+pub far-alike : (j : Job) → Valid j → (o : ℕ) (E e g : Biased) → FarBelow (j .setting .format) E e → FarBelow (j .setting .format) E g
+    → Meets (g .0) (smallerMask j o) → InOrder (PairFits j) o E e → InOrder (PairFits j) o E g
+far-alike j valid o E e g (inl h) (inl k) met P = far-pair j valid E e g (h .2) (h .0) (k .0) (h .1) (k .1) o met P
+far-alike j valid o E e g (inl h) (inr k) met P = absurd (omega (arith, h .2, k .0))
+far-alike j valid o E e g (inr h) (inl k) met P = absurd (omega (arith, k .2, h .0))
+far-alike j valid o E e g (inr h) (inr k) met P = beside j valid o E e g (h .0) (h .1) (k .1) met P
+
+-- ---- c's exponent field
+
+-- the fields of a pair whose class may have a zero sum differ by 1 at most
+low-near : (f E e : ℕ) → e ≤ E → topField f .0 < lowerField f (E - 1 - (e - 1)) e .0 + 2 → E ≤ e + 1
+low-near f E zero h l = absurd (omega arith)
+low-near f E (suc e) h l = go (decLe (E - 1 - (suc e - 1)) 1)
+  where
+    go : Dec (E - 1 - (suc e - 1) ≤ 1) → E ≤ suc e + 1
+    go (yes q) = omega arith
+    go (no q) = absurd (omega arith)
+
+module _ (j : Job) (valid : Valid j) (o : ℕ) (E e : Biased) (finite : E .0 < allOnes (j .setting .format)) (under : e .0 ≤ E .0) where
+  pub near-or-zero : InOrder (PairFits j) o E e → Classed (j .setting .format) (j .c .mask) E e → LetsNear j E ⊎ (LetsZero j × (E .0 ≤ e .0 + 1))
+  unfolding leastField
+  near-or-zero P classed = go (r .field .0) refl
+    where
+      f : ℕ
+      f = j .setting .format .f
+
+      r : ClassFieldReached j E (record { order = o; low = lowField (j .setting .format .f) E e })
+      r = class-reached j valid o E e finite under P classed
+
+      some : 1 ≤ E .0
+      some = ⊎-elim (λ h. omega arith) (λ h. omega arith) (classed .normal)
+
+      go : (i : ℕ) → r .field .0 ≡ i → LetsNear j E ⊎ (LetsZero j × (E .0 ≤ e .0 + 1))
+      go zero z = inr (record { exponent = subst (λ (n : ℕ). Meets (movedField (farGap f) (unitOf E .0) n) (exponentMask (j .setting .format) (j .c .mask))) z (r .meets); fraction = r .zero-meets z }, near (decLe (lowField f E e .0 + 2) (topField f .0)))
+        where
+          near : Dec (lowField f E e .0 + 2 ≤ topField f .0) → E .0 ≤ e .0 + 1
+          near (yes l) = absurd (omega (arith, z, rw (le-leb (lowField f E e .0 + 2) (topField f .0) l) at (r .least)))
+          near (no l) = low-near f (E .0) (e .0) under (omega arith)
+      go (suc i) z = inl (record {
+        field = suc i + unitOf E .0 - farGap f;
+        meets = subst (λ (n : ℕ). Meets (movedField (farGap f) (unitOf E .0) n) (exponentMask (j .setting .format) (j .c .mask))) z (r .meets);
+        least = omega arith;
+        most = omega (arith, r .most, some);
+      })

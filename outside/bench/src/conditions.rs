@@ -1,0 +1,241 @@
+//! The masks of a job of a kind.
+
+use second::arith::Adder;
+use second::fits::{Case, Conditions};
+use second::format::{ones, Format};
+use second::mask::Mask;
+use second::random::Random;
+use second::sample::pair;
+
+use crate::kinds::{Kind, CANCELLED};
+
+/// The masks of a, b, c and the carries.
+type Masks = [Mask; 4];
+
+/// About half of the bits, of 16.
+const HALF: u64 = 8;
+
+/// The conditions of a job of a kind. One that is to be impossible may have a case.
+pub fn conditions(random: &mut Random, adder: &Adder, kind: Kind) -> Conditions {
+    let [a, b, c, carries] = match kind {
+        Kind::Fixed { of_16, carries } => fixed(random, adder, of_16, carries),
+        Kind::Cancelled => cancelled(random, adder),
+        Kind::Subnormal => subnormal(random, adder),
+        Kind::Overflow => overflow(random, adder),
+        Kind::Result => result(random, adder),
+        Kind::Fractions => fractions(random, adder.format),
+        Kind::Signs => signs(adder.format),
+        Kind::ExponentOfC => other_exponent(random, adder),
+        Kind::Carries => other_carry(random, adder),
+        Kind::Mixed => mixed(random, adder),
+    };
+    Conditions {
+        w: u64::from(adder.format.exponent_bits()),
+        f: u64::from(adder.format.fraction_bits()),
+        operation: adder.operation as u64,
+        mode: adder.mode as u64,
+        a,
+        b,
+        c,
+        carries,
+    }
+}
+
+/// A care word with about `of_16` of 16 bits.
+pub fn care(random: &mut Random, width: u32, of_16: u64) -> u64 {
+    (0..width)
+        .filter(|_| random.below(16) < of_16)
+        .map(|i| 1 << i)
+        .sum()
+}
+
+/// The mask that fixes the bits in care to those of a word.
+pub fn mask(word: u64, care: u64) -> Mask {
+    Mask {
+        care,
+        value: word & care,
+    }
+}
+
+/// The mask with some bits fixed to those of a word, whatever it said of them.
+pub fn with(mask: Mask, word: u64, bits: u64) -> Mask {
+    Mask {
+        care: mask.care | bits,
+        value: mask.value & !bits | word & bits,
+    }
+}
+
+/// The mask with some bits free.
+pub fn without(mask: Mask, bits: u64) -> Mask {
+    Mask {
+        care: mask.care & !bits,
+        value: mask.value & !bits,
+    }
+}
+
+/// The bits of the exponent field: infinity has these alone.
+pub fn exponent_field(format: Format) -> u64 {
+    format.infinity()
+}
+
+fn exponent(format: Format, word: u64) -> u64 {
+    (word & exponent_field(format)) >> format.fraction_bits()
+}
+
+/// The lowest 1 of a word.
+fn lowest(word: u64) -> u64 {
+    word & word.wrapping_neg()
+}
+
+/// The case of a pair of words.
+fn any_case(random: &mut Random, adder: &Adder) -> Case {
+    let (a, b) = pair(random, adder.format);
+    Case::of(adder, a, b)
+}
+
+/// The case of two finite words with unlike effective signs, close to each other in the order of
+/// magnitudes.
+fn close_case(random: &mut Random, adder: &Adder) -> Case {
+    let format = adder.format;
+    let low = random.below(format.largest_finite());
+    let digits = random.below(u64::from(format.fraction_bits()));
+    let apart = 1 + random.bits(digits as u32);
+    let high = (low + apart).min(format.largest_finite());
+    let (x, y) = match random.below(2) {
+        0 => (low, high),
+        _ => (high, low),
+    };
+    let negative = random.one_in(2);
+    let [a, b] = [format.signed(negative, x), format.signed(!negative, y)];
+    Case::of(adder, a, adder.operation.effective(format, b))
+}
+
+/// The first case drawn that is as wanted.
+fn first(draw: impl FnMut() -> Case, wanted: impl Fn(&Case) -> bool) -> Case {
+    let mut cases = std::iter::repeat_with(draw);
+    cases.find(wanted).expect("an endless supply")
+}
+
+/// The masks of a, b and c around a case, with about `of_16` of 16 bits fixed.
+fn around(random: &mut Random, adder: &Adder, case: &Case, of_16: u64) -> Masks {
+    let width = adder.format.width();
+    let [a, b, c] = [case.a, case.b, case.c].map(|word| mask(word, care(random, width, of_16)));
+    [a, b, c, Mask::FREE]
+}
+
+fn fixed(random: &mut Random, adder: &Adder, of_16: u64, carries: bool) -> Masks {
+    let case = any_case(random, adder);
+    let mut masks = around(random, adder, &case, of_16);
+    if let (true, Some(row)) = (carries, case.row) {
+        masks[3] = mask(row, care(random, adder.format.precision(), of_16));
+    }
+    masks
+}
+
+/// The exponent bits from the top on that have to stay for the field to be `least` or more.
+fn top_bits(format: Format, word: u64, least: u64) -> u64 {
+    let from = exponent(format, word);
+    let low_bits = (0..format.exponent_bits()).rfind(|&low| from >> low << low >= least);
+    let low_bits = low_bits.expect("a field that is so large");
+    exponent_field(format) & !ones(format.fraction_bits() + low_bits)
+}
+
+fn cancelled(random: &mut Random, adder: &Adder) -> Masks {
+    let format = adder.format;
+    let least = |case: &Case| exponent(format, case.c) + CANCELLED;
+    let case = first(
+        || close_case(random, adder),
+        |case| {
+            let mut operands = [case.a, case.b].into_iter();
+            operands.all(|word| least(case) <= exponent(format, word))
+        },
+    );
+    let [a, b, c, carries] = around(random, adder, &case, HALF);
+    let field = exponent_field(format);
+    let [a, b] = [(a, case.a), (b, case.b)].map(|(mask, word)| {
+        let top = top_bits(format, word, least(&case));
+        with(without(mask, field), word, top)
+    });
+    [a, b, with(c, case.c, field), carries]
+}
+
+fn subnormal(random: &mut Random, adder: &Adder) -> Masks {
+    let format = adder.format;
+    let fraction = ones(format.fraction_bits());
+    let case = first(
+        || match random.below(2) {
+            0 => any_case(random, adder),
+            _ => close_case(random, adder),
+        },
+        |case| exponent(format, case.c) == 0 && case.c & fraction != 0,
+    );
+    let [a, b, c, carries] = around(random, adder, &case, HALF);
+    let c = with(c, case.c, exponent_field(format) | lowest(case.c));
+    [a, b, c, carries]
+}
+
+fn overflow(random: &mut Random, adder: &Adder) -> Masks {
+    let format = adder.format;
+    let field = exponent_field(format);
+    let is_finite = |word: u64| word & field != field;
+    let case = first(
+        || any_case(random, adder),
+        |case| case.row.is_some() && !is_finite(case.c),
+    );
+    let [a, b, c, carries] = around(random, adder, &case, HALF);
+    let [a, b] =
+        [(a, case.a), (b, case.b)].map(|(mask, word)| with(mask, word, lowest(!word & field)));
+    [a, b, with(c, case.c, format.sign_bit() - 1), carries]
+}
+
+fn result(random: &mut Random, adder: &Adder) -> Masks {
+    let c = mask(any_case(random, adder).c, ones(adder.format.width()));
+    [Mask::FREE, Mask::FREE, c, Mask::FREE]
+}
+
+fn fractions(random: &mut Random, format: Format) -> Masks {
+    let [a, b, c] = [0; 3].map(|_| mask(random.word(), ones(format.fraction_bits())));
+    [a, b, c, Mask::FREE]
+}
+
+fn signs(format: Format) -> Masks {
+    let sign = format.sign_bit();
+    let [a, b, c] = [0, 0, sign].map(|word| mask(word, sign));
+    [a, b, c, Mask::FREE]
+}
+
+fn other_exponent(random: &mut Random, adder: &Adder) -> Masks {
+    let case = any_case(random, adder);
+    let [a, b, c, carries] = around(random, adder, &case, HALF);
+    let field = exponent_field(adder.format);
+    let [a, b] = [a, b].map(|mask| without(mask, field & random.word()));
+    [a, b, with(c, random.word(), field), carries]
+}
+
+fn other_carry(random: &mut Random, adder: &Adder) -> Masks {
+    let case = first(|| any_case(random, adder), |case| case.row.is_some());
+    let row = case.row.expect("there is one");
+    let [a, b, c, _] = around(random, adder, &case, HALF);
+    let precision = adder.format.precision();
+    let carries = mask(row, care(random, precision, HALF));
+    let turned = 1 << random.below(u64::from(precision));
+    [a, b, c, with(carries, !row, turned)]
+}
+
+/// A mask with any share of the bits fixed, three times of four to those of a word.
+fn any_share(random: &mut Random, word: u64, width: u32) -> Mask {
+    let of_16 = random.below(17);
+    let word = match random.below(4) {
+        0 => random.bits(width),
+        _ => word,
+    };
+    mask(word, care(random, width, of_16))
+}
+
+fn mixed(random: &mut Random, adder: &Adder) -> Masks {
+    let case = any_case(random, adder);
+    let (width, precision) = (adder.format.width(), adder.format.precision());
+    let [a, b, c] = [case.a, case.b, case.c].map(|word| any_share(random, word, width));
+    let carries = any_share(random, case.row.unwrap_or(0), precision);
+    [a, b, c, carries]
+}

@@ -1,0 +1,83 @@
+//! Random changes of a job that leave it well made.
+
+use second::choice::Job;
+use second::format::{ones, Format, LARGEST_MODE};
+use second::random::Random;
+
+use crate::conditions::{exponent_field, with, without};
+
+/// The job with a random change, or some of them.
+pub fn changed(random: &mut Random, job: &Job) -> Job {
+    let mut job = *job;
+    change(random, &mut job);
+    while random.one_in(2) {
+        change(random, &mut job);
+    }
+    job
+}
+
+/// Changes the mode, the operation, a random word or a mask.
+fn change(random: &mut Random, job: &mut Job) {
+    let format = Format::new(job.conditions.w, job.conditions.f).expect("within the limits");
+    match random.below(12) {
+        0 => job.conditions.mode = random.below(LARGEST_MODE + 1),
+        1 => job.conditions.operation = 1 - job.conditions.operation,
+        2 | 3 => {
+            let bits = some_bits(random, format, format.width());
+            job.words[random.below(2) as usize] ^= bits;
+        }
+        _ => change_mask(random, job, format),
+    }
+}
+
+/// Frees some bits of a mask, fixes them, or turns those that are fixed.
+fn change_mask(random: &mut Random, job: &mut Job, format: Format) {
+    let place = random.below(4) as usize;
+    let width = [format.width(), format.precision()][place / 3];
+    let bits = some_bits(random, format, width);
+    let mask = &mut *job.conditions.masks_mut()[place];
+    *mask = match random.below(5) {
+        0 => without(*mask, bits),
+        1 => with(*mask, random.word(), bits),
+        2 => with(*mask, 0, bits),
+        3 => with(*mask, bits, bits),
+        _ => with(*mask, !mask.value, bits & mask.care),
+    }
+}
+
+/// One bit, some in a row, or a field of a word or all of it, as far as that lies in so many bits.
+fn some_bits(random: &mut Random, format: Format, width: u32) -> u64 {
+    let all = ones(width);
+    match random.below(3) {
+        0 => 1 << random.below(u64::from(width)),
+        1 => {
+            let [above, below] = [0; 2].map(|_| random.below(u64::from(width)));
+            (all >> above) & (all << below)
+        }
+        _ => {
+            let [sign, fraction] = [format.sign_bit(), ones(format.fraction_bits())];
+            let fields = [sign, exponent_field(format), fraction, all];
+            all & fields[random.below(4) as usize]
+        }
+    }
+}
+
+#[cfg(test)]
+mod tests {
+    use super::*;
+    use second::fits::Conditions;
+
+    #[test]
+    fn jobs_stay_well_made() {
+        let mut random = Random::new(1);
+        for (w, f) in [(2, 2), (8, 23), (11, 52)] {
+            let conditions = Conditions::free(w, f, 0, 0);
+            let words = [0, 0];
+            let mut job = Job { conditions, words };
+            for _ in 0..2000 {
+                job = changed(&mut random, &job);
+                assert!(job.check().is_ok(), "{job:x?}");
+            }
+        }
+    }
+}
