@@ -1,11 +1,10 @@
--- Where rounding never carries into the next quotient. Where the bits that are rounded off are dropped, since nothing is or toward zero, the
--- kept part is at most the exact quotient. The longest sum and the longest difference are at most the largest significand with as many
+-- Where rounding never carries into the next quotient. Toward zero the kept part is at most the exact quotient. The longest sum and the longest difference are at most the largest significand with as many
 -- zeros below it as bits are rounded off, and rounded they are at most that significand. Assumes nothing.
 use mathlib.Core.Logic.{⊎-elim}
-use mathlib.Core.Path.{_≡_, refl, sym, _∙_, subst}
+use mathlib.Core.Path.{_≡_, refl, sym, subst}
 use mathlib.Core.Bool.{Bool, true, false}
 use Prim.Native.Nat.{ℕ, zero, suc, _+_, _-_, _*_, _/_, _^_, _≤_, _<_}
-use native.Mathlib.Nat.{div-one, mul-one, lt-of-lt-of-le}
+use native.Mathlib.Nat.{mul-one, lt-of-lt-of-le}
 use native.Mathlib.Omega.{arith}
 use lib.Ieee.{size}
 use lib.Ieee.Digits.{size-lt}
@@ -14,7 +13,7 @@ use Rattle.rounding.specs.declared.Direction.{Direction}
 use Rattle.rounding.specs.declared.Direction.the-variants.{TowardZero}
 use Rattle.word.specs.declared.Unit as exponent
 use Rattle.rounding.specs.Rounding.{roundOff}
-use Rattle.rounding.proofs.RoundOff.{round-off-none, round-off-most}
+use Rattle.rounding.proofs.RoundOff.{round-off-most}
 use Rattle.rounding.proofs.AddConstant.{round-toward-zero}
 use Rattle.rounding.specs.Width.{guardBits, alignedBits, sumBits, columnsOf, mostRounded, maskBits}
 use Rattle.rounding.specs.Outcome.{keptOf}
@@ -25,7 +24,7 @@ use Rattle.outcome.proofs.Kept.{roundedBits, addedZeros, kept-shifted, 
 use Rattle.outcome.proofs.Range.{most-digits-bounds, made-sum, made-difference}
 
 -- the low j bits dropped, and s zeros added
-cut-lt : (x j s N b : ℕ) → x < 2 ^ N → N - j + s ≤ b → x / 2 ^ j * 2 ^ s < 2 ^ b
+pub cut-lt : (x j s N b : ℕ) → x < 2 ^ N → N - j + s ≤ b → x / 2 ^ j * 2 ^ s < 2 ^ b
 cut-lt x j s N b below most =
     lt-of-lt-of-le (shl-lt {a = x / 2 ^ j} (N - j) s (shr-lt {n = x} (N - j) j (lt-of-lt-of-le below (pow-mono {i = N} {j = N - j + j} (omega arith))))) (pow-mono most)
 
@@ -70,16 +69,12 @@ module _ (f : ℕ) (A : pair.Aligned) (formed : Formed f A) (short : columnsOf f
 
 -- so none of them has the next quotient
 module _ (f : ℕ) (d : Direction) (u : exponent.Unit) (A : pair.Aligned) where
-  never-cut : (N : ℕ) → 0 < N → N ≤ sumBits f → ((x : ℕ) → roundOff d x (roundedBits f N u) ≡ x / 2 ^ roundedBits f N u) → NextQuotient f d u A N → ⊥
-  never-cut zero some most cut m = omega arith
-  never-cut (suc n) some most cut m = below-next f d (m .x) u n (m .holds .0) most (cut-below f d (m .x) u n (m .holds .0) most (cut (m .x))) (m .holds .1)
-
-  -- nothing is rounded off
-  pub never-exact : (N : ℕ) → 0 < N → N ≤ sumBits f → roundedBits f N u ≡ 0 → NextQuotient f d u A N → ⊥
-  never-exact N some most e = never-cut N some most (λ x. rw e (round-off-none d x ∙ sym (div-one x)))
-
   pub never-toward-zero : (N : ℕ) → 0 < N → N ≤ sumBits f → d ≡ TowardZero → NextQuotient f d u A N → ⊥
-  never-toward-zero N some most e = never-cut N some most (λ x. rw e (round-toward-zero x (roundedBits f N u)))
+  never-toward-zero zero some most e m = omega arith
+  never-toward-zero (suc n) some most e m =
+      below-next f d (m .x) u n (m .holds .0) most
+      (cut-below f d (m .x) u n (m .holds .0) most (rw e (round-toward-zero (m .x) (roundedBits f (suc n) u))))
+      (m .holds .1)
 
   -- a number of more digits is not made
   pub never-longest : (N : ℕ) → 0 < N → N ≤ sumBits f → N ≡ mostDigits f (A .like) → columnsOf f < 64 → Formed f A → NextQuotient f d u A N → ⊥

@@ -35,7 +35,7 @@ use Rattle.outcome.proofs.Making.{some-made, none-made, making-map, mak
 use Rattle.outcome.proofs.Range.{made-most}
 
 -- what is made has fewer bits than the chain has columns
-made-lt : (f : ℕ) (A : pair.Aligned) (n : ℕ) → Made f A n → n < 2 ^ columnsOf f
+pub made-lt : (f : ℕ) (A : pair.Aligned) (n : ℕ) → Made f A n → n < 2 ^ columnsOf f
 made-lt f A n made = lt-of-lt-of-le (size-lt n) (pow-mono {i = size n} {j = columnsOf f} (omega (arith, made-most f A n made)))
 
 module _ (f : ℕ) (d : Direction) (u : exponent.Unit) (q : ℕ) (fraction : Mask) (hc : fraction .care < 2 ^ f) (hv : fraction .value < 2 ^ f) where
@@ -150,11 +150,11 @@ module _ (f : ℕ) (d : Direction) (u : exponent.Unit) (least : ℕ) where
 
 -- the word of 0, and of any other number
 module _ (F : Format) (mode : ℕ) (like : Bool) (s : ℕ) (u : exponent.Unit) where
-  outcome-zero : (n : ℕ) → size n ≡ 0 → outcome F mode like s u n ≡ signed F (zeroSign mode like s) 0
+  pub outcome-zero : (n : ℕ) → size n ≡ 0 → outcome F mode like s u n ≡ signed F (zeroSign mode like s) 0
   unfolding outcome
   outcome-zero n e = ap (outcome F mode like s u) (size-none n .0 e)
 
-  outcome-some : (n : ℕ) → 0 < size n → outcome F mode like s u n ≡ signed F s (boundedHeld F (direction mode s) n u)
+  pub outcome-some : (n : ℕ) → 0 < size n → outcome F mode like s u n ≡ signed F s (boundedHeld F (direction mode s) n u)
   unfolding outcome
   outcome-some zero h = absurd (omega (arith, size-zero))
   outcome-some (suc n) h = refl

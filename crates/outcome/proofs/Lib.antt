@@ -8,4 +8,6 @@ pub mod Last
 pub mod Asked
 pub mod Range
 pub mod Carried
+pub mod Exact
 pub mod Counted
+pub mod BelowNormal

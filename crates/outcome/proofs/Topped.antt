@@ -1,9 +1,10 @@
 -- A mask that fixes the bits from k up as a number and leaves the low k bits to another mask: it is met exactly when the quotient is
--- that number and the remainder meets the other mask. With the quotient 1 it fixes how many digits a number has. Assumes nothing.
+-- that number and the remainder meets the other mask. With the quotient 1 it fixes how many digits a number has, with
+-- the quotient 0 how many at most. Assumes nothing.
 use mathlib.Core.Logic.{_↔_}
 use mathlib.Core.Path.{_≡_, sym, ap, _∙_, subst}
 use Prim.Native.Nat.{ℕ, suc, _+_, _-_, _*_, _/_, _%_, _^_, _<_}
-use native.Mathlib.Nat.{mod-eq-of-lt, div-lt-iff-lt-mul, le-div-iff-mul-le, pow-suc}
+use native.Mathlib.Nat.{mod-eq-of-lt, zero-mul, div-eq-of-lt, div-lt-iff-lt-mul, le-div-iff-mul-le, pow-suc}
 use native.Mathlib.Omega.{arith}
 use lib.Bits.{bitAnd, and-mask, and-zero-l, and-zero-r}
 use lib.Ieee.{size}
@@ -13,10 +14,10 @@ use Rattle.mask.specs.declared.Mask.{Mask}
 use Rattle.mask.specs.Mask.{Meets}
 use Rattle.mask.proofs.ByParts.{meets-parts}
 use Rattle.rounding.proofs.Size.{size-zero, size-between}
-use Rattle.outcome.specs.Question.{topped, OfDigits}
+use Rattle.outcome.specs.Question.{topped, OfDigits, Below}
 
 -- all bits of a number below 2^r
-and-ones : (r y : ℕ) → y < 2 ^ r → bitAnd y (2 ^ r - 1) ≡ y
+pub and-ones : (r y : ℕ) → y < 2 ^ r → bitAnd y (2 ^ r - 1) ≡ y
 and-ones r y h = and-mask y r ∙ mod-eq-of-lt h
 
 module _ (r k h x : ℕ) (m : Mask) (hc : m .care < 2 ^ k) (hv : m .value < 2 ^ k) (below : x < 2 ^ (r + k)) where
@@ -91,3 +92,17 @@ digits-some r k = record { inside = inside; meets = meets }
 -- the same for numbers that the code forms
 pub digits-of : (n count r k : ℕ) → n ≡ suc r + k → count ≡ suc k → (a b : ℕ) → a ≡ suc r → b ≡ k → OfDigits n count (topped a b 1 anything)
 digits-of n count r k en ec a b ea eb = rw (en, ec, ea, eb) (digits-some r k)
+
+-- the mask of the numbers below 2^k
+pub below-power : (n r k : ℕ) → n ≡ r + k → Below n k (topped r k 0 anything)
+below-power n r k e = rw e (record { inside = rw none (and-zero-l ((2 ^ r - 1) * 2 ^ k + 0)); meets = meets })
+  where
+    none : 0 * 2 ^ k + 0 ≡ 0
+    none = omega (arith, zero-mul (2 ^ k))
+
+    meets : (x : ℕ) → x < 2 ^ (r + k) → Meets x (topped r k 0 anything) ↔ (x < 2 ^ k)
+    meets x h =
+        let top = topped-meets r k 0 x anything (pow-pos k) (pow-pos k) h in (
+          (λ met. let q = div-lt-iff-lt-mul {k = 2 ^ k} {x = x} {y = 1} (pow-pos k) .0 (omega (arith, top .0 met .0)) in omega arith),
+          λ l. top .1 (div-eq-of-lt l, and-zero-r (x % 2 ^ k)),
+        )

@@ -1,11 +1,12 @@
 -- The parts that the question of `Admits` (`Outcome`) is taken apart into: the number of digits and the quotient above the fraction, the
--- masks that fix them and the kept part, and the word c by its exponent field and its fraction. Contracts inside this crate speak of
+-- masks that fix them and the kept part, the word c by its exponent field and its fraction, and the numbers below the smallest normal one.
+-- Contracts inside this crate speak of
 -- them. Assumes nothing.
 -- Internal: no public contract cites this.
 use mathlib.Core.Path.{_≡_}
 use mathlib.Core.Bool.{Bool, true, false, cond}
 use mathlib.Core.Logic.{_↔_}
-use Prim.Native.Nat.{ℕ, _+_, _-_, _*_, _/_, _^_, _<_}
+use Prim.Native.Nat.{ℕ, _+_, _-_, _*_, _/_, _^_, _≤_, _<_}
 use lib.Dec.{ltb}
 use lib.Ieee.{size}
 use Rattle.format.specs.declared.Format.{Format}
@@ -14,13 +15,17 @@ use Rattle.mask.specs.Mask.{Inside, Meets}
 use Rattle.word.specs.declared.Biased.{Biased}
 use Rattle.word.specs.declared.Unit as exponent
 use Rattle.rounding.specs.declared.Direction as way
+use Rattle.rounding.specs.declared.Direction.the-variants.{TowardZero}
 use Rattle.word.specs.Word.{allOnes, signed}
 use Rattle.rounding.specs.Rounding.{overflowWord}
 use Rattle.rounding.specs.Width.{alignedBits, sumBits}
-use Rattle.rounding.specs.Outcome.{keptOf}
+use Rattle.rounding.specs.Sticky.{keptPart}
+use Rattle.rounding.specs.Outcome.{keptOf, outcome}
 use Rattle.outcome.specs.declared.Aligned as pair
 use Rattle.outcome.specs.declared.sought.Fractions as fractions-of
-use Rattle.outcome.specs.Outcome.{Making}
+use Rattle.outcome.specs.declared.subnormal.Known as reply
+use Rattle.outcome.specs.declared.subnormal.Known.the-variants.{Found, AtLeast}
+use Rattle.outcome.specs.Outcome.{Made, Making, Admits}
 
 -- the mask m on the low k bits, and the number h on r bits above them
 abbrev pub topped : ℕ → ℕ → ℕ → Mask → Mask
@@ -39,10 +44,19 @@ leastQuotient f N u = cond (ltb (N + u .0) (alignedBits f)) 0 1
 abbrev pub NextQuotient : ℕ → way.Direction → exponent.Unit → pair.Aligned → ℕ → Type 0
 NextQuotient f d u A N = Making f A (λ (x : ℕ). (size x ≡ N) × (keptOf f d x u / 2 ^ f ≡ leastQuotient f N u + 1))
 
+-- rounded in the directions d and e, the numbers of N digits that they make keep the same part
+abbrev pub KeepAlike : ℕ → way.Direction → way.Direction → exponent.Unit → pair.Aligned → ℕ → Type 0
+KeepAlike f d e u A N = (x : ℕ) → Made f A x → size x ≡ N → keptOf f d x u ≡ keptOf f e x u
+
 -- m is met by exactly those numbers of n bits that have N binary digits
 pub record OfDigits (n N : ℕ) (m : Mask) : Type 0 where
   pub inside : Inside m
   pub meets : (x : ℕ) → x < 2 ^ n → Meets x m ↔ (size x ≡ N)
+
+-- m is met by exactly those numbers of n bits that are below 2^k
+pub record Below (n k : ℕ) (m : Mask) : Type 0 where
+  pub inside : Inside m
+  pub meets : (x : ℕ) → x < 2 ^ n → Meets x m ↔ (x < 2 ^ k)
 
 -- the word of the sign s, the exponent field e and the fraction t; past the largest finite number what the direction gives
 abbrev pub wordOrOverflow : Format → way.Direction → ℕ → Biased → ℕ → ℕ
@@ -53,3 +67,13 @@ pub record Seeks (F : Format) (d : way.Direction) (s : ℕ) (c : Mask) (e : Bias
   pub care-lt : r .fraction .care < 2 ^ F .f
   pub value-lt : r .fraction .value < 2 ^ F .f
   pub meets : (t : ℕ) → t < 2 ^ F .f → Meets (wordOrOverflow F d s e t) c ↔ ((r .possible ≡ true) × Meets t (r .fraction))
+
+-- the word of the sign s and a number x below the smallest normal one, where u is the exponent of its unit: what stands below a smallest step
+-- is dropped
+abbrev pub subnormalWord : Format → ℕ → exponent.Unit → ℕ → ℕ
+subnormalWord F s u x = signed F s (keptPart TowardZero x (u .0) 0)
+
+-- what is known of the numbers of k digits or more whose words meet c: one is made, or they have n digits at least
+abbrev pub Tells : Format → ℕ → ℕ → exponent.Unit → pair.Aligned → Mask → ℕ → reply.Known → Type 0
+Tells F mode s u A c k Found = Admits F mode s u A c
+Tells F mode s u A c k (AtLeast n) = (x : ℕ) → Made (F .f) A x → k ≤ size x → Meets (outcome F mode (A .like) s u x) c → n ≤ size x

@@ -27,10 +27,10 @@ ghost use Rattle.format.specs.Format.{Supported};
 ghost use Rattle.mask.specs.Mask.{Meets};
 ghost use Rattle.word.specs.declared.Unit.{Unit};
 ghost use Rattle.word.specs.Word.{signed};
-ghost use Rattle.rounding.specs.Width.{sumBits, columnsOf};
+ghost use Rattle.rounding.specs.Width.{sumBits, columnsOf, mostRounded};
 ghost use Rattle.rounding.specs.Outcome.{roundedUnit, keptOf, boundedHeld, outcome};
-ghost use Rattle.outcome.specs.Outcome.{InFormat, Formed, Making};
-ghost use Rattle.outcome.specs.Question.{leastQuotient, NextQuotient};
+ghost use Rattle.outcome.specs.Outcome.{Made, InFormat, Formed, Making};
+ghost use Rattle.outcome.specs.Question.{leastQuotient, NextQuotient, KeepAlike};
 
 // The exponent of the unit of what they make, rounded, where that has so many digits.
 fn rounded_unit(f: u64, count: u64, unit: Unit) -> Unit
@@ -46,6 +46,37 @@ fn least_quotient(f: u64, unit: Unit, count: u64) -> u64
     ensures { λ r. ⌜ r ≡ leastQuotient f count unit ⌝ }
 {
     if count + unit.0 < f + ALIGNED { 0 } else { 1 }
+}
+
+// Whether the masks fix the low j bits of both to 0: what they make has these bits 0 too.
+pub(crate) fn exact(aligned: Aligned, j: u64) -> bool
+    requires { ⌜ j ≤ mostRounded ⌝ }
+    ensures { λ r. ⌜ (r ≡ true → (f : ℕ) → (x : ℕ) → Made f aligned x → x % 2 ^ j ≡ 0) ⌝ }
+{
+    if !masks::zeros(aligned.head, j) {
+        return false;
+    }
+    masks::zeros(aligned.tail, j)
+}
+
+// The direction in which numbers of so many digits are asked about: toward zero where only zeros are rounded off, since then all directions
+// keep the same part.
+fn asked_direction(
+    f: u64,
+    direction: Direction,
+    unit: Unit,
+    aligned: Aligned,
+    count: u64,
+) -> Direction
+    requires { ⌜ (columnsOf f < 64) × (unit .0 < 2 ^ 63) × (0 < count) × (count ≤ sumBits f) ⌝ }
+    ensures { λ r. ⌜ KeepAlike f r direction unit aligned count ⌝ }
+{
+    let j = minus(rounded_unit(f, count, unit).0 + GUARD_BITS, unit.0);
+    if exact(aligned, j) {
+        Direction::TowardZero
+    } else {
+        direction
+    }
 }
 
 // Whether they make a number of so many digits whose kept part is `quotient` and below it one of the fractions.
@@ -81,10 +112,12 @@ fn rounds_to(
     )
 }
 
-// Whether they make a number of so many digits with `quotient` above the fraction, whose word meets c.
+// Whether they make a number of so many digits with `quotient` above the fraction, whose word meets c. It is asked about in the direction
+// `way`, which keeps the same part of it.
 fn at_quotient(
     format: Format,
     direction: Direction,
+    way: Direction,
     sign: u64,
     unit: Unit,
     aligned: Aligned,
@@ -92,24 +125,21 @@ fn at_quotient(
     count: u64,
     quotient: u64,
 ) -> bool
-    requires { ⌜ InFormat format sign unit × (0 < count) × (count ≤ sumBits (format .f)) × (quotient < 4) ⌝ }
+    requires { ⌜ InFormat format sign unit × (0 < count) × (count ≤ sumBits (format .f)) × (quotient < 4) × KeepAlike (format .f) way direction unit aligned count ⌝ }
     ensures { λ r. ⌜ (Formed (format .f) aligned → (r ≡ true) ↔ Making (format .f) aligned (λ (x : ℕ). (size x ≡ count) × (keptOf (format .f) direction x unit / 2 ^ format .f ≡ quotient) × Meets (signed format sign (boundedHeld format direction x unit)) c)) ⌝ }
 {
     let f = format.f;
     let exponent = field_of(rounded_unit(f, count, unit), quotient);
     let fractions = sought(format, direction, sign, c, exponent);
-    rounds_to(aligned, f, direction, unit, count, quotient, fractions)
+    rounds_to(aligned, f, way, unit, count, quotient, fractions)
 }
 
-// Whether rounding may carry into the next quotient. It never does where nothing is rounded off, nor toward zero, nor in the longest sum or
-// difference: that is at most the largest significand with zeros below it, and so is rounded to no more than this significand.
-fn may_carry(f: u64, direction: Direction, unit: Unit, aligned: Aligned, count: u64) -> bool
-    requires { ⌜ (columnsOf f < 64) × (unit .0 < 2 ^ 63) × (0 < count) × (count ≤ sumBits f) ⌝ }
-    ensures { λ r. ⌜ (r ≡ false → Formed f aligned → NextQuotient f direction unit aligned count → ⊥) ⌝ }
+// Whether rounding may carry into the next quotient. It never does toward zero, nor in the longest sum or difference: that is at most the
+// largest significand with zeros below it, and so is rounded to no more than this significand.
+fn may_carry(f: u64, direction: Direction, aligned: Aligned, count: u64) -> bool
+    requires { ⌜ (columnsOf f < 64) × (0 < count) × (count ≤ sumBits f) ⌝ }
+    ensures { λ r. ⌜ (r ≡ false → Formed f aligned → (unit : Unit) → NextQuotient f direction unit aligned count → ⊥) ⌝ }
 {
-    if rounded_unit(f, count, unit).0 + GUARD_BITS <= unit.0 {
-        return false;
-    }
     match direction {
         Direction::TowardZero => false,
         Direction::NearestEven | Direction::NearestAway | Direction::Away => {
@@ -132,13 +162,24 @@ fn at_count(
     ensures { λ r. ⌜ (Formed (format .f) aligned → (r ≡ true) ↔ Making (format .f) aligned (λ (x : ℕ). (size x ≡ count) × Meets (signed format sign (boundedHeld format direction x unit)) c)) ⌝ }
 {
     let least = least_quotient(format.f, unit, count);
-    if at_quotient(format, direction, sign, unit, aligned, c, count, least) {
+    let way = asked_direction(format.f, direction, unit, aligned, count);
+    if at_quotient(format, direction, way, sign, unit, aligned, c, count, least) {
         return true;
     }
-    if !may_carry(format.f, direction, unit, aligned, count) {
+    if !may_carry(format.f, way, aligned, count) {
         return false;
     }
-    at_quotient(format, direction, sign, unit, aligned, c, count, least + 1)
+    at_quotient(
+        format,
+        direction,
+        way,
+        sign,
+        unit,
+        aligned,
+        c,
+        count,
+        least + 1,
+    )
 }
 
 // Whether they make 0, and the word of a zero sum meets c.

@@ -6,12 +6,15 @@ use rounding::width::ALIGNED;
 use rounding::width::GUARD_BITS;
 use rounding::width::SMALL;
 use rounding::width::SUM;
+use subnormal::Known;
+use subnormal::first_count;
 use word::Unit;
 
 mod ask;
 mod digits;
 mod masks;
 mod sought;
+mod subnormal;
 
 ghost use mathlib.Core.Bool.{true};
 ghost use mathlib.Core.Logic.{_↔_};
@@ -20,7 +23,8 @@ ghost use Prim.Native.Nat.{ℕ, _^_, _≤_, _<_};
 ghost use lib.Ieee.{size};
 ghost use Rattle.mask.specs.Mask.{Meets};
 ghost use Rattle.rounding.specs.Width.{alignedBits, smallBits, columnsOf};
-ghost use Rattle.outcome.specs.Outcome.{Made, Admits, InFormat, Formed};
+ghost use Rattle.rounding.specs.Outcome.{outcome};
+ghost use Rattle.outcome.specs.Outcome.{Made, Making, Admits, InFormat, Formed};
 ghost use Rattle.outcome.specs.Question.{mostDigits};
 
 // The masks of two aligned significands and of their carries; like tells whether they are added.
@@ -48,7 +52,7 @@ fn small(m: Mask, f: u64) -> bool
 
 // A number of digits that what they make has at least: nearly all of them where the larger significand has its top bit, and the other is
 // added to it or is small.
-fn fewest(aligned: Aligned, f: u64) -> u64
+pub(crate) fn fewest(aligned: Aligned, f: u64) -> u64
     requires { ⌜ columnsOf f < 64 ⌝ }
     ensures { λ r. ⌜ ((x : ℕ) → Made f aligned x → r ≤ size x) ⌝ }
 {
@@ -72,13 +76,21 @@ pub(crate) fn most(like: bool, f: u64) -> u64
     if like { f + SUM } else { f + ALIGNED }
 }
 
-// Whether they make a number whose word meets c.
-fn some_count(format: Format, mode: u64, sign: u64, unit: Unit, aligned: Aligned, c: Mask) -> bool
+// Whether they make a number of at least so many digits whose word meets c.
+fn some_from(
+    format: Format,
+    mode: u64,
+    sign: u64,
+    unit: Unit,
+    aligned: Aligned,
+    c: Mask,
+    first: u64,
+) -> bool
     requires { ⌜ InFormat format sign unit ⌝ }
-    ensures { λ r. ⌜ (Formed (format .f) aligned → (r ≡ true) ↔ Admits format mode sign unit aligned c) ⌝ }
+    ensures { λ r. ⌜ (Formed (format .f) aligned → (r ≡ true) ↔ Making (format .f) aligned (λ (x : ℕ). (first ≤ size x) × Meets (outcome format mode (aligned .like) sign unit x) c)) ⌝ }
 {
     let last = most(aligned.like, format.f);
-    let mut count = fewest(aligned, format.f);
+    let mut count = first;
     while count <= last {
         if fits(format, mode, sign, unit, aligned, c, count) {
             return true;
@@ -86,6 +98,18 @@ fn some_count(format: Format, mode: u64, sign: u64, unit: Unit, aligned: Aligned
         count += 1;
     }
     false
+}
+
+// Whether they make a number whose word meets c.
+fn some_count(format: Format, mode: u64, sign: u64, unit: Unit, aligned: Aligned, c: Mask) -> bool
+    requires { ⌜ InFormat format sign unit ⌝ }
+    ensures { λ r. ⌜ (Formed (format .f) aligned → (r ≡ true) ↔ Admits format mode sign unit aligned c) ⌝ }
+{
+    let known = first_count(format, mode, sign, unit, aligned, c);
+    match known {
+        Known::Found => true,
+        Known::AtLeast(first) => some_from(format, mode, sign, unit, aligned, c, first),
+    }
 }
 
 // Whether two aligned significands that meet their masks make a word that meets c, for the sign of the larger one and the exponent of its

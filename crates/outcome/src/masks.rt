@@ -1,10 +1,11 @@
 // The masks that a question is made of.
 use mask::Mask;
+ghost use mathlib.Core.Bool.{true};
 ghost use mathlib.Core.Path.{_≡_};
-ghost use Prim.Native.Nat.{_+_, _^_, _≤_, _<_};
-ghost use Rattle.mask.specs.Mask.{raised};
+ghost use Prim.Native.Nat.{ℕ, _+_, _%_, _^_, _≤_, _<_};
+ghost use Rattle.mask.specs.Mask.{Meets, raised};
 ghost use Rattle.rounding.specs.Width.{mostRounded, shortBits};
-ghost use Rattle.outcome.specs.Question.{topped, OfDigits};
+ghost use Rattle.outcome.specs.Question.{topped, OfDigits, Below};
 
 // The mask moved up by d places.
 pub(crate) fn raised(m: Mask, d: u64) -> Mask
@@ -41,4 +42,25 @@ pub(crate) fn digits(n: u64, count: u64) -> Mask
     }
     let low = Mask { care: 0, value: 0 };
     topped(n + 1 - count, count - 1, 1, low)
+}
+
+// The mask of the numbers of n bits that are below 2^k.
+pub(crate) fn below(n: u64, k: u64) -> Mask
+    requires { ⌜ (n < 64) × (k ≤ n) ⌝ }
+    ensures { λ r. ⌜ Below n k r ⌝ }
+{
+    let low = Mask { care: 0, value: 0 };
+    topped(n - k, k, 0, low)
+}
+
+// Whether the mask fixes the low j bits to 0.
+pub(crate) fn zeros(m: Mask, j: u64) -> bool
+    requires { ⌜ j < 64 ⌝ }
+    ensures { λ r. ⌜ (r ≡ true → (n : ℕ) → Meets n m → n % 2 ^ j ≡ 0) ⌝ }
+{
+    let low = mask::low(m, j);
+    if low.value != 0 {
+        return false;
+    }
+    low.care == (1 << j) - 1
 }

@@ -8,7 +8,7 @@ use native.Mathlib.Decide.{ℕ-discrete}
 use native.Mathlib.Omega.{arith}
 use lib.Dec.{ltb, eqb, lit<}
 use lib.Arith.{digits-div, digits-mod}
-use lib.Pow.{pow-pos, pow-add, shr-le, shr-shr, mod-pow-add}
+use lib.Pow.{pow-pos, pow-add, split, shr-le, shr-shr, mod-pow-add}
 use Rattle.rounding.specs.declared.Direction.{Direction}
 use Rattle.rounding.specs.declared.Direction.the-variants.{NearestEven, NearestAway, TowardZero, Away}
 use Rattle.rounding.specs.Rounding.{toNearest, increment, roundOff}
@@ -69,13 +69,22 @@ round-off-none NearestAway X = rw (mod-one X, div-one X) (add-zero X)
 round-off-none TowardZero X = rw (div-one X) (add-zero X)
 round-off-none Away X = rw (mod-one X, div-one X) (add-zero X)
 
+-- only zeros are dropped
+round-off-whole : (d : Direction) (M k : ℕ) → roundOff d (M * 2 ^ k) k ≡ M
+round-off-whole d M k = ap (roundOff d (M * 2 ^ k)) (sym (zero-add k)) ∙ round-off-scale d M 0 k ∙ round-off-none d M
+
+pub round-off-exact : (d : Direction) (X k : ℕ) → X % 2 ^ k ≡ 0 → roundOff d X k ≡ X / 2 ^ k
+round-off-exact d X k e =
+    let whole : X ≡ X / 2 ^ k * 2 ^ k = omega (arith, split X k) in
+    ap (λ (n : ℕ). roundOff d n k) whole ∙ round-off-whole d (X / 2 ^ k) k
+
 -- what is at most M units of 2^k is rounded off to M at most
 pub round-off-most : (d : Direction) (X M k : ℕ) → X ≤ M * 2 ^ k → roundOff d X k ≤ M
 unfolding roundOff
 round-off-most d X M k h = go (ℕ-discrete X (M * 2 ^ k))
   where
     go : Dec (X ≡ M * 2 ^ k) → X / 2 ^ k + increment d (X / 2 ^ k) (X % 2 ^ k) (2 ^ k) ≤ M
-    go (yes e) = omega (arith, ap₂ (roundOff d) e (sym (zero-add k)) ∙ round-off-scale d M 0 k ∙ round-off-none d M)
+    go (yes e) = omega (arith, ap (λ (n : ℕ). roundOff d n k) e ∙ round-off-whole d M k)
     go (no e) =
         let q = div-lt-iff-lt-mul {k = 2 ^ k} {x = X} {y = M} (pow-pos k) .1 (omega arith) in
         omega (arith, increment-le d (X / 2 ^ k) (X % 2 ^ k) (2 ^ k))

@@ -1,97 +1,69 @@
--- `outcome::some_count` meets its contract. The invariant: no number of digits that was passed has an answer. The measure is what is left
--- of the range. Assumes nothing.
-use mathlib.Core.Path.{_≡_, refl, sym, _∙_}
-use mathlib.Core.Bool.{false≢true}
-use Prim.Native.Nat.{ℕ, _+_, _-_, _≤_, _<_}
-use native.Mathlib.Decide.{decLt}
+-- `outcome::some_count` meets its contract: the numbers that are left are asked about by their digits. Assumes nothing.
+use mathlib.Core.Logic.{_↔_}
+use mathlib.Core.Path.{_≡_, refl, subst}
+use mathlib.Core.Bool.{Bool, true}
+use Prim.Native.Nat.{ℕ, _≤_}
 use native.Mathlib.Omega.{arith}
 use lib.Ieee.{size}
+use Rattle.format.specs.declared.Format.{Format}
+use Rattle.mask.specs.declared.Mask.{Mask}
 use Rattle.mask.specs.Mask.{Meets}
+use Rattle.word.specs.declared.Unit as exponent
 use Rattle.rounding.specs.Outcome.{outcome}
-use Rattle.outcome.specs.Outcome.{Formed, Making}
-use Rattle.outcome.proofs.Room.{columns-lt}
-use Rattle.outcome.proofs.Range.{most-digits-bounds, made-digits}
+use Rattle.outcome.specs.declared.Aligned as pair
+use Rattle.outcome.specs.declared.subnormal.Known.{Known}
+use Rattle.outcome.specs.declared.subnormal.Known.the-variants.{AtLeast}
+use Rattle.outcome.specs.Outcome.{Making, Admits}
+use Rattle.outcome.specs.Question.{Tells}
+use borrow.Author.Needs.{needs}
 use Rattle.outcome.proofs.some_count.Statement.{statement}
 use Rattle.outcome.proofs.some_count.Tie as tie
 
--- below one more is below, or it
-more : (n k : ℕ) → n < k + 1 → (n < k → ⊥) → (n ≡ k → ⊥) → ⊥
-more n k h below same = go (decLt n k)
-  where
-    go : Dec (n < k) → ⊥
-    go (yes l) = below l
-    go (no l) = same (omega arith)
+-- no number of fewer digits serves
+from-least : (F : Format) (mode s : ℕ) (u : exponent.Unit) (A : pair.Aligned) (c : Mask) (n : ℕ) (r : Bool) → Tells F mode s u A c 0 (AtLeast n)
+    → ((r ≡ true) ↔ Making (F .f) A (λ (x : ℕ). (n ≤ size x) × Meets (outcome F mode (A .like) s u x) c)) → (r ≡ true) ↔ Admits F mode s u A c
+from-least F mode s u A c n r tells asks = (
+  (λ t. let m = asks .0 t in record { x = m .x; made = m .made; holds = m .holds .1 }),
+  λ m. asks .1 (record { x = m .x; made = m .made; holds = (tells (m .x) (m .made) (omega arith) (m .holds), m .holds) }),
+)
 
-abbrev Inv-loop : tie.InvT-loop
-Inv-loop format mode sign unit aligned c last count₀ count =
-    (count₀ ≤ count)
-    × ((n : ℕ) → count₀ ≤ n → n < count → Formed (format .f) aligned → Making (format .f) aligned (λ (x : ℕ). (size x ≡ n) × Meets (outcome format mode (aligned .like) sign unit x) c) → ⊥)
+first-count-requires : tie.Need-first-count-requires
+first-count-requires c κs = search needs
 
-abbrev μ-loop : tie.MeasureT-loop
-μ-loop format mode sign unit aligned c last count₀ count = last + 1 - count
+enum-told : tie.Need-enum-told
+enum-told c = search needs
 
-most-requires : tie.Need-most-requires Inv-loop μ-loop
-most-requires c κs = columns-lt (c .args .format) (c .pre .supported)
+enum-known-known : tie.Need-enum-known-known
+enum-known-known c = search needs
 
-fewest-requires : tie.Need-fewest-requires Inv-loop μ-loop
-fewest-requires c κs = columns-lt (c .before .args .format) (c .before .pre .supported)
+some-from-requires : tie.Need-some-from-requires
+some-from-requires c κs = c .before .before .before .before .pre
 
-loop-holds : tie.Need-loop-holds Inv-loop μ-loop
-loop-holds c = (omega arith, λ n l h formed m. absurd (omega arith))
-
-fits-requires : tie.Need-fits-requires Inv-loop μ-loop
-fits-requires c κs =
-    let s = c .before .before .before .before in
-    (s .pre, omega (arith, c .loop-test .taken, c .before .before .before .most .ensures, most-digits-bounds (s .args .format .f) (s .args .aligned .like) .1))
-
-returns : tie.Need-returns Inv-loop μ-loop
+returns : tie.Need-returns
 returns c =
+    let a = c .before .before .before .args in
+    let k = c .before .before .first-count in
     λ formed. (
-      (λ t. let p = c .before .fits2 .ensures formed .0 (c .if1 .taken) in record { x = p .x; made = p .made; holds = p .holds .1 }),
+      (λ t. subst (λ (r : Known). Tells (a .format) (a .mode) (a .sign) (a .unit) (a .aligned) (a .c) 0 r) (c .enum-told .given .1) (k .ensures formed)),
       λ p. refl,
     )
 
-add-count : tie.Need-add-count Inv-loop μ-loop
-add-count c =
-    let s = c .before .before .before .before .before .before in
-    omega (arith, c .before .before .loop-test .taken, c .before .before .before .before .before .most .ensures, most-digits-bounds (s .args .format .f) (s .args .aligned .like) .1, columns-lt (s .args .format) (s .pre .supported))
-
-loop-less : tie.Need-loop-less Inv-loop μ-loop
-loop-less c = omega (arith, c .before .before .loop-test .taken)
-
-loop-again : tie.Need-loop-again Inv-loop μ-loop
-loop-again c =
-    let a = c .before .before .before .before .before .before .args in
-    let l = c .before .before .before .loop in
-    let r = c .before .fits2 in (
-      omega (arith, l .inv .0),
-      λ n least h formed m. more n (l .count) h (λ below. l .inv .1 n least below formed m)
-          (λ e. false≢true (sym (c .if1 .left) ∙ r .ensures formed .1 (record { x = m .x; made = m .made; holds = (m .holds .0 ∙ e, m .holds .1) }))),
-    )
-
-returns-2 : tie.Need-returns-2 Inv-loop μ-loop
+returns-2 : tie.Need-returns-2
 returns-2 c =
-    let few = c .before .before .fewest in
-    let top = c .before .before .before .most in
-    let a = c .before .before .before .before .args in
-    λ formed. (
-      (λ t. absurd (false≢true t)),
-      λ p. absurd (c .before .loop .inv .1 (size (p .x)) (few .ensures (p .x) (p .made)) (omega (arith, top .ensures, made-digits (a .format .f) (a .aligned) (p .x) (p .made), c .loop-test .left)) formed
-          (record { x = p .x; made = p .made; holds = (refl, p .holds) })),
-    )
+    let a = c .before .before .before .before .before .args in
+    let k = c .before .before .before .before .first-count in
+    let n = c .before .before .known .given in
+    λ formed. from-least (a .format) (a .mode) (a .sign) (a .unit) (a .aligned) (a .c) (n .0 .0) (c .some-from .result)
+    (subst (λ (r : Known). Tells (a .format) (a .mode) (a .sign) (a .unit) (a .aligned) (a .c) 0 r) (n .1) (k .ensures formed))
+    (c .some-from .ensures formed)
 
 pub some-count-spec : {M : Type 1} → statement M
 some-count-spec =
     tie.close
     (tie.spec
-    Inv-loop
-    μ-loop
-    most-requires
-    fewest-requires
-    loop-holds
-    fits-requires
+    first-count-requires
+    enum-told
+    enum-known-known
+    some-from-requires
     returns
-    add-count
-    loop-less
-    loop-again
     returns-2)

@@ -8,6 +8,7 @@ use Rattle.word.specs.Word.{signed}
 use Rattle.rounding.specs.Outcome.{boundedHeld}
 use Rattle.outcome.proofs.Room.{columns-lt, unit-short}
 use Rattle.outcome.proofs.Kept.{least-le}
+use Rattle.outcome.proofs.Exact.{never-alike}
 use Rattle.outcome.proofs.Counted.{first-quotient, second-quotient, only-quotient}
 use Rattle.outcome.proofs.digits.at_count.Statement.{statement}
 use Rattle.outcome.proofs.digits.at_count.Tie as tie
@@ -18,56 +19,62 @@ least-quotient-requires c κs =
     let given = c .pre .0 in
     (columns-lt (a .format) (given .supported), unit-short (a .format) (a .sign) (a .unit) given, c .pre .2)
 
-at-quotient-requires : tie.Need-at-quotient-requires
-at-quotient-requires c κs =
+asked-direction-requires : tie.Need-asked-direction-requires
+asked-direction-requires c κs =
     let s = c .before in
     let a = s .args in
-    let q = c .least-quotient in
-    (s .pre .0, s .pre .1, s .pre .2, omega (arith, least-le (a .format .f) (a .count) (a .unit), q .ensures))
+    let given = s .pre .0 in
+    (columns-lt (a .format) (given .supported), unit-short (a .format) (a .sign) (a .unit) given, s .pre .1, s .pre .2)
+
+at-quotient-requires : tie.Need-at-quotient-requires
+at-quotient-requires c κs =
+    let s = c .before .before in
+    let a = s .args in
+    let q = c .before .least-quotient in
+    (s .pre .0, s .pre .1, s .pre .2, omega (arith, least-le (a .format .f) (a .count) (a .unit), q .ensures), c .asked-direction .ensures)
 
 returns : tie.Need-returns
 returns c =
-    let s = c .before .before .before in
+    let s = c .before .before .before .before in
     let a = s .args in
-    let q = c .before .before .least-quotient in
+    let q = c .before .before .before .least-quotient in
     λ formed. first-quotient (a .format .f) (a .direction) (a .unit) (q .result) (a .aligned) (a .count) (λ (n : ℕ). Meets (signed (a .format) (a .sign) (boundedHeld (a .format) (a .direction) n (a .unit))) (a .c))
     (s .pre .1) (s .pre .2) (q .ensures) (c .before .at-quotient .result) (c .before .at-quotient .ensures formed) (c .if1 .taken)
 
 may-carry-requires : tie.Need-may-carry-requires
 may-carry-requires c κs =
-    let s = c .before .before .before in
-    let a = s .args in
-    let given = s .pre .0 in
-    (columns-lt (a .format) (given .supported), unit-short (a .format) (a .sign) (a .unit) given, s .pre .1, s .pre .2)
+    let s = c .before .before .before .before in
+    (columns-lt (s .args .format) (s .pre .0 .supported), s .pre .1, s .pre .2)
 
 returns-2 : tie.Need-returns-2
 returns-2 c =
-    let s = c .before .before .before .before .before in
+    let s = c .before .before .before .before .before .before in
     let a = s .args in
-    let q = c .before .before .before .before .least-quotient in
+    let q = c .before .before .before .before .before .least-quotient in
+    let way = c .before .before .before .before .asked-direction in
     let m = c .before .may-carry in
     λ formed. only-quotient (a .format .f) (a .direction) (a .unit) (q .result) (a .aligned) (a .count) (λ (n : ℕ). Meets (signed (a .format) (a .sign) (boundedHeld (a .format) (a .direction) n (a .unit))) (a .c))
     (s .pre .1) (s .pre .2) (q .ensures) (c .before .before .before .at-quotient .result) (c .before .before .before .at-quotient .ensures formed) (c .before .before .if1 .left)
-    (m .ensures (not-true (m .result) (c .if2 .taken)) formed)
+    (never-alike (a .format .f) (way .result) (a .direction) (a .unit) (a .aligned) (a .count) (way .ensures) (m .ensures (not-true (m .result) (c .if2 .taken)) formed (a .unit)))
 
 add-at-quotient : tie.Need-add-at-quotient
 add-at-quotient c =
-    let a = c .before .before .before .before .before .args in
-    let q = c .before .before .before .before .least-quotient in
+    let a = c .before .before .before .before .before .before .args in
+    let q = c .before .before .before .before .before .least-quotient in
     omega (arith, least-le (a .format .f) (a .count) (a .unit), q .ensures)
 
 at-quotient-requires-2 : tie.Need-at-quotient-requires-2
 at-quotient-requires-2 c κs =
-    let s = c .before .before .before .before .before in
-    let a = s .args in
-    let q = c .before .before .before .before .least-quotient in
-    (s .pre .0, s .pre .1, s .pre .2, omega (arith, least-le (a .format .f) (a .count) (a .unit), q .ensures))
-
-returns-3 : tie.Need-returns-3
-returns-3 c =
     let s = c .before .before .before .before .before .before in
     let a = s .args in
     let q = c .before .before .before .before .before .least-quotient in
+    (s .pre .0, s .pre .1, s .pre .2, omega (arith, least-le (a .format .f) (a .count) (a .unit), q .ensures), c .before .before .before .before .asked-direction .ensures)
+
+returns-3 : tie.Need-returns-3
+returns-3 c =
+    let s = c .before .before .before .before .before .before .before in
+    let a = s .args in
+    let q = c .before .before .before .before .before .before .least-quotient in
     λ formed. second-quotient (a .format .f) (a .direction) (a .unit) (q .result) (a .aligned) (a .count) (λ (n : ℕ). Meets (signed (a .format) (a .sign) (boundedHeld (a .format) (a .direction) n (a .unit))) (a .c))
     (s .pre .1) (s .pre .2) (q .ensures) (c .before .before .before .before .at-quotient .result) (c .before .before .before .before .at-quotient .ensures formed) (c .before .before .before .if1 .left)
     (c .at-quotient2 .result) (c .at-quotient2 .ensures formed)
@@ -77,6 +84,7 @@ at-count-spec =
     tie.close
     (tie.spec
     least-quotient-requires
+    asked-direction-requires
     at-quotient-requires
     returns
     may-carry-requires

@@ -1,5 +1,5 @@
--- `outcome::digits::at_quotient` meets its contract: the unit of the rounded number and the quotient make the exponent field.
--- Assumes nothing.
+-- `outcome::digits::at_quotient` meets its contract: the unit of the rounded number and the quotient make the exponent field, and
+-- the question is put in a direction that keeps the same part. Assumes nothing.
 use mathlib.Core.Path.{_≡_, ap, _∙_}
 use Prim.Native.Nat.{ℕ, _+_, _%_, _^_, _≤_, _<_}
 use native.Mathlib.Nat.{mod-eq-of-lt}
@@ -12,6 +12,7 @@ use Rattle.rounding.specs.Width.{sumBits}
 use Rattle.rounding.specs.Outcome.{roundedUnit}
 use Rattle.outcome.specs.Outcome.{InFormat}
 use Rattle.outcome.proofs.Room.{columns-lt, unit-short}
+use Rattle.outcome.proofs.Exact.{alike-asked}
 use Rattle.outcome.proofs.Counted.{quotient-asked}
 use borrow.Author.Needs.{needs}
 use Rattle.outcome.proofs.digits.at_quotient.Statement.{statement}
@@ -54,7 +55,9 @@ returns c =
     let e = c .before .before .field-of in
     let k = c .before .before .before .rounded-unit in
     λ formed. quotient-asked (a .format) (a .direction) (a .sign) (a .unit) (a .aligned) (a .c) (a .count) (a .quotient) (e .result) (so .result) (c .rounds-to .result)
-    (field (a .format) (a .sign) (a .unit) (s .pre .0) (a .count) (a .quotient) (s .pre .2) (s .pre .3) (k .result) (e .result) (k .ensures) (e .ensures)) (so .ensures) (c .rounds-to .ensures formed)
+    (field (a .format) (a .sign) (a .unit) (s .pre .0) (a .count) (a .quotient) (s .pre .2) (s .pre .3) (k .result) (e .result) (k .ensures) (e .ensures)) (so .ensures)
+    (alike-asked (a .format .f) (a .way) (a .direction) (a .unit) (a .aligned) (a .count) (s .pre .4)
+    (a .quotient) (so .result .possible) (so .result .fraction) (c .rounds-to .result) (c .rounds-to .ensures formed))
 
 pub at-quotient-spec : {M : Type 1} → statement M
 at-quotient-spec =

@@ -1,0 +1,174 @@
+-- Numbers of at most `small` digits, below the smallest normal number: small and the exponent u of the unit make f and the guard bits. Where
+-- the bits below a smallest step are 0 they are exact, and their word is the sign and what they keep. So one question serves for all of them,
+-- but for 0, whose word has a sign of its own. Assumes nothing.
+use mathlib.Core.Logic.{_↔_}
+use mathlib.Core.Path.{_≡_, refl, sym, ap, ap₂, _∙_, subst}
+use mathlib.Core.Bool.{Bool, true, false, false≢true}
+use Prim.Native.Nat.{ℕ, zero, suc, _+_, _-_, _*_, _/_, _%_, _^_, _≤_, _<_}
+use native.Mathlib.Nat.{mod-eq-of-lt, div-eq-of-lt, zero-div, zero-mul, lt-of-lt-of-le}
+use native.Mathlib.Decide.{decLt}
+use native.Mathlib.Omega.{arith}
+use borrow.Author.Tests.{lt-ltb}
+use lib.Bits.{and-zero-l}
+use lib.Ieee.{size}
+use lib.Ieee.Digits.{size-lt, size-le}
+use lib.Pow.{pow-pos, pow-mono}
+use Rattle.format.specs.declared.Format.{Format}
+use Rattle.format.specs.Format.{Supported}
+use Rattle.mask.specs.declared.Mask.{Mask}
+use Rattle.mask.specs.Mask.{Meets, high}
+use Rattle.word.specs.declared.Biased.{Biased}
+use Rattle.word.specs.declared.Unit as exponent
+use Rattle.word.specs.Word.{allOnes, signed}
+use Rattle.rounding.specs.declared.Direction.{Direction}
+use Rattle.rounding.specs.declared.Direction.the-variants.{TowardZero}
+use Rattle.rounding.specs.Rounding.{roundOff, direction}
+use Rattle.rounding.specs.Sticky.{keptPart}
+use Rattle.rounding.specs.Width.{guardBits, columnsOf}
+use Rattle.rounding.specs.Outcome.{roundedUnit, keptOf, boundedHeld, zeroSign, outcome}
+use Rattle.rounding.proofs.RoundOff.{round-off-exact}
+use Rattle.rounding.proofs.AddConstant.{round-toward-zero}
+use Rattle.outcome.specs.declared.Aligned as pair
+use Rattle.outcome.specs.declared.sought.Fractions as fractions-of
+use Rattle.outcome.specs.Outcome.{Made, Making, Admits}
+use Rattle.outcome.specs.Question.{Below, wordOrOverflow, Seeks, subnormalWord}
+use Rattle.outcome.proofs.Topped.{size-none}
+use Rattle.outcome.proofs.Kept.{kept-scaled}
+use Rattle.outcome.proofs.Fields.{held-word, within-meets}
+use Rattle.outcome.proofs.Rounds.{zeros-meets}
+use Rattle.outcome.proofs.Making.{none-made, making-answer}
+use Rattle.outcome.proofs.Carried.{cut-lt}
+use Rattle.outcome.proofs.Counted.{made-lt, outcome-zero, outcome-some}
+
+-- what is kept
+module _ (u : exponent.Unit) where
+  kept-low : (d : Direction) (x : ℕ) → keptPart d x (u .0) 0 ≡ roundOff d x (guardBits - u .0) * 2 ^ (u .0 - guardBits)
+  kept-low d x = kept-scaled d x (u .0) 0 (omega arith)
+
+  kept-zero : keptPart TowardZero 0 (u .0) 0 ≡ 0
+  kept-zero =
+      kept-low TowardZero 0 ∙ ap (λ (k : ℕ). k * 2 ^ (u .0 - guardBits)) (round-toward-zero 0 (guardBits - u .0) ∙ zero-div (2 ^ (guardBits - u .0)))
+      ∙ zero-mul (2 ^ (u .0 - guardBits))
+
+  module _ (f small : ℕ) (place : small + u .0 ≡ f + guardBits) where
+    low-lt : (x : ℕ) → x < 2 ^ small → keptPart TowardZero x (u .0) 0 < 2 ^ f
+    low-lt x h =
+        rw (kept-low TowardZero x, round-toward-zero x (guardBits - u .0))
+        (cut-lt x (guardBits - u .0) (u .0 - guardBits) small f h (omega arith))
+
+    unit-none : (x : ℕ) → size x ≤ small → roundedUnit f (size x) u .0 ≡ 0
+    unit-none x h = omega arith
+
+    exact-kept : (d : Direction) (x : ℕ) → size x ≤ small → x % 2 ^ (guardBits - u .0) ≡ 0 → keptOf f d x u ≡ keptPart TowardZero x (u .0) 0
+    exact-kept d x h e =
+        ap (keptPart d x (u .0)) (unit-none x h) ∙ kept-low d x
+        ∙ ap (λ (k : ℕ). k * 2 ^ (u .0 - guardBits)) (round-off-exact d x (guardBits - u .0) e ∙ sym (round-toward-zero x (guardBits - u .0)))
+        ∙ sym (kept-low TowardZero x)
+
+-- the exponent field 0
+abbrev zeroField : Biased
+zeroField = record { 0 = 0 }
+
+module _ (F : Format) (ok : Supported F) (s : ℕ) (u : exponent.Unit) where
+  some-field : 0 < allOnes F
+  some-field = omega (arith, pow-mono {i = 1} {j = F .w} (omega (arith, ok .w-least)))
+
+  plain-word : (d : Direction) (t : ℕ) → wordOrOverflow F d s zeroField t ≡ signed F s t
+  plain-word d t = rw (lt-ltb 0 (allOnes F) some-field) (omega (arith, zero-mul (2 ^ F .f)))
+
+  zero-plain : subnormalWord F s u 0 ≡ signed F s 0
+  zero-plain = ap (signed F s) (kept-zero u)
+
+  -- a mask that 0 meets wants no bit in the fraction
+  zero-fraction : (c : Mask) → Meets (signed F s 0) c → c .value % 2 ^ F .f ≡ 0
+  zero-fraction c met =
+      sym (within-meets F TowardZero s zeroField 0 c some-field (pow-pos (F .f)) .0 (rw (plain-word TowardZero 0) met) .1) ∙ and-zero-l (c .care % 2 ^ F .f)
+
+  module _ (small : ℕ) (place : small + u .0 ≡ F .f + guardBits) where
+    exact-word : (d : Direction) (x : ℕ) → size x ≤ small → x % 2 ^ (guardBits - u .0) ≡ 0 → signed F s (boundedHeld F d x u) ≡ subnormalWord F s u x
+    exact-word d x h e =
+        held-word F d s x u
+        ∙ ap₂ (wordOrOverflow F d s) (ap of (ap₂ _+_ (unit-none u (F .f) small place x h) (ap (λ (k : ℕ). k / 2 ^ F .f) kept ∙ div-eq-of-lt below))) (ap (λ (k : ℕ). k % 2 ^ F .f) kept ∙ mod-eq-of-lt below)
+        ∙ plain-word d (keptPart TowardZero x (u .0) 0)
+      where
+        of : ℕ → Biased
+        of n = record { 0 = n }
+
+        kept : keptOf (F .f) d x u ≡ keptPart TowardZero x (u .0) 0
+        kept = exact-kept u (F .f) small place d x h e
+
+        below : keptPart TowardZero x (u .0) 0 < 2 ^ F .f
+        below = low-lt u (F .f) small place x (lt-of-lt-of-le (size-lt x) (pow-mono {i = size x} {j = small} h))
+
+    -- the question
+    module _ (c : Mask) (so : fractions-of.Fractions) (seeks : Seeks F TowardZero s c zeroField so) where
+      low-meets : (n : ℕ) → n < 2 ^ small
+          → Meets (subnormalWord F s u n) c
+          ↔ ((so .possible ≡ true) × (so .fraction .value % 2 ^ (u .0 - guardBits) ≡ 0) × Meets (roundOff TowardZero n (guardBits - u .0)) (high (u .0 - guardBits) (so .fraction)))
+      low-meets n h =
+          let fields = rw (plain-word TowardZero (keptPart TowardZero n (u .0) 0)) at (seeks .meets (keptPart TowardZero n (u .0) 0) (low-lt u (F .f) small place n h)) in
+          let zeros = zeros-meets (u .0 - guardBits) (roundOff TowardZero n (guardBits - u .0)) (so .fraction) in
+          let e = kept-low u TowardZero n in (
+            (λ met. let p = fields .0 met in let q = zeros .0 (subst (λ (k : ℕ). Meets k (so .fraction)) e (p .1)) in (p .0, q .0, q .1)),
+            λ p. fields .1 (p .0, subst (λ (k : ℕ). Meets k (so .fraction)) (sym e) (zeros .1 (p .1, p .2))),
+          )
+
+      module _ (A : pair.Aligned) where
+        pub subnormal-asked : (up down : ℕ) (x y : Mask) (r : Bool) → so .possible ≡ true → up ≡ u .0 - guardBits → down ≡ guardBits - u .0
+            → so .fraction .value % 2 ^ up ≡ 0 → Below (columnsOf (F .f)) small x → y ≡ high up (so .fraction)
+            → ((r ≡ true) ↔ Making (F .f) A (λ (n : ℕ). Meets n x × Meets (roundOff TowardZero n down) y))
+            → (r ≡ true) ↔ Making (F .f) A (λ (n : ℕ). (n < 2 ^ small) × Meets (subnormalWord F s u n) c)
+        subnormal-asked up down x y r able eup edown zeros below ey asks =
+            making-answer (F .f) A (λ (n : ℕ). Meets n x × Meets (roundOff TowardZero n down) y) (λ (n : ℕ). (n < 2 ^ small) × Meets (subnormalWord F s u n) c) r
+            (λ n made.
+            let b = below .meets n (made-lt (F .f) A n made) in (
+              (λ p. let l = b .0 (p .0) in (l, low-meets n l .1 (able, subst (λ (k : ℕ). so .fraction .value % 2 ^ k ≡ 0) eup zeros, rw (edown, mask) at (p .1)))),
+              λ p. (b .1 (p .0), rw (edown, mask) (low-meets n (p .0) .0 (p .1) .2)),
+            ))
+            asks
+          where
+            mask : y ≡ high (u .0 - guardBits) (so .fraction)
+            mask = ey ∙ ap (λ (k : ℕ). high k (so .fraction)) eup
+
+        pub subnormal-refused : ((so .possible ≡ true) × (so .fraction .value % 2 ^ (u .0 - guardBits) ≡ 0) → ⊥)
+            → (false ≡ true) ↔ Making (F .f) A (λ (n : ℕ). (n < 2 ^ small) × Meets (subnormalWord F s u n) c)
+        subnormal-refused never =
+            none-made (F .f) A (λ (n : ℕ). (n < 2 ^ small) × Meets (subnormalWord F s u n) c)
+            (λ m. let p = low-meets (m .x) (m .holds .0) .0 (m .holds .1) in never (p .0, p .1))
+
+    -- the answer, where what they make is exact
+    module _ (mode : ℕ) (A : pair.Aligned) (c : Mask) (zeros : (x : ℕ) → Made (F .f) A x → x % 2 ^ (guardBits - u .0) ≡ 0) (r : Bool)
+        (asks : (r ≡ true) ↔ Making (F .f) A (λ (n : ℕ). (n < 2 ^ small) × Meets (subnormalWord F s u n) c)) where
+      exact-outcome : (x : ℕ) → Made (F .f) A x → 0 < size x → size x ≤ small → outcome F mode (A .like) s u x ≡ subnormalWord F s u x
+      exact-outcome x made some h = outcome-some F mode (A .like) s u x some ∙ exact-word (direction mode s) x h (zeros x made)
+
+      pub none-subnormal : r ≡ false → (x : ℕ) → Made (F .f) A x → 1 ≤ size x → Meets (outcome F mode (A .like) s u x) c → small + 1 ≤ size x
+      none-subnormal e x made some met = go (decLt small (size x))
+        where
+          go : Dec (small < size x) → small + 1 ≤ size x
+          go (yes h) = omega arith
+          go (no h) =
+              let l : size x ≤ small = omega arith in
+              absurd (false≢true (sym e ∙ asks .1 (record {
+                x = x;
+                made = made;
+                holds = (lt-of-lt-of-le (size-lt x) (pow-mono {i = size x} {j = small} l), subst (λ (w : ℕ). Meets w c) (exact-outcome x made (omega arith) l) met);
+              })))
+
+      -- what is found may be 0
+      found : r ≡ true → (Meets (signed F s 0) c → Meets (signed F (zeroSign mode (A .like) s) 0) c) → Admits F mode s u A c
+      found e zeroth =
+          let m = asks .0 e in
+          record { x = m .x; made = m .made; holds = go (m .x) (m .made) (m .holds .0) (m .holds .1) (size (m .x)) refl }
+        where
+          go : (x : ℕ) → Made (F .f) A x → x < 2 ^ small → Meets (subnormalWord F s u x) c → (n : ℕ) → size x ≡ n → Meets (outcome F mode (A .like) s u x) c
+          go x made h met zero es =
+              rw (outcome-zero F mode (A .like) s u x es)
+              (zeroth (subst (λ (w : ℕ). Meets w c) (ap (subnormalWord F s u) (size-none x .0 es) ∙ zero-plain) met))
+          go x made h met (suc n) es = rw (exact-outcome x made (omega arith) (size-le x small h)) met
+
+      pub found-like : r ≡ true → A .like ≡ true → Admits F mode s u A c
+      found-like e like = found e (λ met. rw like met)
+
+      pub found-fraction : r ≡ true → (c .value % 2 ^ F .f ≡ 0 → ⊥) → Admits F mode s u A c
+      found-fraction e some = found e (λ met. absurd (some (zero-fraction c met)))

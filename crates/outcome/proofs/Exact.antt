@@ -1,0 +1,78 @@
+-- Where both significands have 0 in each bit that is rounded off, so does what they make, and every direction keeps the same part of it: a
+-- question may be put in another direction. Assumes nothing.
+use mathlib.Core.Logic.{_↔_}
+use mathlib.Core.Path.{_≡_, sym, ap, ap₂, _∙_, subst}
+use mathlib.Core.Bool.{Bool, true, false, not}
+use Prim.Native.Nat.{ℕ, zero, suc, _+_, _-_, _*_, _/_, _%_, _^_, _≤_, _<_}
+use native.Mathlib.Nat.{mod-lt, mul-comm, mul-add, mul-sub, mul-mod-right}
+use native.Mathlib.Omega.{arith}
+use lib.Bits.{bitAnd}
+use lib.Ieee.{size}
+use lib.Pow.{pow-pos, split}
+use Rattle.mask.specs.declared.Mask.{Mask}
+use Rattle.mask.specs.Mask.{Meets, low}
+use Rattle.mask.proofs.ByParts.{meets-parts}
+use Rattle.columns.specs.Carry.{combined}
+use Rattle.word.specs.declared.Unit as exponent
+use Rattle.rounding.specs.declared.Direction.{Direction}
+use Rattle.rounding.proofs.RoundOff.{round-off-exact}
+use Rattle.rounding.specs.Width.{sumBits}
+use Rattle.rounding.specs.Outcome.{keptOf}
+use Rattle.outcome.specs.declared.Aligned as pair
+use Rattle.outcome.specs.Outcome.{Made, Making}
+use Rattle.outcome.specs.Question.{NextQuotient, KeepAlike}
+use Rattle.outcome.proofs.Topped.{and-ones}
+use Rattle.outcome.proofs.Kept.{roundedBits, addedZeros, kept-shifted}
+use Rattle.outcome.proofs.Making.{making-answer}
+
+-- a mask that fixes the low j bits to 0
+pub zeros-meets-low : (j : ℕ) (m l : Mask) → l ≡ low j m → l .value ≡ 0 → l .care ≡ 2 ^ j - 1 → (n : ℕ) → Meets n m → n % 2 ^ j ≡ 0
+zeros-meets-low j m l e v c n met =
+    sym (and-ones j (n % 2 ^ j) (mod-lt n (pow-pos j))) ∙ ap (bitAnd (n % 2 ^ j)) (sym c ∙ ap (λ (k : Mask). k .care) e) ∙ meets-parts j n m .0 met .0
+    ∙ sym (ap (λ (k : Mask). k .value) e) ∙ v
+
+-- what is made of two multiples of 2^j is one
+factor : (n j : ℕ) → n % 2 ^ j ≡ 0 → n ≡ 2 ^ j * (n / 2 ^ j)
+factor n j e = omega (arith, split n j, mul-comm (n / 2 ^ j) (2 ^ j))
+
+combined-zeros : (subtract : Bool) (l t j : ℕ) → l % 2 ^ j ≡ 0 → t % 2 ^ j ≡ 0 → combined subtract l t % 2 ^ j ≡ 0
+combined-zeros true l t j hl ht =
+    ap (λ (n : ℕ). n % 2 ^ j) (ap₂ _-_ (factor l j hl) (factor t j ht) ∙ sym (mul-sub (2 ^ j) (l / 2 ^ j) (t / 2 ^ j)))
+    ∙ mul-mod-right (2 ^ j) (l / 2 ^ j - t / 2 ^ j)
+combined-zeros false l t j hl ht =
+    ap (λ (n : ℕ). n % 2 ^ j) (ap₂ _+_ (factor l j hl) (factor t j ht) ∙ sym (mul-add (2 ^ j) (l / 2 ^ j) (t / 2 ^ j)))
+    ∙ mul-mod-right (2 ^ j) (l / 2 ^ j + t / 2 ^ j)
+
+pub made-zeros : (A : pair.Aligned) (j : ℕ) → ((n : ℕ) → Meets n (A .head) → n % 2 ^ j ≡ 0) → ((n : ℕ) → Meets n (A .tail) → n % 2 ^ j ≡ 0)
+    → (f : ℕ) → (x : ℕ) → Made f A x → x % 2 ^ j ≡ 0
+made-zeros A j head tail f x made =
+    subst (λ (n : ℕ). n % 2 ^ j ≡ 0) (made .makes)
+    (combined-zeros (not (A .like)) (made .H) (made .T) j (head (made .H) (made .head-meets)) (tail (made .T) (made .tail-meets)))
+
+-- then all directions keep the same part
+pub exact-alike : (f : ℕ) (d e : Direction) (u : exponent.Unit) (A : pair.Aligned) (N : ℕ) → 0 < N → N ≤ sumBits f
+    → ((x : ℕ) → Made f A x → x % 2 ^ roundedBits f N u ≡ 0) → KeepAlike f d e u A N
+exact-alike f d e u A zero some most zeros = absurd (omega arith)
+exact-alike f d e u A (suc n) some most zeros = λ x made digits.
+    let whole = zeros x made in
+    kept-shifted f d x u n digits most
+    ∙ ap (λ (k : ℕ). k * 2 ^ addedZeros f (suc n) u) (round-off-exact d x (roundedBits f (suc n) u) whole ∙ sym (round-off-exact e x (roundedBits f (suc n) u) whole))
+    ∙ sym (kept-shifted f e x u n digits most)
+
+-- a question on the part that is kept, put in a direction that keeps the same
+module _ (f : ℕ) (d e : Direction) (u : exponent.Unit) (A : pair.Aligned) (N : ℕ) (alike : KeepAlike f d e u A N) where
+  pub alike-asked : (q : ℕ) (possible : Bool) (fraction : Mask) (r : Bool)
+      → ((r ≡ true) ↔ Making f A (λ (x : ℕ). (size x ≡ N) × (keptOf f d x u / 2 ^ f ≡ q) × (possible ≡ true) × Meets (keptOf f d x u % 2 ^ f) fraction))
+      → (r ≡ true) ↔ Making f A (λ (x : ℕ). (size x ≡ N) × (keptOf f e x u / 2 ^ f ≡ q) × (possible ≡ true) × Meets (keptOf f e x u % 2 ^ f) fraction)
+  alike-asked q possible fraction r asks =
+      making-answer f A (λ (x : ℕ). (size x ≡ N) × (keptOf f d x u / 2 ^ f ≡ q) × (possible ≡ true) × Meets (keptOf f d x u % 2 ^ f) fraction)
+      (λ (x : ℕ). (size x ≡ N) × (keptOf f e x u / 2 ^ f ≡ q) × (possible ≡ true) × Meets (keptOf f e x u % 2 ^ f) fraction) r
+      (λ x made. (
+        (λ p. (p .0, rw (alike x made (p .0)) at (p .1), p .2, rw (alike x made (p .0)) at (p .3))),
+        λ p. (p .0, rw (alike x made (p .0)) (p .1), p .2, rw (alike x made (p .0)) (p .3)),
+      ))
+      asks
+
+  pub never-alike : (NextQuotient f d u A N → ⊥) → NextQuotient f e u A N → ⊥
+  never-alike never m =
+      never (record { x = m .x; made = m .made; holds = (m .holds .0, ap (λ (k : ℕ). k / 2 ^ f) (alike (m .x) (m .made) (m .holds .0)) ∙ m .holds .1) })
