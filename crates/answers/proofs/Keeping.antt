@@ -81,7 +81,7 @@ place-unique f k n hk hn e = ap₂ (λ (o l : ℕ). record { order = o; low = fi
     go (suc zero) (suc (suc p)) ho hp is = absurd (omega arith)
 
 -- every format has room for its classes, and behind them for the two orders
-pub table-room : (F : Format) → Supported F → classPlaces (F .f) + 2 ≤ places
+table-room : (F : Format) → Supported F → classPlaces (F .f) + 2 ≤ places
 table-room F ok = omega (arith, significand-room F ok)
 
 -- the classes of an order have a bit each
@@ -171,7 +171,7 @@ pair-never j p fin valid classed none P =
     let r = class-reached j valid (p .order) (p .larger) (p .smaller) (fin .finite) (fin .by-size .ordered) P classed in
     none (r .field) (r .least) (r .meets) (r .most) (r .holds)
 
-pub pair-closed : (j : Job) (p : Fields) → FiniteFields (j .setting .format) p → Valid j → Classed (j .setting .format) (j .c .mask) (p .larger) (p .smaller)
+pair-closed : (j : Job) (p : Fields) → FiniteFields (j .setting .format) p → Valid j → Classed (j .setting .format) (j .c .mask) (p .larger) (p .smaller)
     → Closed j (classOf (j .setting .format .f) p) → InOrder (PairFits j) (p .order) (p .larger) (p .smaller) → ⊥
 pair-closed j p fin valid classed never = pair-never j p fin valid classed (λ i least met. closed-never j (classOf (j .setting .format .f) p) valid (classed .wide) never i)
 

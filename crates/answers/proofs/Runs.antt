@@ -9,12 +9,12 @@ use Rattle.classes.specs.Class.{farGap, lowerField}
 use Rattle.answers.specs.Kept.{closedBit}
 
 -- below a's field E, which is above the far gap: those with a far gap share the bit 1, and after them each has the next bit
-pub bit-below : (f E e : ℕ) → farGap f ≤ E → 1 ≤ e → e ≤ E → (E ≤ e + farGap f → closedBit f 0 (lowerField f (E - 1 - (e - 1)) e .0) ≡ e + farGap f + 1 - E) × (e + farGap f ≤ E → closedBit f 0 (lowerField f (E - 1 - (e - 1)) e .0) ≡ 1)
+bit-below : (f E e : ℕ) → farGap f ≤ E → 1 ≤ e → e ≤ E → (E ≤ e + farGap f → closedBit f 0 (lowerField f (E - 1 - (e - 1)) e .0) ≡ e + farGap f + 1 - E) × (e + farGap f ≤ E → closedBit f 0 (lowerField f (E - 1 - (e - 1)) e .0) ≡ 1)
 bit-below f E zero h some le = absurd (omega arith)
 bit-below f E (suc e) h some le = (λ l. omega arith, λ l. omega arith)
 
 -- above a's field e: each has its gap as its bit, and those with a far gap share that one
-pub bit-over : (f E e : ℕ) → 1 ≤ e → e < E → (E ≤ e + farGap f → closedBit f 1 (lowerField f (E - 1 - (e - 1)) e .0) ≡ E - e) × (e + farGap f ≤ E → closedBit f 1 (lowerField f (E - 1 - (e - 1)) e .0) ≡ farGap f)
+bit-over : (f E e : ℕ) → 1 ≤ e → e < E → (E ≤ e + farGap f → closedBit f 1 (lowerField f (E - 1 - (e - 1)) e .0) ≡ E - e) × (e + farGap f ≤ E → closedBit f 1 (lowerField f (E - 1 - (e - 1)) e .0) ≡ farGap f)
 bit-over f E zero some lt = absurd (omega arith)
 bit-over f E (suc e) some lt = (λ l. omega arith, λ l. omega arith)
 

@@ -45,8 +45,7 @@ Refuses j k word = (i : Biased) → bit word (i .0) ≡ 1 → Never j k i
 abbrev pub Closed : Job → Class → Type 0
 Closed j k = ClassAdmits j k anyField → ⊥
 
--- the place of the closed classes of an order, and the bit of one there: as b's exponent field goes up, its pairs with one of a have bits that
--- go up
+-- the place of an order's closed classes, and the bit of a class there: the bits go up with b's exponent field
 abbrev pub closedPlace : ℕ → ℕ → ℕ
 closedPlace f o = classPlaces f + o
 
@@ -54,7 +53,7 @@ abbrev pub closedBit : ℕ → ℕ → ℕ → ℕ
 closedBit f zero low = low
 closedBit f (suc o) low = topField f .0 - low
 
--- each word of the table is an answer, of a class or of those of an order
+-- each word of the table is an answer, of a class or of the classes of an order
 pub record Kept (j : Job) (table : List ℕ) : Type 0 where
   pub size : length table ≡ places
   pub answers : (k : Class) → ClassIn (j .setting .format .f) k → Refuses j k (getD table (placeOf (j .setting .format .f) k) 0)

@@ -1,4 +1,4 @@
-// What is known of a class of pairs: the exponent fields of c that it refuses, a bit for each.
+// What is known of a class of pairs: the exponent fields of c that it refuses, a bit for each, and whether it admits nothing at all.
 use crate::PLACES;
 use bits::bit_at;
 use bits::minus;
@@ -185,8 +185,8 @@ pub(crate) fn class_may(job: Job, class: Class, unit: Unit, table: &mut [u64; PL
 {
     let f = job.setting.format.f;
     let bit = closed_bit(f, class);
-    let order = closed_place(f, class.order) as usize;
-    if bit_at(table[order], bit) == 1 {
+    let closed = closed_place(f, class.order) as usize;
+    if bit_at(table[closed], bit) == 1 {
         return false;
     }
     if !askable(job.setting.format, unit) {
@@ -195,7 +195,7 @@ pub(crate) fn class_may(job: Job, class: Class, unit: Unit, table: &mut [u64; PL
     let at = place_of(f, class) as usize;
     let asked = opened(job, class, table[at]);
     if !asked.possible {
-        table[order] = table[order] | (1 << bit);
+        table[closed] = table[closed] | (1 << bit);
         return false;
     }
     let found = try_fields(job, class, unit, asked.refused);

@@ -23,7 +23,7 @@ fn run_from(word: u64, i: u64) -> u64
     u64::trailing_zeros((word >> i) + 1) as u64
 }
 
-// From eb on, which is no larger than ea, the first field whose class is not among the closed ones, or the one after ea.
+// From eb on, which is no larger than ea, a field such that those passed over are no larger than ea and have closed classes.
 fn open_below(f: u64, ea: Biased, eb: Biased, closed: u64) -> Biased
     requires { ⌜ (f < 59) × (farGap f < ea .0) × (ea .0 + 1 < 2 ^ 64) × (eb .0 ≤ ea .0) ⌝ }
     ensures { λ r. ⌜ (eb .0 ≤ r .0) × ((d : Biased) → eb .0 ≤ d .0 → d .0 < r .0 → (d .0 ≤ ea .0) × (bit closed (closedBit f 0 (lowField f ea d .0)) ≡ 1)) ⌝ }
@@ -43,7 +43,7 @@ fn open_below(f: u64, ea: Biased, eb: Biased, closed: u64) -> Biased
     Biased(from + run)
 }
 
-// From eb on, which is larger than ea, the first field whose class is not among the closed ones, or `end`.
+// From eb on, which is larger than ea, a field up to `end` such that those passed over have closed classes.
 fn open_above(f: u64, ea: Biased, eb: Biased, end: Biased, closed: u64) -> Biased
     requires { ⌜ (f < 59) × (ea .0 < eb .0) × (eb .0 < end .0) ⌝ }
     ensures { λ r. ⌜ (eb .0 ≤ r .0) × (r .0 ≤ end .0) × ((d : Biased) → eb .0 ≤ d .0 → d .0 < r .0 → bit closed (closedBit f 1 (lowField f d ea .0)) ≡ 1) ⌝ }
@@ -66,8 +66,8 @@ fn open_above(f: u64, ea: Biased, eb: Biased, end: Biased, closed: u64) -> Biase
     Biased(eb.0 + run)
 }
 
-// From eb on, the first field of b that may admit a case with a's, as far as the closed classes tell. For a job with a malformed mask,
-// another end than `class_end` gives or another table than one that `admits` kept, the answer is free but for its side.
+// From eb on, a field of b before which none admits a case with a's, as far as the closed classes tell. For a job with a malformed mask,
+// another end than `class_end` gives or another table than one that `admits` kept, the answer is free but not below eb.
 pub fn open_from(job: Job, ea: Biased, eb: Biased, end: Biased, table: &[u64; PLACES]) -> Biased
     ensures { λ r. ⌜ (eb .0 ≤ r .0) × (Valid job → ClassEnd job end → Kept job (now (table .entry)) → NoPartner job ea eb r) ⌝ }
 {

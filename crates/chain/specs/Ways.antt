@@ -1,5 +1,5 @@
 -- One adder's columns, as the contracts of src/ways.rt speak of them: a word has a bit for each column, and a bit of a wire is a Bool.
--- Assumes nothing.
+-- No definition of the promise cites this file. Assumes nothing.
 use mathlib.Core.Bool.{Bool, true, false, _&&_, _||_, cond}
 use Prim.Native.Nat.{ℕ, _+_, _*_}
 use lib.Dec.{eqb}

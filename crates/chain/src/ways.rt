@@ -83,7 +83,7 @@ fn sums(u: Places, t: Places, y: Places, c: Places) -> Ways
 }
 
 // The ways of l + t + carry in = x + 2 carry out, and of x + t + borrow in = l + 2 borrow out for x = l - t, by x: that is the sum
-// with l and x turned over.
+// with l and x turned over. c is the mask of the carries out of the columns.
 pub fn adder(subtract: bool, l: Mask, t: Mask, x: Mask, c: Mask) -> Ways
     ensures { λ r. ⌜ ((i : ℕ) (cin cout b : Bool) → i < 64 → may (way r cin cout) i b ≡ wayOf subtract (lets l i) (lets t i) (lets x i) (lets c i) cin cout b) ⌝ }
 {

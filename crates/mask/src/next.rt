@@ -20,7 +20,8 @@ fn step_at(m: Mask, n: u64) -> u64
     top + u64::trailing_zeros(above + 1) as u64
 }
 
-// The first number from n on, of those of so many bits, that meets the mask; a number past them all where there is none.
+// The first number from n on, of those of so many bits, that meets the mask; a number past them all where there is none. For a malformed
+// mask, and for 64 bits or more, the answer is free but not below n.
 pub fn met_from(width: u64, m: Mask, n: u64) -> u64
     ensures { λ r. ⌜ (n ≤ r) × (width < 64 → WellFormed width m → MetFrom width m n r) ⌝ }
 {

@@ -1,5 +1,6 @@
--- Where rounding never carries into the next quotient. Toward zero the kept part is at most the exact quotient. The longest sum and the longest difference are at most the largest significand with as many
--- zeros below it as bits are rounded off, and rounded they are at most that significand. Assumes nothing.
+-- Where rounding never carries into the next quotient. Toward zero the kept part is at most the exact quotient. The longest sum and the
+-- longest difference are at most the largest significand with as many zeros below it as bits are rounded off, and rounded they are at most
+-- that significand. Assumes nothing.
 use mathlib.Core.Logic.{⊎-elim}
 use mathlib.Core.Path.{_≡_, refl, sym, subst}
 use mathlib.Core.Bool.{Bool, true, false}

@@ -1,7 +1,6 @@
 -- The parts that the question of `Admits` (`Outcome`) is taken apart into: the number of digits and the quotient above the fraction, the
 -- masks that fix them and the kept part, the word c by its exponent field and its fraction, and the numbers below the smallest normal one.
--- Contracts inside this crate speak of
--- them. Assumes nothing.
+-- Contracts inside this crate speak of them. Assumes nothing.
 -- Internal: no public contract cites this.
 use mathlib.Core.Path.{_≡_}
 use mathlib.Core.Bool.{Bool, true, false, cond}

@@ -2,4 +2,4 @@ pub mod Pairs
 pub mod Roles
 pub mod Walking
 pub mod Choosing
-pub mod Rows
+pub mod Spans

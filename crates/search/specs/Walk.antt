@@ -1,4 +1,4 @@
--- What the bit walk asks and promises (document 01, "each bit of a, from the top, follows the first random word": recursion over the bits
+-- What the bit walk and the pass over the exponent fields ask and promise (document 01, "each bit of a, from the top, follows the first random word": recursion over the bits
 -- still open). Nothing here is needed to read the choice. Assumes nothing.
 -- Internal: no public contract cites this.
 use mathlib.Core.Bool.{false}
@@ -20,7 +20,7 @@ use Rattle.classes.specs.Far.{LetsZero}
 use Rattle.answers.specs.Kept.{ClassEnd, NoPartner}
 use Rattle.search.specs.declared.Exponents.{Exponents}
 use Rattle.search.specs.declared.pass.Pass.{Pass}
-use Rattle.search.specs.declared.row.Row.{Row}
+use Rattle.search.specs.declared.span.Span.{Span}
 use Rattle.search.specs.Left.{Left, Ready}
 
 -- a case is left, and the word's bits from position k on are fixed
@@ -55,12 +55,12 @@ pub record PassOf (j : Job) (p : Pass) : Type 0 where
   pub end : ClassEnd j (p .end)
 
 -- b's exponent fields from `from` on and below `end` are fields of the format, and where there are such, e of a meets its mask
-pub record RowIn (j : Job) (e : Biased) (r : Row) : Type 0 where
+pub record SpanIn (j : Job) (e : Biased) (r : Span) : Type 0 where
   pub within : r .end .0 ≤ 2 ^ j .setting .format .w
   pub meets : r .from .0 < r .end .0 → Meets (e .0) (exponentMask (j .setting .format) (j .a .mask))
 
 -- no other one admits a case with e of a
-pub record RowOf (j : Job) (e : Biased) (r : Row) : Type 0 where
+pub record SpanOf (j : Job) (e : Biased) (r : Span) : Type 0 where
   pub low : NoPartner j e (fieldIs 0) (r .from)
   pub high : (d : Biased) → r .end .0 ≤ d .0 → PairFits j e d → ⊥
 

@@ -1,6 +1,6 @@
 // The masked search: whether a case is left, and the operands of the one that two random words choose.
 mod pass;
-mod row;
+mod span;
 mod walk;
 
 use bits::power;

@@ -1,8 +1,8 @@
 // A pass over the exponent fields: the first pair of them that admits a case.
 use crate::Exponents;
-use crate::row::after;
-use crate::row::partner_from;
-use crate::row::row_of;
+use crate::span::after;
+use crate::span::partner_from;
+use crate::span::span_of;
 use answers::PLACES;
 use answers::class_end;
 use bits::minus;
@@ -54,7 +54,7 @@ fn pass_of(job: Job) -> Pass
     }
 }
 
-// The first pair of exponent fields that some case left has, or one past them all. Those before `start` are known to have none. The loops are
+// The first pair of exponent fields that some case left has, or past them all. Those before `start` are known to have none. The loops are
 // left at the first pair that admits a case, and step over those that need no question.
 pub(crate) fn first_pair(job: Job, start: Exponents) -> Exponents
     requires { ⌜ Supported (job .setting .format) ⌝ }
@@ -66,15 +66,15 @@ pub(crate) fn first_pair(job: Job, start: Exponents) -> Exponents
     let mut ea = start.a;
     let mut eb = start.b;
     'pairs: while ea.0 < past {
-        let row = row_of(job, pass, ea);
-        let from = Biased(eb.0 + minus(row.from.0, eb.0));
-        eb = partner_from(job, pass, ea, from, row.end, &table);
-        while eb.0 < row.end.0 {
+        let span = span_of(job, pass, ea);
+        let from = Biased(eb.0 + minus(span.from.0, eb.0));
+        eb = partner_from(job, pass, ea, from, span.end, &table);
+        while eb.0 < span.end.0 {
             if answers::admits(job, ea, eb, pass.end, &mut table) {
                 break 'pairs;
             }
             let next = after(job, pass, ea, eb);
-            eb = partner_from(job, pass, ea, next, row.end, &table);
+            eb = partner_from(job, pass, ea, next, span.end, &table);
         }
         ea = Biased(met_from(job.setting.format.w, pass.a, ea.0 + 1));
         eb = Biased(0);

@@ -1,5 +1,5 @@
 -- Words of one sign and one exponent field whose fractions are both 0 or both not are of one kind. Where an operand is infinite or a NaN
--- there is no row, and operands of one kind have one rounded result. Assumes nothing.
+-- there is no row, and operands of one kind have one rounded result; so have any two finite operands beside it. Assumes nothing.
 use mathlib.Core.Path.{_≡_, refl, sym, ap, ap₂, _∙_}
 use mathlib.Core.Logic.{_⊎_, inl, inr}
 use mathlib.Core.Bool.{Bool, true, false, cond}

@@ -16,7 +16,7 @@ ghost use Rattle.whole.specs.Fits.{Left};
 ghost use Rattle.whole.specs.Column.{at, step};
 ghost use Rattle.whole.specs.Carries.{carryWord, waysTo, flags};
 
-// A word for each carry.
+// For each carry a word with a bit for each column.
 pub struct Carries {
     pub zero: u64,
     pub one: u64,
@@ -28,13 +28,14 @@ pub struct Table {
     pub to1: Carries,
 }
 
-// The columns where a wire may be 0 or 1.
+// The columns that have a way, with the wire 0 or 1.
 fn any(p: Places) -> u64
     ensures { λ r. ⌜ ((i : ℕ) → mem r i ≡ either (may p i)) ⌝ }
 {
     p.zero | p.one
 }
 
+// The columns that lead from each carry to each, by the ways of x + y = z; the mask of the carries is moved down to those out of a column.
 fn transitions(s: Masks) -> Table
     ensures { λ r. ⌜ ((i c t : ℕ) → i < 64 → c < 2 → t < 2 → mem (carryWord (waysTo r t) c) i ≡ into (step s) i c t) ⌝ }
 {
@@ -51,7 +52,7 @@ fn transitions(s: Masks) -> Table
     }
 }
 
-// Whether a carry of the set leads to one more, in the column where the set stands.
+// The set's column as a bit, where a carry of the set leads to the one that `to` is about; else 0.
 fn lead(to: Carries, set: Carries) -> u64
     ensures { λ r. ⌜ ((i : ℕ) (b : ℕ → Bool) → set ≡ flags b i → r ≡ flag (some 2 (λ (c : ℕ). b c && mem (carryWord to c) i)) i) ⌝ }
 {

@@ -64,7 +64,8 @@ fn relieved(job: &Job, kind: Kind) -> Option<Job> {
     Some(relieved)
 }
 
-/// Whether a job has a case or none as its kind says, and one where it is relieved.
+/// Whether a job of an impossible kind has no case, and has one without the mask that its kind is
+/// named for.
 fn is_as_said(drawn: &Recorded, kind: Kind) -> bool {
     if !kind.is_impossible() {
         return true;

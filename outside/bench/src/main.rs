@@ -4,8 +4,8 @@
 //! [--write]`: at least one job of each kind, 40 by default; z3 may spend the limit on a job, 20
 //! seconds by default; every job runs on a thread with a stack of so many KiB, 256 by default;
 //! `--alone` asks no z3; `--write` writes what is printed to docs/SPEED.md; `--slow` searches for
-//! slow jobs for so long and does nothing else, but with `--write`, which searches for 120 seconds
-//! by default.
+//! slow jobs for so long and does nothing else; with `--write` it says how long the search for the
+//! report is, 120 seconds by default.
 //!
 //! Where `VINDACSOR_LIBRARY` names an archive when this program is built, that is linked in place
 //! of target/staticlib/libvindacsor.a: so two builds can be timed one after the other.

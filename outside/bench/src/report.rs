@@ -129,7 +129,7 @@ const SLOW_LINES: [&str; 11] = [
     "c: care, value",
     "carries: care, value",
     "random words",
-    "jobs timed",
+    "changes tried",
 ];
 
 fn lines_of(slowest: &Slowest) -> Vec<String> {
@@ -184,7 +184,7 @@ fn count(counts: &[Counts], which: usize) -> String {
     }
     let names = formats();
     let mut table = format!(
-        "## {title}\n\n{text} In the mean, counted by callgrind at `{function}`; those with 23 \
+        "## {title}\n\n{text} In the mean, counted by callgrind at `{function}`; the formats with 23 \
          fraction bits differ in the exponent bits alone.\n\n| Jobs | {} |\n|---|{}\n",
         names.join(" | "),
         "---|".repeat(names.len())
@@ -223,8 +223,8 @@ const KINDS_MEAN: &str = "Operation and mode of a job are random, but case 13 is
     overflow has no mode toward zero. Masks are made around a true case, but with all fractions \
     fixed and in case 13; with any share of each mask fixed, each has its own share, and one of four is \
     made around no case. Where cancellation is needed c's exponent is fixed, and of a's and b's \
-    the top bits that keep each 3 or more above it. For a subnormal result c's exponent and a 1 of \
-    its fraction are fixed. For overflow c is fixed to infinity, but for its sign, and a 0 of each \
+    only the top bits are, so that each stays 3 or more above it. For a subnormal result c's exponent and a 1 of \
+    its fraction are fixed. For overflow c is fixed to infinity, but for its sign, and so is a 0 of each \
     operand's exponent. Impossible only by c's exponent: this is fixed to another field than the \
     true case's, and about a quarter of a's and b's exponents is fixed; only by the carries: one is fixed \
     to the other value than the true case's. Without that both have a case. All else in these is \

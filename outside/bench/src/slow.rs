@@ -1,6 +1,6 @@
 //! A search for slow jobs: random jobs of every kind are changed step by step, and a change is kept
 //! where the reply takes longer. The seed decides the steps that are tried; which of them are kept
-//! hangs on the times too.
+//! depends on the times too.
 
 use std::cmp::Reverse;
 use std::time::{Duration, Instant};
@@ -27,7 +27,7 @@ pub struct Slowest {
     pub job: Job,
     pub time: Duration,
     pub has_case: bool,
-    /// How many jobs were timed.
+    /// How many changes were tried.
     pub tried: u64,
 }
 

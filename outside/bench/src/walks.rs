@@ -31,7 +31,7 @@ enum Figure {
 }
 
 /// What is counted. A function that the compiler made a part of its caller cannot be.
-pub const COUNTED: [Counted; 3] = [
+pub const COUNTED: [Counted; 4] = [
     Counted {
         title: "Walks over columns",
         text: "How often a reply asks the columns.",
@@ -39,11 +39,18 @@ pub const COUNTED: [Counted; 3] = [
         figure: Figure::Calls,
     },
     Counted {
-        title: "Pairs of exponent fields",
-        text: "How many pairs of exponent fields with their signs a reply asks about. Those that \
-               the table of known answers settles are not among them: the instructions below are \
-               those of all.",
+        title: "Questions about finite pairs",
+        text: "How often a reply asks about two finite exponent fields with two signs, those that \
+               stand for a class among them. Pairs that are stepped over, or that the table \
+               refuses, are counted in the next table alone.",
         function: "pair::finite::signs_admit",
+        figure: Figure::Calls,
+    },
+    Counted {
+        title: "Pairs visited",
+        text: "How many steps the search takes: one for each exponent field of a that meets its \
+               mask, and one for each pair that it visits.",
+        function: "search::span::partner_from",
         figure: Figure::Calls,
     },
     Counted {

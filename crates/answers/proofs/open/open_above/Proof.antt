@@ -1,4 +1,4 @@
--- `answers::open::open_above` meets its contract: the bits of the fields go up by `bit-over`. Assumes nothing.
+-- `answers::open::open_above` meets its contract: a run of ones is a run of closed classes, by `run-over`. Assumes nothing.
 use mathlib.Core.Logic.{_⊎_, inl, inr}
 use mathlib.Core.Path.{_≡_, sym, ap, _∙_}
 use Prim.Native.Nat.{_+_, _-_, _≤_, _<_}

@@ -1,4 +1,4 @@
--- `answers::open::open_below` meets its contract: the bits of the fields go up by `bit-below`. Assumes nothing.
+-- `answers::open::open_below` meets its contract: a run of ones is a run of closed classes, by `run-below`. Assumes nothing.
 use mathlib.Core.Path.{_≡_, sym, ap, _∙_}
 use Prim.Native.Nat.{ℕ, _+_, _-_, _≤_, _<_}
 use native.Mathlib.Omega.{arith}

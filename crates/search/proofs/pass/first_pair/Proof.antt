@@ -17,17 +17,17 @@ use Rattle.answers.specs.Kept.{Kept, NoPartner}
 use Rattle.answers.proofs.Keeping.{kept-fresh}
 use Rattle.search.specs.Walk.{NoneBefore}
 use Rattle.search.proofs.Pairs.{field-formed, pair-left}
-use Rattle.search.proofs.Rows.{partners-join, none-before, none-next}
+use Rattle.search.proofs.Spans.{partners-join, none-before, none-next}
 use borrow.Author.Needs.{needs}
 use Rattle.search.proofs.pass.first_pair.Statement.{statement}
 use Rattle.search.proofs.pass.first_pair.Tie as tie
 
 abbrev Inv-loop : tie.InvT-loop
-Inv-loop job pass past table₀ ea eb₀ row table eb =
+Inv-loop job pass past table₀ ea eb₀ span table eb =
     (eb₀ .0 ≤ eb .0) × (Valid job → Kept job table × (eb .0 < 2 ^ job .setting .format .w → Meets (eb .0) (exponentMask (job .setting .format) (job .b .mask))) × NoPartner job ea eb₀ eb)
 
 abbrev μ-loop : tie.MeasureT-loop
-μ-loop job pass past table₀ ea eb₀ row table eb = row .end .0 - eb .0
+μ-loop job pass past table₀ ea eb₀ span table eb = span .end .0 - eb .0
 
 abbrev Inv-pairs : tie.InvT-pairs
 Inv-pairs job pass past table₀ ea₀ eb₀ table ea eb =
@@ -39,8 +39,8 @@ abbrev μ-pairs : tie.MeasureT-pairs
 -- the pair may be asked
 asked-at : (c : tie.Then2 Inv-loop μ-loop Inv-pairs μ-pairs) → Valid (c .before .before .before .before .before .before .before .before .before .before .before .before .before .before .before .args .job) → Asked (c .before .before .before .before .before .before .before .before .before .before .before .before .before .before .before .args .job) (c .before .before .before .before .before .before .before .before .before .before .before .pairs .ea) (c .before .before .before .loop .eb)
 asked-at c valid =
-    let row = c .before .before .before .before .before .before .before .before .row-of in
-    let inside = row .ensures .0 valid (c .before .before .before .before .before .before .before .before .before .before .before .before .before .before .pass-of .ensures .1 valid) in
+    let span = c .before .before .before .before .before .before .before .before .span-of in
+    let inside = span .ensures .0 valid (c .before .before .before .before .before .before .before .before .before .before .before .before .before .before .pass-of .ensures .1 valid) in
     let l = c .before .before .before .loop in
     record {
       valid = valid;
@@ -53,20 +53,20 @@ before-at : (c : tie.At-loop Inv-loop μ-loop Inv-pairs μ-pairs) → Valid (c .
     → NoneBefore (c .before .before .before .before .before .before .before .before .before .before .before .before .args .job) (record { a = c .before .before .before .before .before .before .before .before .pairs .ea; b = c .loop .eb })
 before-at c valid none =
     let is = c .before .before .before .before .before .before .before .before .before .before .before .pass-of .ensures .1 valid in
-    none-before (c .before .before .before .before .before .before .before .before .before .before .before .before .args .job) (c .before .before .before .before .before .before .before .before .pairs .ea) (c .before .before .before .before .before .before .before .before .pairs .eb) (c .before .before .before .before .before .row-of .result) none
-    (c .before .before .before .before .before .row-of .ensures .1 valid is (λ d e l. none d e (inl l))) (fieldIs (c .before .before .before .before .before .before .before .before .pairs .eb .0 + c .before .before .before .before .minus .result)) (c .before .partner-from .result) (c .loop .eb)
+    none-before (c .before .before .before .before .before .before .before .before .before .before .before .before .args .job) (c .before .before .before .before .before .before .before .before .pairs .ea) (c .before .before .before .before .before .before .before .before .pairs .eb) (c .before .before .before .before .before .span-of .result) none
+    (c .before .before .before .before .before .span-of .ensures .1 valid is (λ d e l. none d e (inl l))) (fieldIs (c .before .before .before .before .before .before .before .before .pairs .eb .0 + c .before .before .before .before .minus .result)) (c .before .partner-from .result) (c .loop .eb)
     (omega (arith, c .before .before .before .before .minus .ensures)) (c .before .partner-from .ensures .1 valid is (c .before .before .before .before .before .before .before .before .pairs .inv .0 valid) .1) (c .loop .inv .1 valid .2)
 
--- nor does one before the next row, where the row is over
+-- nor does one before a's next field, where b's are over
 next-at : (c : tie.At-loop Inv-loop μ-loop Inv-pairs μ-pairs) → Valid (c .before .before .before .before .before .before .before .before .before .before .before .before .args .job) → NoneBefore (c .before .before .before .before .before .before .before .before .before .before .before .before .args .job) (record { a = c .before .before .before .before .before .before .before .before .pairs .ea; b = c .before .before .before .before .before .before .before .before .pairs .eb })
-    → c .before .before .before .before .before .row-of .result .end .0 ≤ c .loop .eb .0 → (next : ℕ)
+    → c .before .before .before .before .before .span-of .result .end .0 ≤ c .loop .eb .0 → (next : ℕ)
     → (c .before .before .before .before .before .before .before .before .before .before .before .before .args .job .setting .format .w < 64 → WellFormed (c .before .before .before .before .before .before .before .before .before .before .before .before .args .job .setting .format .w) (c .before .before .before .before .before .before .before .before .before .before .before .pass-of .result .a) → MetFrom (c .before .before .before .before .before .before .before .before .before .before .before .before .args .job .setting .format .w) (c .before .before .before .before .before .before .before .before .before .before .before .pass-of .result .a) (c .before .before .before .before .before .before .before .before .pairs .ea .0 + 1) next)
     → NoneBefore (c .before .before .before .before .before .before .before .before .before .before .before .before .args .job) (record { a = fieldIs next; b = fieldIs 0 })
 next-at c valid none over next met =
     let is = c .before .before .before .before .before .before .before .before .before .before .before .pass-of .ensures .1 valid in
     let F = c .before .before .before .before .before .before .before .before .before .before .before .before .args .job .setting .format in
-    none-next (c .before .before .before .before .before .before .before .before .before .before .before .before .args .job) (c .before .before .before .before .before .before .before .before .pairs .ea) (c .before .before .before .before .before .before .before .before .pairs .eb) (c .before .before .before .before .before .row-of .result) none
-    (c .before .before .before .before .before .row-of .ensures .1 valid is (λ d e l. none d e (inl l))) (fieldIs (c .before .before .before .before .before .before .before .before .pairs .eb .0 + c .before .before .before .before .minus .result)) (c .before .partner-from .result) (c .loop .eb)
+    none-next (c .before .before .before .before .before .before .before .before .before .before .before .before .args .job) (c .before .before .before .before .before .before .before .before .pairs .ea) (c .before .before .before .before .before .before .before .before .pairs .eb) (c .before .before .before .before .before .span-of .result) none
+    (c .before .before .before .before .before .span-of .ensures .1 valid is (λ d e l. none d e (inl l))) (fieldIs (c .before .before .before .before .before .before .before .before .pairs .eb .0 + c .before .before .before .before .minus .result)) (c .before .partner-from .result) (c .loop .eb)
     (omega (arith, c .before .before .before .before .minus .ensures)) (c .before .partner-from .ensures .1 valid is (c .before .before .before .before .before .before .before .before .pairs .inv .0 valid) .1) (c .loop .inv .1 valid .2)
     valid over next
     (subst (λ (m : Mask). WellFormed (F .w) m → MetFrom (F .w) m (c .before .before .before .before .before .before .before .before .pairs .ea .0 + 1) next) (is .a) (met (omega (arith, exponent-room F (c .before .before .before .before .before .before .before .before .before .before .before .before .pre)))) (field-formed F (c .before .before .before .before .before .before .before .before .before .before .before .before .args .job .a .mask) (valid .a .mask)))
@@ -77,8 +77,8 @@ pass-of-requires c κs = c .pre
 pairs-holds : tie.Need-pairs-holds Inv-loop μ-loop Inv-pairs μ-pairs
 pairs-holds c = (λ valid. kept-fresh (c .before .before .before .args .job), λ valid none. none)
 
-row-of-requires : tie.Need-row-of-requires Inv-loop μ-loop Inv-pairs μ-pairs
-row-of-requires c κs = (c .before .before .before .before .before .before .pre, c .before .before .before .before .before .pass-of .ensures .0, omega (arith, c .if1 .taken))
+span-of-requires : tie.Need-span-of-requires Inv-loop μ-loop Inv-pairs μ-pairs
+span-of-requires c κs = (c .before .before .before .before .before .before .pre, c .before .before .before .before .before .pass-of .ensures .0, omega (arith, c .if1 .taken))
 
 minus-requires : tie.Need-minus-requires Inv-loop μ-loop Inv-pairs μ-pairs
 minus-requires c κs = search needs
@@ -102,7 +102,7 @@ admits-requires : tie.Need-admits-requires Inv-loop μ-loop Inv-pairs μ-pairs
 admits-requires c κs = search needs
 
 after-requires : tie.Need-after-requires Inv-loop μ-loop Inv-pairs μ-pairs
-after-requires c κs = (c .before .before .before .before .before .before .before .before .before .before .before .before .before .before .before .before .before .before .pre, c .before .before .before .before .before .before .before .before .before .before .before .before .before .before .before .before .before .pass-of .ensures .0, omega (arith, c .before .before .before .before .before .before .before .before .before .before .before .before .if1 .taken), omega (arith, c .before .before .before .if2 .taken, c .before .before .before .before .before .before .before .before .before .before .before .row-of .ok))
+after-requires c κs = (c .before .before .before .before .before .before .before .before .before .before .before .before .before .before .before .before .before .before .pre, c .before .before .before .before .before .before .before .before .before .before .before .before .before .before .before .before .before .pass-of .ensures .0, omega (arith, c .before .before .before .before .before .before .before .before .before .before .before .before .if1 .taken), omega (arith, c .before .before .before .if2 .taken, c .before .before .before .before .before .before .before .before .before .before .before .span-of .ok))
 
 partner-from-requires-2 : tie.Need-partner-from-requires-2 Inv-loop μ-loop Inv-pairs μ-pairs
 partner-from-requires-2 c κs = c .before .before .before .before .before .before .before .before .before .before .before .before .before .before .before .before .before .before .before .before .pre
@@ -165,7 +165,7 @@ first-pair-spec =
     μ-pairs
     pass-of-requires
     pairs-holds
-    row-of-requires
+    span-of-requires
     minus-requires
     add-met-from
     partner-from-requires

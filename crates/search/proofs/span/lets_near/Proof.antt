@@ -1,4 +1,4 @@
--- `search::row::lets_near` meets its contract, by `only-zero`. Assumes nothing.
+-- `search::span::lets_near` meets its contract, by `only-zero`. Assumes nothing.
 use mathlib.Core.Bool.{true≢false}
 use mathlib.Core.Logic.{inl}
 use mathlib.Core.Path.{subst}
@@ -12,10 +12,10 @@ use Rattle.mask.specs.Mask.{WellFormed}
 use Rattle.mask.specs.Next.{MetFrom}
 use Rattle.special.specs.Asked.{fieldIs}
 use Rattle.search.proofs.Pairs.{field-formed}
-use Rattle.search.proofs.Rows.{only-zero}
+use Rattle.search.proofs.Spans.{only-zero}
 use borrow.Author.Needs.{needs}
-use Rattle.search.proofs.row.lets_near.Statement.{statement}
-use Rattle.search.proofs.row.lets_near.Tie as tie
+use Rattle.search.proofs.span.lets_near.Statement.{statement}
+use Rattle.search.proofs.span.lets_near.Tie as tie
 
 -- the sums fit
 room : (s : tie.Start) → s .args .ea .0 + (s .args .job .setting .format .f + 3) + 1 < 2 ^ 64

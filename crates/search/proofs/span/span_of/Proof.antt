@@ -1,4 +1,4 @@
--- `search::row::row_of` meets its contract: a pair whose exponent field of a does not meet its mask admits no case, by `pair-asked`, and
+-- `search::span::span_of` meets its contract: a pair whose exponent field of a does not meet its mask admits no case, by `pair-asked`, and
 -- where no signs are left for finite operands no pair of finite ones does, by `signs-none`. Assumes nothing.
 use mathlib.Core.Bool.{false, false≢true, not, and-eq-true-iff}
 use mathlib.Core.Path.{_≡_, sym, _∙_}
@@ -20,8 +20,8 @@ use Rattle.classes.specs.Far.{LetsZero}
 use Rattle.search.specs.Walk.{NoneBelow, PassOf}
 use Rattle.search.proofs.Pairs.{pair-asked, tested}
 use borrow.Author.Needs.{needs}
-use Rattle.search.proofs.row.row_of.Statement.{statement}
-use Rattle.search.proofs.row.row_of.Tie as tie
+use Rattle.search.proofs.span.span_of.Statement.{statement}
+use Rattle.search.proofs.span.span_of.Tie as tie
 
 -- a's field meets its mask
 met-at : (c : tie.Else1) → PassOf (c .before .before .before .args .job) (c .before .before .before .args .pass) → Meets (c .before .before .before .args .ea .0) (exponentMask (c .before .before .before .args .job .setting .format) (c .before .before .before .args .job .a .mask))
@@ -42,7 +42,7 @@ zero-next j ea end d before after P = go (decLt (d .0) (end .0))
 zero-at : (c : tie.Else3) → Valid (c .before .before .before .before .before .before .before .before .before .before .before .args .job) → PassOf (c .before .before .before .before .before .before .before .before .before .before .before .args .job) (c .before .before .before .before .before .before .before .before .before .before .before .args .pass) → NoneBelow (c .before .before .before .before .before .before .before .before .before .before .before .args .job) (c .before .before .before .before .before .before .before .before .before .before .before .args .ea)
     → (d : Biased) → PairFits (c .before .before .before .before .before .before .before .before .before .before .before .args .job) (c .before .before .before .before .before .before .before .before .before .before .before .args .ea) d → LetsZero (c .before .before .before .before .before .before .before .before .before .before .before .args .job) × (c .before .before .before .before .before .before .before .before .before .before .before .args .ea .0 ≤ d .0 + 1) × (d .0 ≤ c .before .before .before .before .before .before .before .before .before .before .before .args .ea .0 + 1)
 zero-at c valid is none d P =
-    let last = c .before .before .before .before .before .before .before .row-end in
+    let last = c .before .before .before .before .before .before .before .span-end in
     zero-next (c .before .before .before .before .before .before .before .before .before .before .before .args .job) (c .before .before .before .before .before .before .before .before .before .before .before .args .ea) (last .result) d (c .before .lets-near .ensures (c .if3 .left) valid is .1 d) (last .ensures .1 valid is none d) P
 
 meets-requires : tie.Need-meets-requires
@@ -63,8 +63,8 @@ returns c =
           record { low = λ d from l. no d; high = λ d from. no d },
     )
 
-row-end-requires : tie.Need-row-end-requires
-row-end-requires c κs = search needs
+span-end-requires : tie.Need-span-end-requires
+span-end-requires c κs = search needs
 
 sub-t9 : tie.Need-sub-t9
 sub-t9 c = search needs
@@ -73,7 +73,7 @@ returns-2 : tie.Need-returns-2
 returns-2 c =
     let s = c .before .before .before .before .before .before .before .before .before in
     let a = s .args in
-    let last = c .before .before .before .before .before .row-end in
+    let last = c .before .before .before .before .before .span-end in
     let t = and-eq-true-iff (not (a .pass .signs)) (ltb (a .ea .0) (a .pass .past .0 - 1)) .0 (c .if2 .taken) in
     let finite = ltb-true (a .ea .0) (a .pass .past .0 - 1) (t .1) in (
       λ valid is. record { within = omega (arith, last .ensures .0, s .pre .1); meets = λ l. met-at (c .before .before .before .before .before .before) is },
@@ -89,7 +89,7 @@ lets-near-requires c κs = search needs
 returns-3 : tie.Need-returns-3
 returns-3 c =
     let s = c .before .before .before .before .before .before .before .before .before .before .before in
-    let last = c .before .before .before .before .before .before .before .row-end in (
+    let last = c .before .before .before .before .before .before .before .span-end in (
       λ valid is. record { within = omega (arith, last .ensures .0, s .pre .1); meets = λ l. met-at (c .before .before .before .before .before .before .before .before) is },
       λ valid is none. record { low = λ d from l. absurd (omega arith); high = last .ensures .1 valid is none },
     )
@@ -119,5 +119,5 @@ returns-5 c =
       λ valid is none. record { low = λ d from l. none-at (c .before) (c .if4 .left) valid is none d; high = λ d from. none-at (c .before) (c .if4 .left) valid is none d },
     )
 
-pub row-of-spec : {M : Type 1} → statement M
-row-of-spec = tie.close (tie.spec meets-requires returns row-end-requires sub-t9 returns-2 lets-near-requires returns-3 minus-requires add-t15 returns-4 returns-5)
+pub span-of-spec : {M : Type 1} → statement M
+span-of-spec = tie.close (tie.spec meets-requires returns span-end-requires sub-t9 returns-2 lets-near-requires returns-3 minus-requires add-t15 returns-4 returns-5)

@@ -1,4 +1,4 @@
--- `search::row::row_end` meets its contract, by `row-answered`. Assumes nothing.
+-- `search::span::span_end` meets its contract, by `earlier-answered`. Assumes nothing.
 use mathlib.Core.Logic.{inl, inr}
 use Prim.Native.Nat.{_+_, _-_}
 use native.Mathlib.Omega.{arith}
@@ -6,10 +6,10 @@ use lib.Pow.{pow-mono}
 use Rattle.format.proofs.Room.{significand-room, exponent-room}
 use Rattle.special.specs.Asked.{fieldIs}
 use Rattle.search.proofs.Pairs.{pair-range}
-use Rattle.search.proofs.Rows.{row-answered}
+use Rattle.search.proofs.Spans.{earlier-answered}
 use borrow.Author.Needs.{needs}
-use Rattle.search.proofs.row.row_end.Statement.{statement}
-use Rattle.search.proofs.row.row_end.Tie as tie
+use Rattle.search.proofs.span.span_end.Statement.{statement}
+use Rattle.search.proofs.span.span_end.Tie as tie
 
 sub-ones : tie.Need-sub-ones
 sub-ones c = search needs
@@ -40,7 +40,7 @@ returns-3 c =
     let a = s .args in (
       omega arith,
       λ valid is none d from P.
-          row-answered (a .job) valid (a .ea) (a .pass .first) (fieldIs (a .ea .0 + (a .job .setting .format .f + 3))) d none (omega (arith, s .pre .1, s .pre .2, c .before .before .before .before .before .before .if1 .left)) (is .first-some) (omega (arith, c .before .before .before .if2 .left))
+          earlier-answered (a .job) valid (a .ea) (a .pass .first) (fieldIs (a .ea .0 + (a .job .setting .format .f + 3))) d none (omega (arith, s .pre .1, s .pre .2, c .before .before .before .before .before .before .if1 .left)) (is .first-some) (omega (arith, c .before .before .before .if2 .left))
           (is .first-meets (omega (arith, s .pre .1, s .pre .2, c .before .before .before .if2 .left))) (inl (omega arith)) from P,
     )
 
@@ -50,9 +50,9 @@ returns-4 c =
     let a = s .args in (
       omega arith,
       λ valid is none d from P.
-          row-answered (a .job) valid (a .ea) (a .pass .first) (fieldIs (a .pass .past .0 - 1)) d none (omega (arith, s .pre .1, s .pre .2, c .before .before .before .before .before .before .if1 .left)) (is .first-some) (omega (arith, c .before .before .before .if2 .left))
+          earlier-answered (a .job) valid (a .ea) (a .pass .first) (fieldIs (a .pass .past .0 - 1)) d none (omega (arith, s .pre .1, s .pre .2, c .before .before .before .before .before .before .if1 .left)) (is .first-some) (omega (arith, c .before .before .before .if2 .left))
           (is .first-meets (omega (arith, s .pre .1, s .pre .2, c .before .before .before .if2 .left))) (inr (omega (arith, s .pre .1))) from P,
     )
 
-pub row-end-spec : {M : Type 1} → statement M
-row-end-spec = tie.close (tie.spec sub-ones returns returns-2 add-far add-far-2 returns-3 returns-4)
+pub span-end-spec : {M : Type 1} → statement M
+span-end-spec = tie.close (tie.spec sub-ones returns returns-2 add-far add-far-2 returns-3 returns-4)

@@ -1,4 +1,4 @@
--- `search::row::after` meets its contract, by `field-answered`. Assumes nothing.
+-- `search::span::after` meets its contract, by `field-answered`. Assumes nothing.
 use mathlib.Core.Bool.{_&&_, and-eq-true-iff}
 use mathlib.Core.Logic.{inl, inr}
 use mathlib.Core.Path.{subst}
@@ -8,10 +8,10 @@ use lib.Dec.{eqb, ltb, leb}
 use borrow.Author.Tests.{eqb-true, ltb-true, leb-true}
 use Rattle.format.proofs.Room.{significand-room}
 use Rattle.special.specs.Asked.{fieldIs, PairFits}
-use Rattle.search.proofs.Rows.{field-answered}
+use Rattle.search.proofs.Spans.{field-answered}
 use borrow.Author.Needs.{needs}
-use Rattle.search.proofs.row.after.Statement.{statement}
-use Rattle.search.proofs.row.after.Tie as tie
+use Rattle.search.proofs.span.after.Statement.{statement}
+use Rattle.search.proofs.span.after.Tie as tie
 
 sub-ones : tie.Need-sub-ones
 sub-ones c = search needs

@@ -1,4 +1,4 @@
-// The row of an exponent field of a: which fields of b are left to ask with it, and the step from one to the next.
+// The fields of b that are left to ask with one of a, and the step from one to the next.
 use crate::pass::Pass;
 use answers::PLACES;
 use answers::open::open_from;
@@ -19,17 +19,17 @@ ghost use Rattle.job.specs.Job.{Valid};
 ghost use Rattle.special.specs.Asked.{PairFits};
 ghost use Rattle.classes.specs.Far.{LetsZero};
 ghost use Rattle.answers.specs.Kept.{Kept, NoPartner};
-ghost use Rattle.search.specs.Walk.{NoneBelow, PassOf, RowIn, RowOf};
+ghost use Rattle.search.specs.Walk.{NoneBelow, PassOf, SpanIn, SpanOf};
 
-// The fields of b that are left to ask with one of a: from `from` on and below `end`.
-pub struct Row {
+// Exponent fields of b, from `from` on and below `end`.
+pub struct Span {
     pub from: Biased,
     pub end: Biased,
 }
 
-// One past the fields of b that earlier rows leave to ask with one of a. From the first on that a's is far below, the row of the first that
-// meets a's mask has the answers.
-fn row_end(job: Job, pass: Pass, ea: Biased) -> Biased
+// One past the fields of b that are left to ask with one of a. Those that a's is far below were asked with the first field of a, from 1 on,
+// that meets its mask.
+fn span_end(job: Job, pass: Pass, ea: Biased) -> Biased
     requires { ⌜ Supported (job .setting .format) × (pass .past .0 ≡ 2 ^ job .setting .format .w) × (ea .0 < pass .past .0) ⌝ }
     ensures { λ r. ⌜ (r .0 ≤ pass .past .0) × (Valid job → PassOf job pass → NoneBelow job ea → (d : Biased) → r .0 ≤ d .0 → PairFits job ea d → ⊥) ⌝ }
 {
@@ -48,8 +48,8 @@ fn row_end(job: Job, pass: Pass, ea: Biased) -> Biased
     }
 }
 
-// Whether c's mask may let through the exponent field of a sum that is not 0, of a's field with one of b's below `end`: of those that are near it
-// the mask is asked.
+// Whether c's mask may let through the exponent field of a sum that is not 0, of a's field with one of b's below `end`. Such a field is
+// near a's; where no class answers for all of b's, this is true.
 fn lets_near(job: Job, pass: Pass, ea: Biased, end: Biased) -> bool
     requires { ⌜ Supported (job .setting .format) × (pass .past .0 ≡ 2 ^ job .setting .format .w) × (ea .0 < pass .past .0) ⌝ }
     ensures { λ r. ⌜ (r ≡ false → Valid job → PassOf job pass
@@ -69,43 +69,43 @@ fn lets_near(job: Job, pass: Pass, ea: Biased, end: Biased) -> bool
     met_from(job.setting.format.w, pass.c, ea.0 - gap) <= last + 1
 }
 
-// The fields of b that are left to ask with one of a, where no row before has a case. With no signs left for finite operands they begin at those
-// of infinities and NaNs; where only a zero sum is left, they are those next to a's.
-pub(crate) fn row_of(job: Job, pass: Pass, ea: Biased) -> Row
+// The fields of b that are left to ask with one of a, where no smaller field of a has a case. With no signs left for finite operands they
+// begin at those of infinities and NaNs; where only a zero sum is left, they are a's own field and those next to it.
+pub(crate) fn span_of(job: Job, pass: Pass, ea: Biased) -> Span
     requires { ⌜ Supported (job .setting .format) × (pass .past .0 ≡ 2 ^ job .setting .format .w) × (ea .0 < pass .past .0) ⌝ }
-    ensures { λ r. ⌜ (Valid job → PassOf job pass → RowIn job ea r) × (Valid job → PassOf job pass → NoneBelow job ea → RowOf job ea r) ⌝ }
+    ensures { λ r. ⌜ (Valid job → PassOf job pass → SpanIn job ea r) × (Valid job → PassOf job pass → NoneBelow job ea → SpanOf job ea r) ⌝ }
 {
     let past = pass.past;
     if !meets(pass.a, ea.0) {
-        return Row {
+        return Span {
             from: past,
             end: past,
         };
     }
-    let end = row_end(job, pass, ea);
+    let end = span_end(job, pass, ea);
     let ones = Biased(past.0 - 1);
     if !pass.signs & (ea.0 < ones.0) {
-        return Row { from: ones, end };
+        return Span { from: ones, end };
     }
     if lets_near(job, pass, ea, end) {
-        return Row {
+        return Span {
             from: Biased(0),
             end,
         };
     }
     if pass.zero {
-        return Row {
+        return Span {
             from: Biased(minus(ea.0, 1)),
             end: Biased(ea.0 + 2),
         };
     }
-    Row {
+    Span {
         from: past,
         end: past,
     }
 }
 
-// Where a row goes on after a pair that was refused: the fields far below a's have one answer.
+// Where b's fields go on after one that was refused: those far below a's have one answer.
 pub(crate) fn after(job: Job, pass: Pass, ea: Biased, eb: Biased) -> Biased
     requires { ⌜ Supported (job .setting .format) × (pass .past .0 ≡ 2 ^ job .setting .format .w) × (ea .0 < pass .past .0) × (eb .0 + 1 < 2 ^ 64) ⌝ }
     ensures { λ r. ⌜ (eb .0 < r .0) × (Valid job → Meets (eb .0) (exponentMask (job .setting .format) (job .b .mask)) → (PairFits job ea eb → ⊥) → NoPartner job ea eb r) ⌝ }
@@ -121,8 +121,7 @@ pub(crate) fn after(job: Job, pass: Pass, ea: Biased, eb: Biased) -> Biased
     Biased(eb.0 + 1)
 }
 
-// From n on, the first field of b that may admit a case with a's: it meets its mask, and its class is not known to be closed. At `end` the row
-// ends.
+// From n on, the first field of b that meets its mask and whose class is not known to be closed, as far as they go to `end`.
 pub(crate) fn partner_from(
     job: Job,
     pass: Pass,

@@ -1,4 +1,4 @@
--- `search::row::partner_from` meets its contract: fields that do not meet b's mask are passed over by `partners-met`, those of closed classes
+-- `search::span::partner_from` meets its contract: fields that do not meet b's mask are passed over by `partners-met`, those of closed classes
 -- by `open_from`. Assumes nothing.
 use mathlib.Core.Path.{_≡_, refl, subst}
 use Prim.Native.Nat.{ℕ, _-_, _^_, _≤_, _<_}
@@ -15,10 +15,10 @@ use Rattle.answers.specs.Kept.{Kept, NoPartner}
 use Rattle.search.specs.declared.pass.Pass.{Pass}
 use Rattle.search.specs.Walk.{PassOf}
 use Rattle.search.proofs.Pairs.{field-formed}
-use Rattle.search.proofs.Rows.{partners-met, partners-join}
+use Rattle.search.proofs.Spans.{partners-met, partners-join}
 use borrow.Author.Needs.{needs}
-use Rattle.search.proofs.row.partner_from.Statement.{statement}
-use Rattle.search.proofs.row.partner_from.Tie as tie
+use Rattle.search.proofs.span.partner_from.Statement.{statement}
+use Rattle.search.proofs.span.partner_from.Tie as tie
 
 -- the next field that meets b's mask
 met-at : (j : Job) (p : Pass) (n r : ℕ) → Valid j → PassOf j p → (j .setting .format .w < 64 → WellFormed (j .setting .format .w) (p .b) → MetFrom (j .setting .format .w) (p .b) n r)

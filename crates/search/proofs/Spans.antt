@@ -1,4 +1,4 @@
--- Which fields of b need no question in the row of a field of a: those of which an earlier row or an earlier field has the answer, and those
+-- Which fields of b need no question with one of a: those of which an earlier field of a or of b has the answer, and those
 -- whose sums have exponent fields that c's mask does not let through. Assumes nothing.
 use mathlib.Core.Logic.{_⊎_, inl, inr, ⊎-elim}
 use mathlib.Core.Path.{_≡_, refl, subst}
@@ -17,14 +17,14 @@ use Rattle.classes.specs.Class.{farGap}
 use Rattle.classes.specs.Far.{FarBelow, LetsNear, LetsZero}
 use Rattle.classes.proofs.Far.{far-alike, near-or-zero}
 use Rattle.answers.specs.Kept.{ClassEnd, NoPartner}
-use Rattle.search.specs.declared.row.Row.{Row}
-use Rattle.search.specs.Walk.{NoneBefore, NoneBelow, RowOf}
+use Rattle.search.specs.declared.span.Span.{Span}
+use Rattle.search.specs.Walk.{NoneBefore, NoneBelow, SpanOf}
 use Rattle.search.proofs.Pairs.{pair-range, pair-asked}
 
 -- ---- fields that do not meet their masks
 module _ (j : Job) (valid : Valid j) (n r : ℕ) where
-  pub rows-met : MetFrom (j .setting .format .w) (exponentMask (j .setting .format) (j .a .mask)) n r → (d e : Biased) → n ≤ d .0 → d .0 < r → PairFits j d e → ⊥
-  rows-met met d e from to P = met .none (d .0) from to (pair-range j d e valid P .a-lt) (pair-asked j d e valid P .a-exponent)
+  fields-met : MetFrom (j .setting .format .w) (exponentMask (j .setting .format) (j .a .mask)) n r → (d e : Biased) → n ≤ d .0 → d .0 < r → PairFits j d e → ⊥
+  fields-met met d e from to P = met .none (d .0) from to (pair-range j d e valid P .a-lt) (pair-asked j d e valid P .a-exponent)
 
   pub partners-met : MetFrom (j .setting .format .w) (exponentMask (j .setting .format) (j .b .mask)) n r → (ea : Biased) → NoPartner j ea (fieldIs n) (fieldIs r)
   partners-met met ea d from to P = met .none (d .0) from to (pair-range j ea d valid P .b-lt) (pair-asked j ea d valid P .b-exponent)
@@ -53,10 +53,10 @@ module _ (j : Job) (valid : Valid j) (ea : Biased) where
       go (yes q) = inl (some, ⊎-elim (λ h. omega arith) (λ h. omega arith) above, q)
       go (no q) = inr (omega arith, finite)
 
-  -- an earlier row, of a field that meets a's mask, has the answer
-  pub row-answered : (first n d : Biased) → NoneBelow j ea → ea .0 < ones → 1 ≤ first .0 → first .0 < ea .0 → Meets (first .0) (exponentMask (j .setting .format) (j .a .mask))
+  -- an earlier field of a that meets its mask has the answer
+  pub earlier-answered : (first n d : Biased) → NoneBelow j ea → ea .0 < ones → 1 ≤ first .0 → first .0 < ea .0 → Meets (first .0) (exponentMask (j .setting .format) (j .a .mask))
       → (ea .0 + gap ≤ n .0) ⊎ (n .0 ≡ ones) → n .0 ≤ d .0 → PairFits j ea d → ⊥
-  row-answered first n d none finite some below met above from P =
+  earlier-answered first n d none finite some below met above from P =
       let l = pair-range j ea d valid P .b-lt in
       none first d below
       (far-alike j valid 1 d ea first (far-above ea n d (omega arith) finite l above from)
@@ -86,13 +86,13 @@ module _ (j : Job) (valid : Valid j) (ea : Biased) where
             let by = within d ea (inl (omega arith)) (omega arith) in
             ⊎-elim (λ near. absurd (not-near d (omega arith) l near)) (λ z. (z .0, omega arith, z .1)) (near-or-zero j valid 1 d ea (by .1) (omega arith) P (by .0))
 
--- ---- a row, gone over from b's field eb on: the questions begin at `from`
-module _ (j : Job) (ea eb : Biased) (row : Row) (none : NoneBefore j (record { a = ea; b = eb })) (is : RowOf j ea row) (from n r : Biased) (start : from .0 ≡ eb .0 + (row .from .0 - eb .0))
+-- ---- the fields of b with one of a, from eb on: the questions begin at `from`
+module _ (j : Job) (ea eb : Biased) (span : Span) (none : NoneBefore j (record { a = ea; b = eb })) (is : SpanOf j ea span) (from n r : Biased) (start : from .0 ≡ eb .0 + (span .from .0 - eb .0))
     (skipped : NoPartner j ea from n) (asked : NoPartner j ea n r) where
-  pub row-before : (d : Biased) → d .0 < r .0 → PairFits j ea d → ⊥
-  row-before d l = go (decLt (d .0) (eb .0)) (decLt (d .0) (row .from .0)) (decLt (d .0) (n .0))
+  span-before : (d : Biased) → d .0 < r .0 → PairFits j ea d → ⊥
+  span-before d l = go (decLt (d .0) (eb .0)) (decLt (d .0) (span .from .0)) (decLt (d .0) (n .0))
     where
-      go : Dec (d .0 < eb .0) → Dec (d .0 < row .from .0) → Dec (d .0 < n .0) → PairFits j ea d → ⊥
+      go : Dec (d .0 < eb .0) → Dec (d .0 < span .from .0) → Dec (d .0 < n .0) → PairFits j ea d → ⊥
       go (yes h) p q = none ea d (inr (refl, h))
       go (no h) (yes p) q = is .low d (omega arith) p
       go (no h) (no p) (yes q) = skipped d (omega arith) q
@@ -100,15 +100,15 @@ module _ (j : Job) (ea eb : Biased) (row : Row) (none : NoneBefore j (record { a
 
   pub none-before : NoneBefore j (record { a = ea; b = r })
   none-before d e (inl l) P = none d e (inl l) P
-  none-before d e (inr (same, l)) P = row-before e l (subst (λ (k : ℕ). PairFits j (fieldIs k) e) same P)
+  none-before d e (inr (same, l)) P = span-before e l (subst (λ (k : ℕ). PairFits j (fieldIs k) e) same P)
 
   -- at its end, no pair with a's field is left, and a's fields go on at the next that meets a's mask
-  module _ (valid : Valid j) (over : row .end .0 ≤ r .0) (next : ℕ) (met : MetFrom (j .setting .format .w) (exponentMask (j .setting .format) (j .a .mask)) (ea .0 + 1) next) where
-    row-done : (d : Biased) → PairFits j ea d → ⊥
-    row-done d = go (decLt (d .0) (r .0))
+  module _ (valid : Valid j) (over : span .end .0 ≤ r .0) (next : ℕ) (met : MetFrom (j .setting .format .w) (exponentMask (j .setting .format) (j .a .mask)) (ea .0 + 1) next) where
+    span-done : (d : Biased) → PairFits j ea d → ⊥
+    span-done d = go (decLt (d .0) (r .0))
       where
         go : Dec (d .0 < r .0) → PairFits j ea d → ⊥
-        go (yes l) = row-before d l
+        go (yes l) = span-before d l
         go (no l) = is .high d (omega arith)
 
     pub none-next : NoneBefore j (record { a = fieldIs next; b = fieldIs 0 })
@@ -117,5 +117,5 @@ module _ (j : Job) (ea eb : Biased) (row : Row) (none : NoneBefore j (record { a
       where
         go : Dec (d .0 < ea .0) → Dec (ea .0 < d .0) → PairFits j d e → ⊥
         go (yes p) q P = none d e (inl p) P
-        go (no p) (yes q) P = rows-met j valid (ea .0 + 1) next met d e (omega arith) l P
-        go (no p) (no q) P = row-done e (subst (λ (k : ℕ). PairFits j (fieldIs k) e) (omega arith) P)
+        go (no p) (yes q) P = fields-met j valid (ea .0 + 1) next met d e (omega arith) l P
+        go (no p) (no q) P = span-done e (subst (λ (k : ℕ). PairFits j (fieldIs k) e) (omega arith) P)
