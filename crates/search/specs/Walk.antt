@@ -1,5 +1,5 @@
--- What the bit walk and the pass over the exponent fields ask and promise (document 01, "each bit of a, from the top, follows the first random word": recursion over the bits
--- still open). Nothing here is needed to read the choice. Assumes nothing.
+-- What the bit walk and the pass over the exponent fields ask and promise (document 01, "each bit of a, from the top, follows the first
+-- random word": recursion over the bits still open). Nothing here is needed to read the choice. Assumes nothing.
 -- Internal: no public contract cites this.
 use mathlib.Core.Bool.{false}
 use mathlib.Core.Logic.{_⊎_}

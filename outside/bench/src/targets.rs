@@ -17,13 +17,15 @@ struct Faster {
 
 const FASTER: [Faster; 2] = [
     Faster {
-        text: "The whole reply 1,000 times faster than z3's `minimize`, in the median of each kind \
+        text:
+            "The whole reply 1,000 times faster than z3's `minimize`, in the median of each kind \
                that z3 is asked",
         target: 1000.0,
         impossible: false,
     },
     Faster {
-        text: "Impossible jobs 100 times faster than z3's decision, in the median of each kind that \
+        text:
+            "Impossible jobs 100 times faster than z3's decision, in the median of each kind that \
                z3 is asked",
         target: 100.0,
         impossible: true,

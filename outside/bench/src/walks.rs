@@ -41,15 +41,16 @@ pub const COUNTED: [Counted; 4] = [
     Counted {
         title: "Questions about finite pairs",
         text: "How often a reply asks about two finite exponent fields with two signs, those that \
-               stand for a class among them. Pairs that are stepped over, or that the table \
-               refuses, are counted in the next table alone.",
+               stand for a class among them. Pairs that the table refuses are not, nor those that \
+               are stepped over.",
         function: "pair::finite::signs_admit",
         figure: Figure::Calls,
     },
     Counted {
         title: "Pairs visited",
         text: "How many steps the search takes: one for each exponent field of a that meets its \
-               mask, and one for each pair that it visits.",
+               mask, and one for each pair that it visits, those that the table refuses among \
+               them. The fields of a grow with 2^w.",
         function: "search::span::partner_from",
         figure: Figure::Calls,
     },
