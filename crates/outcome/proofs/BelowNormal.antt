@@ -16,7 +16,7 @@ use lib.Pow.{pow-pos, pow-mono}
 use Rattle.format.specs.declared.Format.{Format}
 use Rattle.format.specs.Format.{Supported}
 use Rattle.mask.specs.declared.Mask.{Mask}
-use Rattle.mask.specs.Mask.{Meets, high}
+use Rattle.mask.specs.Mask.{Meets}
 use Rattle.word.specs.declared.Biased.{Biased}
 use Rattle.word.specs.declared.Unit as exponent
 use Rattle.word.specs.Word.{allOnes, signed}
@@ -35,7 +35,6 @@ use Rattle.outcome.specs.Question.{Below, wordOrOverflow, Seeks, subnorm
 use Rattle.outcome.proofs.Topped.{size-none}
 use Rattle.outcome.proofs.Kept.{kept-scaled}
 use Rattle.outcome.proofs.Fields.{held-word, within-meets}
-use Rattle.outcome.proofs.Rounds.{zeros-meets}
 use Rattle.outcome.proofs.Making.{none-made, making-answer}
 use Rattle.outcome.proofs.Carried.{cut-lt}
 use Rattle.outcome.proofs.Counted.{made-lt, outcome-zero, outcome-some}
@@ -102,39 +101,26 @@ module _ (F : Format) (ok : Supported F) (s : ℕ) (u : exponent.Unit) where
 
     -- the question
     module _ (c : Mask) (so : fractions-of.Fractions) (seeks : Seeks F TowardZero s c zeroField so) where
-      low-meets : (n : ℕ) → n < 2 ^ small
-          → Meets (subnormalWord F s u n) c
-          ↔ ((so .possible ≡ true) × (so .fraction .value % 2 ^ (u .0 - guardBits) ≡ 0) × Meets (roundOff TowardZero n (guardBits - u .0)) (high (u .0 - guardBits) (so .fraction)))
-      low-meets n h =
-          let fields = rw (plain-word TowardZero (keptPart TowardZero n (u .0) 0)) at (seeks .meets (keptPart TowardZero n (u .0) 0) (low-lt u (F .f) small place n h)) in
-          let zeros = zeros-meets (u .0 - guardBits) (roundOff TowardZero n (guardBits - u .0)) (so .fraction) in
-          let e = kept-low u TowardZero n in (
-            (λ met. let p = fields .0 met in let q = zeros .0 (subst (λ (k : ℕ). Meets k (so .fraction)) e (p .1)) in (p .0, q .0, q .1)),
-            λ p. fields .1 (p .0, subst (λ (k : ℕ). Meets k (so .fraction)) (sym e) (zeros .1 (p .1, p .2))),
-          )
+      low-meets : (n : ℕ) → n < 2 ^ small → Meets (subnormalWord F s u n) c ↔ ((so .possible ≡ true) × Meets (keptPart TowardZero n (u .0) 0) (so .fraction))
+      low-meets n h = rw (plain-word TowardZero (keptPart TowardZero n (u .0) 0)) at (seeks .meets (keptPart TowardZero n (u .0) 0) (low-lt u (F .f) small place n h))
 
       module _ (A : pair.Aligned) where
-        pub subnormal-asked : (up down : ℕ) (x y : Mask) (r : Bool) → so .possible ≡ true → up ≡ u .0 - guardBits → down ≡ guardBits - u .0
-            → so .fraction .value % 2 ^ up ≡ 0 → Below (columnsOf (F .f)) small x → y ≡ high up (so .fraction)
-            → ((r ≡ true) ↔ Making (F .f) A (λ (n : ℕ). Meets n x × Meets (roundOff TowardZero n down) y))
+        pub subnormal-asked : (x : Mask) (r : Bool) → so .possible ≡ true → Below (columnsOf (F .f)) small x
+            → ((r ≡ true) ↔ Making (F .f) A (λ (n : ℕ). Meets n x × Meets (keptPart TowardZero n (u .0) 0) (so .fraction)))
             → (r ≡ true) ↔ Making (F .f) A (λ (n : ℕ). (n < 2 ^ small) × Meets (subnormalWord F s u n) c)
-        subnormal-asked up down x y r able eup edown zeros below ey asks =
-            making-answer (F .f) A (λ (n : ℕ). Meets n x × Meets (roundOff TowardZero n down) y) (λ (n : ℕ). (n < 2 ^ small) × Meets (subnormalWord F s u n) c) r
+        subnormal-asked x r able below asks =
+            making-answer (F .f) A (λ (n : ℕ). Meets n x × Meets (keptPart TowardZero n (u .0) 0) (so .fraction)) (λ (n : ℕ). (n < 2 ^ small) × Meets (subnormalWord F s u n) c) r
             (λ n made.
             let b = below .meets n (made-lt (F .f) A n made) in (
-              (λ p. let l = b .0 (p .0) in (l, low-meets n l .1 (able, subst (λ (k : ℕ). so .fraction .value % 2 ^ k ≡ 0) eup zeros, rw (edown, mask) at (p .1)))),
-              λ p. (b .1 (p .0), rw (edown, mask) (low-meets n (p .0) .0 (p .1) .2)),
+              (λ p. let l = b .0 (p .0) in (l, low-meets n l .1 (able, p .1))),
+              λ p. (b .1 (p .0), low-meets n (p .0) .0 (p .1) .1),
             ))
             asks
-          where
-            mask : y ≡ high (u .0 - guardBits) (so .fraction)
-            mask = ey ∙ ap (λ (k : ℕ). high k (so .fraction)) eup
 
-        pub subnormal-refused : ((so .possible ≡ true) × (so .fraction .value % 2 ^ (u .0 - guardBits) ≡ 0) → ⊥)
-            → (false ≡ true) ↔ Making (F .f) A (λ (n : ℕ). (n < 2 ^ small) × Meets (subnormalWord F s u n) c)
-        subnormal-refused never =
+        pub subnormal-refused : so .possible ≡ false → (false ≡ true) ↔ Making (F .f) A (λ (n : ℕ). (n < 2 ^ small) × Meets (subnormalWord F s u n) c)
+        subnormal-refused none =
             none-made (F .f) A (λ (n : ℕ). (n < 2 ^ small) × Meets (subnormalWord F s u n) c)
-            (λ m. let p = low-meets (m .x) (m .holds .0) .0 (m .holds .1) in never (p .0, p .1))
+            (λ m. false≢true (sym none ∙ low-meets (m .x) (m .holds .0) .0 (m .holds .1) .0))
 
     -- the answer, where what they make is exact
     module _ (mode : ℕ) (A : pair.Aligned) (c : Mask) (zeros : (x : ℕ) → Made (F .f) A x → x % 2 ^ (guardBits - u .0) ≡ 0) (r : Bool)

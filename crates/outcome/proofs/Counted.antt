@@ -1,5 +1,5 @@
--- The question for a number of so many digits: its kept part meets a mask on the fraction, with a quotient above it, exactly when its
--- rounded part meets that mask moved down; the word follows from both; and the two quotients that are asked are all there are.
+-- The question for a number of so many digits: what it keeps has a quotient, and below it a fraction that meets a mask, exactly when it
+-- meets one mask for both; the word follows from both; and the two quotients that are asked are all there are.
 -- Assumes nothing.
 use mathlib.Core.Logic.{_↔_, _⊎_, inl, inr, ⊎-elim}
 use mathlib.Core.Path.{_≡_, refl, sym, ap, ap₂, _∙_, subst}
@@ -13,24 +13,24 @@ use lib.Ieee.Digits.{size-lt}
 use lib.Pow.{pow-pos, pow-mono}
 use Rattle.format.specs.declared.Format.{Format}
 use Rattle.mask.specs.declared.Mask.{Mask}
-use Rattle.mask.specs.Mask.{Meets, meets, high}
+use Rattle.mask.specs.Mask.{Meets, meets}
 use Rattle.mask.proofs.Checks.{meets-true}
 use Rattle.word.specs.declared.Biased.{Biased}
 use Rattle.rounding.specs.declared.Direction.{Direction}
 use Rattle.word.specs.declared.Unit as exponent
 use Rattle.word.specs.Word.{fieldOf, signed}
-use Rattle.rounding.specs.Rounding.{roundOff, direction}
+use Rattle.rounding.specs.Rounding.{direction}
 use Rattle.rounding.proofs.Size.{size-zero}
 use Rattle.outcome.specs.declared.Aligned as pair
 use Rattle.outcome.specs.declared.sought.Fractions as fractions-of
+use Rattle.rounding.specs.Sticky.{keptPart}
 use Rattle.rounding.specs.Width.{sumBits, columnsOf}
 use Rattle.rounding.specs.Outcome.{roundedUnit, keptOf, boundedHeld, zeroSign, outcome}
 use Rattle.outcome.specs.Outcome.{Made, Making}
 use Rattle.outcome.specs.Question.{leastQuotient, NextQuotient, topped, OfDigits, wordOrOverflow, Seeks}
 use Rattle.outcome.proofs.Topped.{topped-meets, size-none, anything}
-use Rattle.outcome.proofs.Kept.{roundedBits, addedZeros, kept-shifted, kept-lt, quotient-low, quotient-high, least-known}
+use Rattle.outcome.proofs.Kept.{kept-lt, quotient-low, quotient-high, least-known}
 use Rattle.outcome.proofs.Fields.{held-word}
-use Rattle.outcome.proofs.Rounds.{zeros-meets}
 use Rattle.outcome.proofs.Making.{some-made, none-made, making-map, making-answer}
 use Rattle.outcome.proofs.Range.{made-most}
 
@@ -40,56 +40,30 @@ made-lt f A n made = lt-of-lt-of-le (size-lt n) (pow-mono {i = size n} {j = colu
 
 module _ (f : ℕ) (d : Direction) (u : exponent.Unit) (q : ℕ) (fraction : Mask) (hc : fraction .care < 2 ^ f) (hv : fraction .value < 2 ^ f) where
   -- for one number
-  pub kept-meets : (n count : ℕ) → 0 < count → count ≤ sumBits f → size n ≡ count
-      → ((keptOf f d n u / 2 ^ f ≡ q) × Meets (keptOf f d n u % 2 ^ f) fraction)
-      ↔ ((topped 2 f q fraction .value % 2 ^ (addedZeros f count u) ≡ 0) × Meets (roundOff d n (roundedBits f count u)) (high (addedZeros f count u) (topped 2 f q fraction)))
+  kept-meets : (n count : ℕ) → 0 < count → count ≤ sumBits f → size n ≡ count
+      → ((keptOf f d n u / 2 ^ f ≡ q) × Meets (keptOf f d n u % 2 ^ f) fraction) ↔ Meets (keptPart d n (u .0) (roundedUnit f count u .0)) (topped 2 f q fraction)
   kept-meets n zero some most digits = absurd (omega arith)
   kept-meets n (suc m) some most digits =
       let top = topped-meets 2 f q (keptOf f d n u) fraction hc hv (kept-lt f d n u m digits most) in
-      let zeros = zeros-meets (addedZeros f (suc m) u) (roundOff d n (roundedBits f (suc m) u)) (topped 2 f q fraction) in
-      let e = kept-shifted f d n u m digits most in (
-        (λ p. zeros .0 (subst (λ (y : ℕ). Meets y (topped 2 f q fraction)) e (top .1 p))),
-        λ p. top .0 (subst (λ (y : ℕ). Meets y (topped 2 f q fraction)) (sym e) (zeros .1 p)),
+      let e : keptOf f d n u ≡ keptPart d n (u .0) (roundedUnit f (suc m) u .0) = ap (λ (k : ℕ). keptPart d n (u .0) (roundedUnit f k u .0)) digits in (
+        (λ p. subst (λ (y : ℕ). Meets y (topped 2 f q fraction)) e (top .1 p)),
+        λ p. top .0 (subst (λ (y : ℕ). Meets y (topped 2 f q fraction)) (sym e) p),
       )
 
-  module _ (A : pair.Aligned) (count : ℕ) (possible : Bool) (some : 0 < count) (most : count ≤ sumBits f) (m : Mask) (up : ℕ)
-      (em : m ≡ topped 2 f q fraction) (eup : up ≡ addedZeros f count u) where
-    -- for any number: the mask leaves the zeros below, and the rest is asked
-    pub counted-asked : (down : ℕ) (x y : Mask) (r : Bool) → possible ≡ true → down ≡ roundedBits f count u → m .value % 2 ^ up ≡ 0
-        → OfDigits (columnsOf f) count x → y ≡ high up m
-        → ((r ≡ true) ↔ Making f A (λ (n : ℕ). Meets n x × Meets (roundOff d n down) y))
-        → (r ≡ true) ↔ Making f A (λ (n : ℕ). (size n ≡ count) × (keptOf f d n u / 2 ^ f ≡ q) × (possible ≡ true) × Meets (keptOf f d n u % 2 ^ f) fraction)
-    counted-asked down x y r able edown zeros digits ey asks =
-        making-answer f A (λ (n : ℕ). Meets n x × Meets (roundOff d n down) y)
-        (λ (n : ℕ). (size n ≡ count) × (keptOf f d n u / 2 ^ f ≡ q) × (possible ≡ true) × Meets (keptOf f d n u % 2 ^ f) fraction) r
-        (λ n made. (there n made, back n made)) asks
-      where
-        mask : y ≡ high (addedZeros f count u) (topped 2 f q fraction)
-        mask = ey ∙ ap₂ high eup em
-
-        none : topped 2 f q fraction .value % 2 ^ (addedZeros f count u) ≡ 0
-        none = sym (ap₂ (λ (v : Mask) (k : ℕ). v .value % 2 ^ k) em eup) ∙ zeros
-
-        there : (n : ℕ) → Made f A n → Meets n x × Meets (roundOff d n down) y
-            → (size n ≡ count) × (keptOf f d n u / 2 ^ f ≡ q) × (possible ≡ true) × Meets (keptOf f d n u % 2 ^ f) fraction
-        there n made p =
-            let s = digits .meets n (made-lt f A n made) .0 (p .0) in
-            let k = kept-meets n count some most s .1 (none, rw (edown, mask) at (p .1)) in
-            (s, k .0, able, k .1)
-
-        back : (n : ℕ) → Made f A n → (size n ≡ count) × (keptOf f d n u / 2 ^ f ≡ q) × (possible ≡ true) × Meets (keptOf f d n u % 2 ^ f) fraction
-            → Meets n x × Meets (roundOff d n down) y
-        back n made p =
-            let k = kept-meets n count some most (p .0) .0 (p .1, p .3) in
-            (digits .meets n (made-lt f A n made) .1 (p .0), rw (edown, mask) (k .1))
-
-    pub counted-refused : (m .value % 2 ^ up ≡ 0 → ⊥)
-        → (false ≡ true) ↔ Making f A (λ (n : ℕ). (size n ≡ count) × (keptOf f d n u / 2 ^ f ≡ q) × (possible ≡ true) × Meets (keptOf f d n u % 2 ^ f) fraction)
-    counted-refused never =
-        none-made f A (λ (n : ℕ). (size n ≡ count) × (keptOf f d n u / 2 ^ f ≡ q) × (possible ≡ true) × Meets (keptOf f d n u % 2 ^ f) fraction)
-        (λ p.
-        let k = kept-meets (p .x) count some most (p .holds .0) .0 (p .holds .1, p .holds .3) in
-        never (ap₂ (λ (v : Mask) (k : ℕ). v .value % 2 ^ k) em eup ∙ k .0))
+  -- for any number
+  pub counted-asked : (A : pair.Aligned) (count : ℕ) (possible : Bool) (k : exponent.Unit) (x m : Mask) (r : Bool) → 0 < count → count ≤ sumBits f
+      → possible ≡ true → k ≡ roundedUnit f count u → OfDigits (columnsOf f) count x → m ≡ topped 2 f q fraction
+      → ((r ≡ true) ↔ Making f A (λ (n : ℕ). Meets n x × Meets (keptPart d n (u .0) (k .0)) m))
+      → (r ≡ true) ↔ Making f A (λ (n : ℕ). (size n ≡ count) × (keptOf f d n u / 2 ^ f ≡ q) × (possible ≡ true) × Meets (keptOf f d n u % 2 ^ f) fraction)
+  counted-asked A count possible k x m r some most able ek digits em asks =
+      making-answer f A (λ (n : ℕ). Meets n x × Meets (keptPart d n (u .0) (k .0)) m)
+      (λ (n : ℕ). (size n ≡ count) × (keptOf f d n u / 2 ^ f ≡ q) × (possible ≡ true) × Meets (keptOf f d n u % 2 ^ f) fraction) r
+      (λ n made.
+      let g = digits .meets n (made-lt f A n made) in (
+        (λ p. let s = g .0 (p .0) in let t = kept-meets n count some most s .1 (rw (ek, em) at (p .1)) in (s, t .0, able, t .1)),
+        λ p. (g .1 (p .0), rw (ek, em) (kept-meets n count some most (p .0) .0 (p .1, p .3))),
+      ))
+      asks
 
 -- the word of a number of so many digits with a quotient above the fraction
 pub quotient-asked : (F : Format) (d : Direction) (s : ℕ) (u : exponent.Unit) (A : pair.Aligned) (c : Mask) (count q : ℕ) (e : Biased) (so : fractions-of.Fractions) (r : Bool)

@@ -1,6 +1,7 @@
 // Questions about what two aligned significands make, put to the chain of two adders.
 use crate::Aligned;
 use crate::masks::raised;
+use bits::minus;
 use chain::Wires;
 use mask::Joined;
 use mask::Mask;
@@ -9,6 +10,7 @@ use rounding::addend::carry;
 use rounding::addend::constant;
 use rounding::width::COLUMNS;
 use rounding::width::GUARD_BITS;
+use word::Unit;
 ghost use mathlib.Core.Bool.{true};
 ghost use mathlib.Core.Logic.{_↔_};
 ghost use mathlib.Core.Path.{_≡_};
@@ -16,6 +18,7 @@ ghost use Prim.Native.Nat.{ℕ, _+_, _^_, _≤_, _<_};
 ghost use Rattle.bits.specs.Bit.{bit};
 ghost use Rattle.mask.specs.Mask.{Inside, Meets};
 ghost use Rattle.rounding.specs.Rounding.{roundOff};
+ghost use Rattle.rounding.specs.Sticky.{keptPart};
 ghost use Rattle.rounding.specs.Width.{columnsOf, mostRounded, shortBits};
 ghost use Rattle.outcome.specs.Outcome.{Formed, Making};
 
@@ -68,14 +71,7 @@ fn ask_last(
 
 // Whether they make a number that meets x and, with j bits rounded off, y. Rounding off adds a constant and a carry; where the carry depends
 // on the last kept bit, a question is put for each value of that.
-pub(crate) fn rounds(
-    aligned: Aligned,
-    f: u64,
-    direction: Direction,
-    j: u64,
-    x: Mask,
-    y: Mask,
-) -> bool
+fn rounds(aligned: Aligned, f: u64, direction: Direction, j: u64, x: Mask, y: Mask) -> bool
     requires { ⌜ (columnsOf f < 64) × (j ≤ mostRounded) × Inside x × (y .care < 2 ^ shortBits) × (y .value < 2 ^ shortBits) ⌝ }
     ensures { λ r. ⌜ (Formed f aligned → (r ≡ true) ↔ Making f aligned (λ (n : ℕ). Meets n x × Meets (roundOff direction n j) y)) ⌝ }
 {
@@ -90,4 +86,27 @@ pub(crate) fn rounds(
         return true;
     }
     ask_last(aligned, f, x, z, j, 1, added, odd)
+}
+
+// Whether they make a number that meets x and, rounded to the unit `rounded`, keeps a part that meets `kept`. That mask is moved down by the
+// zeros that are added, which must fit it, and up by the bits that are rounded off.
+pub(crate) fn rounds_at(
+    aligned: Aligned,
+    f: u64,
+    direction: Direction,
+    unit: Unit,
+    rounded: Unit,
+    x: Mask,
+    kept: Mask,
+) -> bool
+    requires { ⌜ (columnsOf f < 64) × (unit .0 < 2 ^ 63) × (rounded .0 ≤ unit .0 + 1) × Inside x × (kept .care < 2 ^ shortBits) × (kept .value < 2 ^ shortBits) ⌝ }
+    ensures { λ r. ⌜ (Formed f aligned → (r ≡ true) ↔ Making f aligned (λ (n : ℕ). Meets n x × Meets (keptPart direction n (unit .0) (rounded .0)) kept)) ⌝ }
+{
+    let place = rounded.0 + GUARD_BITS;
+    let up = minus(unit.0, place);
+    if bits::low(kept.value, up) != 0 {
+        return false;
+    }
+    let down = minus(place, unit.0);
+    rounds(aligned, f, direction, down, x, mask::high(kept, up))
 }

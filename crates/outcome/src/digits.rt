@@ -1,7 +1,7 @@
 // Whether two aligned significands make a number of so many binary digits whose word meets a mask.
 use crate::Aligned;
 use crate::ask::ask;
-use crate::ask::rounds;
+use crate::ask::rounds_at;
 use crate::masks;
 use crate::most;
 use crate::sought::Fractions;
@@ -95,21 +95,10 @@ fn rounds_to(
     if !fractions.possible {
         return false;
     }
-    let kept = masks::topped(2, f, quotient, fractions.fraction);
-    let place = rounded_unit(f, count, unit).0 + GUARD_BITS;
-    let up = minus(unit.0, place);
-    if bits::low(kept.value, up) != 0 {
-        return false;
-    }
     let x = masks::digits(f + COLUMNS, count);
-    rounds(
-        aligned,
-        f,
-        direction,
-        minus(place, unit.0),
-        x,
-        mask::high(kept, up),
-    )
+    let rounded = rounded_unit(f, count, unit);
+    let kept = masks::topped(2, f, quotient, fractions.fraction);
+    rounds_at(aligned, f, direction, unit, rounded, x, kept)
 }
 
 // Whether they make a number of so many digits with `quotient` above the fraction, whose word meets c. It is asked about in the direction

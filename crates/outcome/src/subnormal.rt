@@ -1,6 +1,6 @@
 // The numbers below the smallest normal one: where nothing is rounded off, one question serves for all of them.
 use crate::Aligned;
-use crate::ask::rounds;
+use crate::ask::rounds_at;
 use crate::digits::exact;
 use crate::digits::fits;
 use crate::fewest;
@@ -40,19 +40,15 @@ fn subnormal(format: Format, sign: u64, unit: Unit, aligned: Aligned, c: Mask, s
     if !fractions.possible {
         return false;
     }
-    let fraction = fractions.fraction;
-    let up = minus(unit.0, GUARD_BITS);
-    if bits::low(fraction.value, up) != 0 {
-        return false;
-    }
     let x = masks::below(f + COLUMNS, small);
-    rounds(
+    rounds_at(
         aligned,
         f,
         Direction::TowardZero,
-        minus(GUARD_BITS, unit.0),
+        unit,
+        Unit(0),
         x,
-        mask::high(fraction, up),
+        fractions.fraction,
     )
 }
 
