@@ -1,5 +1,5 @@
 -- Pairs that need no question of their own: those whose smaller exponent field is far below the larger one have one answer, and where c's mask
--- lets through no exponent field near the larger one only a zero sum is left, with a gap of 1 at most. Assumes nothing.
+-- lets through no exponent field near the larger one only a zero sum is left; with a gap of 2 or more, near is at most 1 below. Assumes nothing.
 use mathlib.Core.Logic.{_⊎_, inl, inr, ⊎-elim}
 use mathlib.Core.Path.{_≡_, refl, subst}
 use Prim.Native.Nat.{ℕ, zero, suc, _+_, _-_, _≤_, _<_}
@@ -43,29 +43,42 @@ low-near f E (suc e) h l = go (decLe (E - 1 - (suc e - 1)) 1)
     go (yes q) = omega arith
     go (no q) = absurd (omega arith)
 
-module _ (j : Job) (valid : Valid j) (o : ℕ) (E e : Biased) (finite : E .0 < allOnes (j .setting .format)) (under : e .0 ≤ E .0) where
-  pub near-or-zero : InOrder (PairFits j) o E e → Classed (j .setting .format) (j .c .mask) E e → LetsNear j E ⊎ (LetsZero j × (E .0 ≤ e .0 + 1))
-  unfolding leastField
-  near-or-zero P classed = go (r .field .0) refl
+module _ (j : Job) (valid : Valid j) (o : ℕ) (E e : Biased) (finite : E .0 < allOnes (j .setting .format)) (under : e .0 ≤ E .0) (P : InOrder (PairFits j) o E e)
+    (classed : Classed (j .setting .format) (j .c .mask) E e) where
+  abbrev f : ℕ
+  f = j .setting .format .f
+
+  r : ClassFieldReached j E (record { order = o; low = lowField f E e })
+  r = class-reached j valid o E e finite under P classed
+
+  some : 1 ≤ E .0
+  some = ⊎-elim (λ h. omega arith) (λ h. omega arith) (classed .normal)
+
+  moved-meets : (i : ℕ) → r .field .0 ≡ i → Meets (movedField (farGap f) (unitOf E .0) i) (exponentMask (j .setting .format) (j .c .mask))
+  moved-meets i is = subst (λ (n : ℕ). Meets (movedField (farGap f) (unitOf E .0) n) (exponentMask (j .setting .format) (j .c .mask))) is (r .meets)
+
+  -- of a sum that is not 0
+  nonzero-near : (i below : ℕ) → r .field .0 ≡ suc i → farGap f ≤ i + below → LetsNear j below E
+  nonzero-near i below is least = record {
+    field = suc i + unitOf E .0 - farGap f;
+    meets = moved-meets (suc i) is;
+    least = omega arith;
+    most = omega (arith, r .most, some);
+  }
+
+  pub near-or-zero : LetsNear j (farGap f) E ⊎ LetsZero j
+  near-or-zero = go (r .field .0) refl
     where
-      f : ℕ
-      f = j .setting .format .f
+      go : (i : ℕ) → r .field .0 ≡ i → LetsNear j (farGap f) E ⊎ LetsZero j
+      go zero is = inr (record { exponent = moved-meets 0 is; fraction = r .zero-meets is })
+      go (suc i) is = inl (nonzero-near i (farGap f) is (omega arith))
 
-      r : ClassFieldReached j E (record { order = o; low = lowField (j .setting .format .f) E e })
-      r = class-reached j valid o E e finite under P classed
-
-      some : 1 ≤ E .0
-      some = ⊎-elim (λ h. omega arith) (λ h. omega arith) (classed .normal)
-
-      go : (i : ℕ) → r .field .0 ≡ i → LetsNear j E ⊎ (LetsZero j × (E .0 ≤ e .0 + 1))
-      go zero z = inr (record { exponent = subst (λ (n : ℕ). Meets (movedField (farGap f) (unitOf E .0) n) (exponentMask (j .setting .format) (j .c .mask))) z (r .meets); fraction = r .zero-meets z }, near (decLe (lowField f E e .0 + 2) (topField f .0)))
-        where
-          near : Dec (lowField f E e .0 + 2 ≤ topField f .0) → E .0 ≤ e .0 + 1
-          near (yes l) = absurd (omega (arith, z, rw (le-leb (lowField f E e .0 + 2) (topField f .0) l) at (r .least)))
-          near (no l) = low-near f (E .0) (e .0) under (omega arith)
-      go (suc i) z = inl (record {
-        field = suc i + unitOf E .0 - farGap f;
-        meets = subst (λ (n : ℕ). Meets (movedField (farGap f) (unitOf E .0) n) (exponentMask (j .setting .format) (j .c .mask))) z (r .meets);
-        least = omega arith;
-        most = omega (arith, r .most, some);
-      })
+  -- with a gap of 2 or more
+  pub near-sum : e .0 + 2 ≤ E .0 → LetsNear j 1 E
+  unfolding leastField
+  near-sum apart = go (r .field .0) refl (decLe (lowField f E e .0 + 2) (topField f .0))
+    where
+      go : (i : ℕ) → r .field .0 ≡ i → Dec (lowField f E e .0 + 2 ≤ topField f .0) → LetsNear j 1 E
+      go i is (no l) = absurd (omega (arith, low-near f (E .0) (e .0) under (omega arith)))
+      go zero is (yes l) = absurd (omega (arith, is, rw (le-leb (lowField f E e .0 + 2) (topField f .0) l) at (r .least)))
+      go (suc i) is (yes l) = nonzero-near i 1 is (omega (arith, is, rw (le-leb (lowField f E e .0 + 2) (topField f .0) l) at (r .least)))

@@ -15,11 +15,11 @@ use Rattle.classes.specs.Class.{farGap}
 abbrev pub FarBelow : Format → Biased → Biased → Type 0
 FarBelow F E e = ((1 ≤ e .0) × (e .0 + farGap (F .f) ≤ E .0) × (E .0 < allOnes F)) ⊎ ((E .0 ≡ allOnes F) × (e .0 < allOnes F))
 
--- c's mask lets through the exponent field of a sum that is not 0, where E is the larger field: one from E - farGap to E + 2
-pub record LetsNear (j : Job) (E : Biased) : Type 0 where
+-- c's mask lets through an exponent field from so many below E to 2 above it, as a sum that is not 0 has one where E is the larger field
+pub record LetsNear (j : Job) (below : ℕ) (E : Biased) : Type 0 where
   pub field : ℕ
   pub meets : Meets field (exponentMask (j .setting .format) (j .c .mask))
-  pub least : E .0 ≤ field + farGap (j .setting .format .f)
+  pub least : E .0 ≤ field + below
   pub most : field ≤ E .0 + 2
 
 -- it lets through a zero

@@ -1,11 +1,15 @@
--- Which fields of b need no question with one of a: those of which an earlier field of a or of b has the answer, and those
--- whose sums have exponent fields that c's mask does not let through. Assumes nothing.
-use mathlib.Core.Logic.{_⊎_, inl, inr, ⊎-elim}
+-- Which pairs of exponent fields need no question: those of which an earlier field of a or of b has the answer, and those whose sums have
+-- exponent fields that c's mask does not let through. Assumes nothing.
+use mathlib.Core.Logic.{inl, inr, ⊎-elim}
 use mathlib.Core.Path.{_≡_, refl, subst}
 use Prim.Native.Nat.{ℕ, _+_, _-_, _^_, _≤_, _<_}
 use native.Mathlib.Decide.{decLe, decLt}
 use native.Mathlib.Omega.{arith}
-use Rattle.mask.specs.Mask.{Meets}
+use Rattle.format.specs.declared.Format.{Format}
+use Rattle.format.specs.Format.{Supported, wordBits}
+use Rattle.format.proofs.Room.{exponent-room}
+use Rattle.mask.specs.declared.Mask.{Mask}
+use Rattle.mask.specs.Mask.{WellFormed, Meets}
 use Rattle.mask.specs.Next.{MetFrom}
 use Rattle.job.specs.declared.Job.{Job}
 use Rattle.job.specs.Job.{Valid}
@@ -13,18 +17,28 @@ use Rattle.word.specs.declared.Biased.{Biased}
 use Rattle.word.specs.Word.{allOnes}
 use Rattle.word.specs.Masks.{exponentMask}
 use Rattle.special.specs.Asked.{fieldIs, PairFits}
-use Rattle.classes.specs.Class.{farGap}
+use Rattle.classes.specs.Class.{farGap, InOrder}
 use Rattle.classes.specs.Far.{FarBelow, LetsNear, LetsZero}
-use Rattle.classes.proofs.Far.{far-alike, near-or-zero}
+use Rattle.classes.proofs.Far.{far-alike, near-or-zero, near-sum}
 use Rattle.answers.specs.Kept.{ClassEnd, NoPartner}
 use Rattle.search.specs.declared.span.Span.{Span}
-use Rattle.search.specs.Walk.{NoneBefore, NoneBelow, SpanOf}
-use Rattle.search.proofs.Pairs.{pair-range, pair-asked}
+use Rattle.search.specs.Walk.{NoneBefore, NoneBelow, NoResult, OnlyFar, SpanOf}
+use Rattle.search.proofs.Pairs.{field-formed, pair-range, pair-asked}
 
 -- ---- fields that do not meet their masks
+
+-- the next field of the format that meets the mask on it
+pub met-field : (F : Format) (m p : Mask) (n r : ℕ) → Supported F → WellFormed (wordBits F) m → p ≡ exponentMask F m → (F .w < 64 → WellFormed (F .w) p → MetFrom (F .w) p n r)
+    → MetFrom (F .w) (exponentMask F m) n r
+met-field F m p n r supported formed is met = subst (λ (q : Mask). WellFormed (F .w) q → MetFrom (F .w) q n r) is (met (omega (arith, exponent-room F supported))) (field-formed F m formed)
+
 module _ (j : Job) (valid : Valid j) (n r : ℕ) where
-  fields-met : MetFrom (j .setting .format .w) (exponentMask (j .setting .format) (j .a .mask)) n r → (d e : Biased) → n ≤ d .0 → d .0 < r → PairFits j d e → ⊥
-  fields-met met d e from to P = met .none (d .0) from to (pair-range j d e valid P .a-lt) (pair-asked j d e valid P .a-exponent)
+  pub none-met : MetFrom (j .setting .format .w) (exponentMask (j .setting .format) (j .a .mask)) n r → NoneBelow j (fieldIs n) → NoneBelow j (fieldIs r)
+  none-met met none d e l = go (decLt (d .0) n)
+    where
+      go : Dec (d .0 < n) → PairFits j d e → ⊥
+      go (yes h) P = none d e h P
+      go (no h) P = met .none (d .0) (omega arith) l (pair-range j d e valid P .a-lt) (pair-asked j d e valid P .a-exponent)
 
   pub partners-met : MetFrom (j .setting .format .w) (exponentMask (j .setting .format) (j .b .mask)) n r → (ea : Biased) → NoPartner j ea (fieldIs n) (fieldIs r)
   partners-met met ea d from to P = met .none (d .0) from to (pair-range j ea d valid P .b-lt) (pair-asked j ea d valid P .b-exponent)
@@ -38,53 +52,74 @@ partners-join j ea n m r one two d from to = go (decLt (d .0) (m .0))
     go (no l) = two d (omega arith) to
 
 -- ---- fields of which another one has the answer
-module _ (j : Job) (valid : Valid j) (ea : Biased) where
+module _ (j : Job) (valid : Valid j) where
   abbrev gap : ℕ
   gap = farGap (j .setting .format .f)
 
   abbrev ones : ℕ
   ones = allOnes (j .setting .format)
 
-  -- a field from n on of which e is far below, where n is one that is far above it, or all ones
-  far-above : (e n d : Biased) → 1 ≤ e .0 → e .0 < ones → d .0 < 2 ^ j .setting .format .w → (e .0 + gap ≤ n .0) ⊎ (n .0 ≡ ones) → n .0 ≤ d .0 → FarBelow (j .setting .format) d e
-  far-above e n d some finite l above from = go (decLt (d .0) ones)
+  -- a field of a is far below one of b, where that is no finite one nearer to it
+  pub only-far : (d e : Biased) → d .0 < ones → (e .0 < ones → (1 ≤ d .0) × (d .0 + gap ≤ e .0)) → PairFits j d e → FarBelow (j .setting .format) e d
+  only-far d e finite far P = go (decLt (e .0) ones)
     where
-      go : Dec (d .0 < ones) → FarBelow (j .setting .format) d e
-      go (yes q) = inl (some, ⊎-elim (λ h. omega arith) (λ h. omega arith) above, q)
-      go (no q) = inr (omega arith, finite)
+      go : Dec (e .0 < ones) → FarBelow (j .setting .format) e d
+      go (yes l) = inl (far l .0, far l .1, l)
+      go (no l) = inr (omega (arith, pair-range j d e valid P .b-lt), finite)
+
+  far-lower : (E e g : Biased) → FarBelow (j .setting .format) E e → 1 ≤ g .0 → g .0 ≤ e .0 → FarBelow (j .setting .format) E g
+  far-lower E e g (inl h) some le = inl (some, omega (arith, h .1), h .2)
+  far-lower E e g (inr h) some le = inr (h .0, omega (arith, h .1))
 
   -- an earlier field of a that meets its mask has the answer
-  pub earlier-answered : (first n d : Biased) → NoneBelow j ea → ea .0 < ones → 1 ≤ first .0 → first .0 < ea .0 → Meets (first .0) (exponentMask (j .setting .format) (j .a .mask))
-      → (ea .0 + gap ≤ n .0) ⊎ (n .0 ≡ ones) → n .0 ≤ d .0 → PairFits j ea d → ⊥
-  earlier-answered first n d none finite some below met above from P =
-      let l = pair-range j ea d valid P .b-lt in
-      none first d below
-      (far-alike j valid 1 d ea first (far-above ea n d (omega arith) finite l above from)
-      (far-above first n d some (omega arith) l (⊎-elim (λ h. inl (omega arith)) inr above) from) met P)
+  pub earlier-answered : (first d e : Biased) → (PairFits j first e → ⊥) → 1 ≤ first .0 → first .0 ≤ d .0 → Meets (first .0) (exponentMask (j .setting .format) (j .a .mask))
+      → FarBelow (j .setting .format) e d → PairFits j d e → ⊥
+  earlier-answered first d e none some le met far P = none (far-alike j valid 1 e d first far (far-lower e d first far some le) met P)
+
+  -- so has it for all that admit a case only from far below
+  pub none-far : (first n r : Biased) → 1 ≤ first .0 → first .0 < n .0 → (first .0 < 2 ^ j .setting .format .w → Meets (first .0) (exponentMask (j .setting .format) (j .a .mask))) → NoneBelow j n → OnlyFar j n r → NoneBelow j r
+  none-far first n r some below met none far d e l = go (decLt (d .0) (n .0))
+    where
+      go : Dec (d .0 < n .0) → PairFits j d e → ⊥
+      go (yes h) P = none d e h P
+      go (no h) P = earlier-answered first d e (none first e below) some (omega arith) (met (omega (arith, pair-range j d e valid P .a-lt))) (far d e (omega arith) l P) P
 
   -- a field far below a's that was refused has the answer
-  pub field-answered : (eb d : Biased) → FarBelow (j .setting .format) ea eb → FarBelow (j .setting .format) ea d → Meets (eb .0) (exponentMask (j .setting .format) (j .b .mask))
+  pub field-answered : (ea eb d : Biased) → FarBelow (j .setting .format) ea eb → FarBelow (j .setting .format) ea d → Meets (eb .0) (exponentMask (j .setting .format) (j .b .mask))
       → (PairFits j ea eb → ⊥) → PairFits j ea d → ⊥
-  field-answered eb d far-eb far-d met none P = none (far-alike j valid 0 ea d eb far-d far-eb met P)
+  field-answered ea eb d far-eb far-d met none P = none (far-alike j valid 0 ea d eb far-d far-eb met P)
 
-  -- c's mask lets no field near a's through: a zero sum is left
-  module _ (end : Biased) (within : ClassEnd j end) (r : ℕ) (large : gap < ea .0) (last : ea .0 + gap + 1 < end .0)
-      (met : MetFrom (j .setting .format .w) (exponentMask (j .setting .format) (j .c .mask)) (ea .0 - gap) r) (past : ea .0 + gap + 1 < r) where
-    not-near : (E : Biased) → ea .0 ≤ E .0 → E .0 < ea .0 + gap → LetsNear j E → ⊥
-    not-near E from to near =
-        let l = within (record { 0 = ea .0 + gap + 1 }) ea (inl (omega arith)) last .1 in
-        met .none (near .field) (omega (arith, near .least)) (omega (arith, near .most)) (omega (arith, near .most)) (near .meets)
+  -- ---- fields near which c's mask lets none through: from n on and below r, as far as the classes answer
+  module _ (end : Biased) (within : ClassEnd j end) (n r : Biased) (inside : r .0 ≤ end .0) (none : NoResult j n r) where
+    not-near : (below : ℕ) (E : Biased) → gap < E .0 → n .0 + below ≤ E .0 → E .0 + 2 < r .0 → LetsNear j below E → ⊥
+    not-near below E large low high near =
+        let l = within (fieldIs (E .0 + 2)) E (inl (omega arith)) (omega arith) .1 in
+        none (near .field) (omega (arith, near .least)) (omega (arith, near .most)) (omega (arith, near .most, l)) (near .meets)
 
-    pub only-zero : (d : Biased) → d .0 < ea .0 + gap → PairFits j ea d → LetsZero j × (ea .0 ≤ d .0 + 1) × (d .0 ≤ ea .0 + 1)
-    only-zero d l P = go (decLe (d .0) (ea .0))
+    -- no sum of fields 2 or more apart is left
+    pub no-sum : (o : ℕ) (E e : Biased) → gap < E .0 → n .0 + 1 ≤ E .0 → E .0 + 2 < r .0 → e .0 + 2 ≤ E .0 → InOrder (PairFits j) o E e → ⊥
+    no-sum o E e large low high apart P =
+        let by = within E e (inl (omega arith)) (omega arith) in
+        not-near 1 E large low high (near-sum j valid o E e (by .1) (omega arith) P (by .0) apart)
+
+    -- a zero sum is left, if b's field is nearer than the far gap
+    only-zero : (d e : Biased) → gap < d .0 → n .0 + gap ≤ d .0 → d .0 + gap + 1 < r .0 → e .0 < d .0 + gap → PairFits j d e → LetsZero j
+    only-zero d e large low high l P = go (decLe (e .0) (d .0))
       where
-        go : Dec (d .0 ≤ ea .0) → LetsZero j × (ea .0 ≤ d .0 + 1) × (d .0 ≤ ea .0 + 1)
+        go : Dec (e .0 ≤ d .0) → LetsZero j
         go (yes q) =
-            let by = within ea d (inl (omega arith)) (omega arith) in
-            ⊎-elim (λ near. absurd (not-near ea (omega arith) (omega arith) near)) (λ z. (z .0, z .1, omega arith)) (near-or-zero j valid 0 ea d (by .1) q P (by .0))
+            let by = within d e (inl (omega arith)) (omega arith) in
+            ⊎-elim (λ near. absurd (not-near gap d large low (omega arith) near)) (λ z. z) (near-or-zero j valid 0 d e (by .1) q P (by .0))
         go (no q) =
-            let by = within d ea (inl (omega arith)) (omega arith) in
-            ⊎-elim (λ near. absurd (not-near d (omega arith) l near)) (λ z. (z .0, omega arith, z .1)) (near-or-zero j valid 1 d ea (by .1) (omega arith) P (by .0))
+            let by = within e d (inl (omega arith)) (omega arith) in
+            ⊎-elim (λ near. absurd (not-near gap e (omega arith) (omega arith) (omega arith) near)) (λ z. z) (near-or-zero j valid 1 e d (by .1) (omega arith) P (by .0))
+
+    pub none-nearer : (LetsZero j → ⊥) → (d e : Biased) → gap < d .0 → n .0 + gap ≤ d .0 → d .0 + gap + 1 < r .0 → PairFits j d e → d .0 + gap ≤ e .0
+    none-nearer never d e large low high P = go (decLt (e .0) (d .0 + gap))
+      where
+        go : Dec (e .0 < d .0 + gap) → d .0 + gap ≤ e .0
+        go (yes l) = absurd (never (only-zero d e large low high l P))
+        go (no l) = omega arith
 
 -- ---- the fields of b with one of a, from eb on: the questions begin at `from`
 module _ (j : Job) (ea eb : Biased) (span : Span) (none : NoneBefore j (record { a = ea; b = eb })) (is : SpanOf j ea span) (from n r : Biased) (start : from .0 ≡ eb .0 + (span .from .0 - eb .0))
@@ -102,20 +137,19 @@ module _ (j : Job) (ea eb : Biased) (span : Span) (none : NoneBefore j (record {
   none-before d e (inl l) P = none d e (inl l) P
   none-before d e (inr (same, l)) P = span-before e l (subst (λ (k : ℕ). PairFits j (fieldIs k) e) same P)
 
-  -- at its end, no pair with a's field is left, and a's fields go on at the next that meets a's mask
-  module _ (valid : Valid j) (over : span .end .0 ≤ r .0) (next : ℕ) (met : MetFrom (j .setting .format .w) (exponentMask (j .setting .format) (j .a .mask)) (ea .0 + 1) next) where
-    span-done : (d : Biased) → PairFits j ea d → ⊥
-    span-done d = go (decLt (d .0) (r .0))
-      where
-        go : Dec (d .0 < r .0) → PairFits j ea d → ⊥
-        go (yes l) = span-before d l
-        go (no l) = is .high d (omega arith)
+  -- at its end, no pair with a's field is left
+  pub none-over : span .end .0 ≤ r .0 → NoneBelow j (fieldIs (ea .0 + 1))
+  none-over over d e l = go (decLt (d .0) (ea .0)) (decLt (e .0) (r .0))
+    where
+      same : PairFits j d e → d .0 ≡ ea .0 → PairFits j ea e
+      same P is = subst (λ (k : ℕ). PairFits j (fieldIs k) e) is P
 
-    pub none-next : NoneBefore j (record { a = fieldIs next; b = fieldIs 0 })
-    none-next d e (inr (same, l)) = absurd (omega arith)
-    none-next d e (inl l) = go (decLt (d .0) (ea .0)) (decLt (ea .0) (d .0))
-      where
-        go : Dec (d .0 < ea .0) → Dec (ea .0 < d .0) → PairFits j d e → ⊥
-        go (yes p) q P = none d e (inl p) P
-        go (no p) (yes q) P = fields-met j valid (ea .0 + 1) next met d e (omega arith) l P
-        go (no p) (no q) P = span-done e (subst (λ (k : ℕ). PairFits j (fieldIs k) e) (omega arith) P)
+      go : Dec (d .0 < ea .0) → Dec (e .0 < r .0) → PairFits j d e → ⊥
+      go (yes p) q P = none d e (inl p) P
+      go (no p) (yes q) P = span-before e q (same P (omega arith))
+      go (no p) (no q) P = is .high e (omega arith) (same P (omega arith))
+
+-- and a's fields go on at one below which none has a case
+pub none-next : (j : Job) (n : Biased) → NoneBelow j n → NoneBefore j (record { a = n; b = fieldIs 0 })
+none-next j n none d e (inl l) P = none d e l P
+none-next j n none d e (inr (same, l)) P = absurd (omega arith)

@@ -4,7 +4,7 @@
 use mathlib.Core.Bool.{false}
 use mathlib.Core.Logic.{_⊎_}
 use mathlib.Core.Path.{_≡_}
-use Prim.Native.Nat.{ℕ, _^_, _≤_, _<_}
+use Prim.Native.Nat.{ℕ, _+_, _^_, _≤_, _<_}
 use Rattle.format.specs.Format.{wordBits}
 use Rattle.choice.specs.Walk.{FixedFrom, EndOfWalk}
 use Rattle.job.specs.declared.Job.{Job}
@@ -16,7 +16,8 @@ use Rattle.word.specs.Masks.{exponentMask}
 use Rattle.word.specs.declared.Biased.{Biased}
 use Rattle.special.specs.Asked.{fieldIs, PairFits}
 use Rattle.pair.specs.Signs.{signsLeft}
-use Rattle.classes.specs.Far.{LetsZero}
+use Rattle.classes.specs.Class.{InOrder}
+use Rattle.classes.specs.Far.{FarBelow, LetsZero}
 use Rattle.answers.specs.Kept.{ClassEnd, NoPartner}
 use Rattle.search.specs.declared.Exponents.{Exponents}
 use Rattle.search.specs.declared.pass.Pass.{Pass}
@@ -40,6 +41,18 @@ NoneBefore j p = (d e : Biased) → Before d e p → PairFits j d e → ⊥
 -- none with an exponent field of a below n does
 abbrev pub NoneBelow : Job → Biased → Type 0
 NoneBelow j n = (d e : Biased) → d .0 < n .0 → PairFits j d e → ⊥
+
+-- c's mask lets through no exponent field from n on and below r
+abbrev pub NoResult : Job → Biased → Biased → Type 0
+NoResult j n r = (d : ℕ) → n .0 ≤ d → d < r .0 → d < 2 ^ j .setting .format .w → Meets d (exponentMask (j .setting .format) (j .c .mask)) → ⊥
+
+-- each field of a from n on and below r admits a case only with one of b that it is far below
+abbrev pub OnlyFar : Job → Biased → Biased → Type 0
+OnlyFar j n r = (d e : Biased) → n .0 ≤ d .0 → d .0 < r .0 → PairFits j d e → FarBelow (j .setting .format) e d
+
+-- no pair admits a case whose larger field is from n on and below r, and whose smaller one is 2 or more below it
+abbrev pub NoSum : Job → Biased → Biased → Type 0
+NoSum j n r = (o : ℕ) (E e : Biased) → n .0 ≤ E .0 → E .0 < r .0 → e .0 + 2 ≤ E .0 → InOrder (PairFits j) o E e → ⊥
 
 -- what a pass over the exponent fields asks: the masks on them, one past the last one, a field from 1 on that meets a's mask, whether signs are
 -- left for finite operands, whether c may be a zero, and one past the fields that the classes of pairs answer for

@@ -1,4 +1,5 @@
 // The masked search: whether a case is left, and the operands of the one that two random words choose.
+mod field;
 mod pass;
 mod span;
 mod walk;

@@ -1,5 +1,6 @@
 // A pass over the exponent fields: the first pair of them that admits a case.
 use crate::Exponents;
+use crate::field::field_from;
 use crate::span::after;
 use crate::span::partner_from;
 use crate::span::span_of;
@@ -76,7 +77,7 @@ pub(crate) fn first_pair(job: Job, start: Exponents) -> Exponents
             let next = after(job, pass, ea, eb);
             eb = partner_from(job, pass, ea, next, span.end, &table);
         }
-        ea = Biased(met_from(job.setting.format.w, pass.a, ea.0 + 1));
+        ea = field_from(job, pass, Biased(ea.0 + 1));
         eb = Biased(0);
     }
     Exponents { a: ea, b: eb }

@@ -1,4 +1,5 @@
 // The fields of b that are left to ask with one of a, and the step from one to the next.
+use crate::field::result_from;
 use crate::pass::Pass;
 use answers::PLACES;
 use answers::open::open_from;
@@ -8,7 +9,6 @@ use job::Job;
 use mask::meets;
 use mask::next::met_from;
 use word::Biased;
-ghost use mathlib.Core.Bool.{false};
 ghost use mathlib.Core.Path.{_≡_};
 ghost use Prim.Native.Nat.{_+_, _^_, _≤_, _<_};
 ghost use Rattle.format.specs.Format.{Supported};
@@ -17,9 +17,8 @@ ghost use Rattle.word.specs.declared.Biased.{Biased};
 ghost use Rattle.word.specs.Masks.{exponentMask};
 ghost use Rattle.job.specs.Job.{Valid};
 ghost use Rattle.special.specs.Asked.{PairFits};
-ghost use Rattle.classes.specs.Far.{LetsZero};
 ghost use Rattle.answers.specs.Kept.{Kept, NoPartner};
-ghost use Rattle.search.specs.Walk.{NoneBelow, PassOf, SpanIn, SpanOf};
+ghost use Rattle.search.specs.Walk.{NoneBelow, NoSum, PassOf, SpanIn, SpanOf};
 
 // Exponent fields of b, from `from` on and below `end`.
 pub struct Span {
@@ -48,29 +47,21 @@ fn span_end(job: Job, pass: Pass, ea: Biased) -> Biased
     }
 }
 
-// Whether c's mask may let through the exponent field of a sum that is not 0, of a's field with one of b's below `end`. Such a field is
-// near a's; where no class answers for all of b's, this is true.
-fn lets_near(job: Job, pass: Pass, ea: Biased, end: Biased) -> bool
-    requires { ⌜ Supported (job .setting .format) × (pass .past .0 ≡ 2 ^ job .setting .format .w) × (ea .0 < pass .past .0) ⌝ }
-    ensures { λ r. ⌜ (r ≡ false → Valid job → PassOf job pass
-        → (ea .0 + 2 ≤ 2 ^ job .setting .format .w) × ((d : Biased) → d .0 < end .0 → PairFits job ea d → LetsZero job × (ea .0 ≤ d .0 + 1) × (d .0 ≤ ea .0 + 1))) ⌝ }
+// From one field on, the first whose sums with one that is 2 or more below it may have an exponent field that c's mask lets through: from 1
+// below the larger field to 2 above it. Those passed over have classes that answer for them.
+fn sum_from(job: Job, pass: Pass, larger: Biased) -> Biased
+    requires { ⌜ Supported (job .setting .format) ⌝ }
+    ensures { λ r. ⌜ (larger .0 ≤ r .0) × (Valid job → PassOf job pass → NoSum job larger r) ⌝ }
 {
-    let gap = job.setting.format.f + FAR_GAP;
-    if ea.0 <= gap {
-        return true;
+    if larger.0 <= job.setting.format.f + FAR_GAP {
+        return larger;
     }
-    let last = ea.0 + gap;
-    if pass.end.0 <= last + 1 {
-        return true;
-    }
-    if last < end.0 {
-        return true;
-    }
-    met_from(job.setting.format.w, pass.c, ea.0 - gap) <= last + 1
+    let near = result_from(job, pass, Biased(larger.0 - 1));
+    Biased(larger.0 + minus(minus(near.0, 2), larger.0))
 }
 
 // The fields of b that are left to ask with one of a, where no smaller field of a has a case. With no signs left for finite operands they
-// begin at those of infinities and NaNs; where only a zero sum is left, they are a's own field and those next to it.
+// begin at those of infinities and NaNs; where c's mask lets through no sum by its exponent, next to a's.
 pub(crate) fn span_of(job: Job, pass: Pass, ea: Biased) -> Span
     requires { ⌜ Supported (job .setting .format) × (pass .past .0 ≡ 2 ^ job .setting .format .w) × (ea .0 < pass .past .0) ⌝ }
     ensures { λ r. ⌜ (Valid job → PassOf job pass → SpanIn job ea r) × (Valid job → PassOf job pass → NoneBelow job ea → SpanOf job ea r) ⌝ }
@@ -87,21 +78,15 @@ pub(crate) fn span_of(job: Job, pass: Pass, ea: Biased) -> Span
     if !pass.signs & (ea.0 < ones.0) {
         return Span { from: ones, end };
     }
-    if lets_near(job, pass, ea, end) {
+    if sum_from(job, pass, ea).0 == ea.0 {
         return Span {
             from: Biased(0),
             end,
         };
     }
-    if pass.zero {
-        return Span {
-            from: Biased(minus(ea.0, 1)),
-            end: Biased(ea.0 + 2),
-        };
-    }
     Span {
-        from: past,
-        end: past,
+        from: Biased(minus(ea.0, 1)),
+        end,
     }
 }
 
@@ -121,7 +106,20 @@ pub(crate) fn after(job: Job, pass: Pass, ea: Biased, eb: Biased) -> Biased
     Biased(eb.0 + 1)
 }
 
-// From n on, the first field of b that meets its mask and whose class is not known to be closed, as far as they go to `end`.
+// From eb on, a field of b before which none admits a case with a's: as far as the closed classes tell, or where eb's class is open and eb is
+// 2 or more above a's, as far as c's mask does.
+fn asked_from(job: Job, pass: Pass, ea: Biased, eb: Biased, table: &[u64; PLACES]) -> Biased
+    requires { ⌜ Supported (job .setting .format) ⌝ }
+    ensures { λ r. ⌜ (eb .0 ≤ r .0) × (Valid job → PassOf job pass → Kept job (now (table .entry)) → NoPartner job ea eb r) ⌝ }
+{
+    let open = open_from(job, ea, eb, pass.end, table);
+    if (open.0 == eb.0) & (ea.0 < minus(eb.0, 1)) {
+        return sum_from(job, pass, eb);
+    }
+    open
+}
+
+// From n on, the first field of b that meets its mask and that neither a closed class nor c's mask rules out, as far as they go to `end`.
 pub(crate) fn partner_from(
     job: Job,
     pass: Pass,
@@ -137,11 +135,11 @@ pub(crate) fn partner_from(
     let w = job.setting.format.w;
     let mut eb = Biased(met_from(w, pass.b, n.0));
     while eb.0 < end.0 {
-        let open = open_from(job, ea, eb, pass.end, table);
-        if open.0 == eb.0 {
+        let next = asked_from(job, pass, ea, eb, table);
+        if next.0 == eb.0 {
             return eb;
         }
-        eb = Biased(met_from(w, pass.b, open.0));
+        eb = Biased(met_from(w, pass.b, next.0));
     }
     eb
 }

@@ -2,22 +2,19 @@
 -- fields still to come. Assumes nothing.
 use mathlib.Core.Bool.{false≢true}
 use mathlib.Core.Logic.{inl}
-use mathlib.Core.Path.{sym, _∙_, subst}
-use Prim.Native.Nat.{ℕ, _+_, _-_, _^_, _≤_, _<_}
+use mathlib.Core.Path.{sym, _∙_}
+use Prim.Native.Nat.{_+_, _-_, _^_, _≤_, _<_}
 use native.Mathlib.Omega.{arith}
-use Rattle.format.proofs.Room.{exponent-room}
-use Rattle.mask.specs.declared.Mask.{Mask}
-use Rattle.mask.specs.Mask.{WellFormed, Meets}
-use Rattle.mask.specs.Next.{MetFrom}
+use Rattle.mask.specs.Mask.{Meets}
 use Rattle.job.specs.Job.{Valid}
 use Rattle.word.specs.Masks.{exponentMask}
 use Rattle.special.specs.Asked.{fieldIs, PairFits}
 use Rattle.classes.specs.Class.{Asked}
 use Rattle.answers.specs.Kept.{Kept, NoPartner}
 use Rattle.answers.proofs.Keeping.{kept-fresh}
-use Rattle.search.specs.Walk.{NoneBefore}
-use Rattle.search.proofs.Pairs.{field-formed, pair-left}
-use Rattle.search.proofs.Spans.{partners-join, none-before, none-next}
+use Rattle.search.specs.Walk.{NoneBefore, NoneBelow}
+use Rattle.search.proofs.Pairs.{pair-left}
+use Rattle.search.proofs.Spans.{partners-join, none-before, none-over, none-next}
 use borrow.Author.Needs.{needs}
 use Rattle.search.proofs.pass.first_pair.Statement.{statement}
 use Rattle.search.proofs.pass.first_pair.Tie as tie
@@ -57,19 +54,14 @@ before-at c valid none =
     (c .before .before .before .before .before .span-of .ensures .1 valid is (λ d e l. none d e (inl l))) (fieldIs (c .before .before .before .before .before .before .before .before .pairs .eb .0 + c .before .before .before .before .minus .result)) (c .before .partner-from .result) (c .loop .eb)
     (omega (arith, c .before .before .before .before .minus .ensures)) (c .before .partner-from .ensures .1 valid is (c .before .before .before .before .before .before .before .before .pairs .inv .0 valid) .1) (c .loop .inv .1 valid .2)
 
--- nor does one before a's next field, where b's are over
-next-at : (c : tie.At-loop Inv-loop μ-loop Inv-pairs μ-pairs) → Valid (c .before .before .before .before .before .before .before .before .before .before .before .before .args .job) → NoneBefore (c .before .before .before .before .before .before .before .before .before .before .before .before .args .job) (record { a = c .before .before .before .before .before .before .before .before .pairs .ea; b = c .before .before .before .before .before .before .before .before .pairs .eb })
-    → c .before .before .before .before .before .span-of .result .end .0 ≤ c .loop .eb .0 → (next : ℕ)
-    → (c .before .before .before .before .before .before .before .before .before .before .before .before .args .job .setting .format .w < 64 → WellFormed (c .before .before .before .before .before .before .before .before .before .before .before .before .args .job .setting .format .w) (c .before .before .before .before .before .before .before .before .before .before .before .pass-of .result .a) → MetFrom (c .before .before .before .before .before .before .before .before .before .before .before .before .args .job .setting .format .w) (c .before .before .before .before .before .before .before .before .before .before .before .pass-of .result .a) (c .before .before .before .before .before .before .before .before .pairs .ea .0 + 1) next)
-    → NoneBefore (c .before .before .before .before .before .before .before .before .before .before .before .before .args .job) (record { a = fieldIs next; b = fieldIs 0 })
-next-at c valid none over next met =
+-- nor does one with a's field, where b's are over
+over-at : (c : tie.At-loop Inv-loop μ-loop Inv-pairs μ-pairs) → Valid (c .before .before .before .before .before .before .before .before .before .before .before .before .args .job) → NoneBefore (c .before .before .before .before .before .before .before .before .before .before .before .before .args .job) (record { a = c .before .before .before .before .before .before .before .before .pairs .ea; b = c .before .before .before .before .before .before .before .before .pairs .eb })
+    → c .before .before .before .before .before .span-of .result .end .0 ≤ c .loop .eb .0 → NoneBelow (c .before .before .before .before .before .before .before .before .before .before .before .before .args .job) (fieldIs (c .before .before .before .before .before .before .before .before .pairs .ea .0 + 1))
+over-at c valid none over =
     let is = c .before .before .before .before .before .before .before .before .before .before .before .pass-of .ensures .1 valid in
-    let F = c .before .before .before .before .before .before .before .before .before .before .before .before .args .job .setting .format in
-    none-next (c .before .before .before .before .before .before .before .before .before .before .before .before .args .job) (c .before .before .before .before .before .before .before .before .pairs .ea) (c .before .before .before .before .before .before .before .before .pairs .eb) (c .before .before .before .before .before .span-of .result) none
+    none-over (c .before .before .before .before .before .before .before .before .before .before .before .before .args .job) (c .before .before .before .before .before .before .before .before .pairs .ea) (c .before .before .before .before .before .before .before .before .pairs .eb) (c .before .before .before .before .before .span-of .result) none
     (c .before .before .before .before .before .span-of .ensures .1 valid is (λ d e l. none d e (inl l))) (fieldIs (c .before .before .before .before .before .before .before .before .pairs .eb .0 + c .before .before .before .before .minus .result)) (c .before .partner-from .result) (c .loop .eb)
-    (omega (arith, c .before .before .before .before .minus .ensures)) (c .before .partner-from .ensures .1 valid is (c .before .before .before .before .before .before .before .before .pairs .inv .0 valid) .1) (c .loop .inv .1 valid .2)
-    valid over next
-    (subst (λ (m : Mask). WellFormed (F .w) m → MetFrom (F .w) m (c .before .before .before .before .before .before .before .before .pairs .ea .0 + 1) next) (is .a) (met (omega (arith, exponent-room F (c .before .before .before .before .before .before .before .before .before .before .before .before .pre)))) (field-formed F (c .before .before .before .before .before .before .before .before .before .before .before .before .args .job .a .mask) (valid .a .mask)))
+    (omega (arith, c .before .before .before .before .minus .ensures)) (c .before .partner-from .ensures .1 valid is (c .before .before .before .before .before .before .before .before .pairs .inv .0 valid) .1) (c .loop .inv .1 valid .2) over
 
 pass-of-requires : tie.Need-pass-of-requires Inv-loop μ-loop Inv-pairs μ-pairs
 pass-of-requires c κs = c .pre
@@ -83,8 +75,8 @@ span-of-requires c κs = (c .before .before .before .before .before .before .pre
 minus-requires : tie.Need-minus-requires Inv-loop μ-loop Inv-pairs μ-pairs
 minus-requires c κs = search needs
 
-add-met-from : tie.Need-add-met-from Inv-loop μ-loop Inv-pairs μ-pairs
-add-met-from c = search needs
+add-t13 : tie.Need-add-t13 Inv-loop μ-loop Inv-pairs μ-pairs
+add-t13 c = search needs
 
 partner-from-requires : tie.Need-partner-from-requires Inv-loop μ-loop Inv-pairs μ-pairs
 partner-from-requires c κs = c .before .before .before .before .before .before .before .before .before .before .pre
@@ -127,19 +119,23 @@ loop-again c =
           (got .0, after .0, partners-join (a .job) ea (c .before .before .before .before .before .before .before .before .before .before .partner-from .result) (l .eb) (p .result) (l .inv .1 valid .2) (partners-join (a .job) ea (l .eb) (next .result) (p .result) (next .ensures .1 valid (may .b-exponent) never) (after .1))),
     )
 
-add-met-from-2 : tie.Need-add-met-from-2 Inv-loop μ-loop Inv-pairs μ-pairs
-add-met-from-2 c = record { fits = omega (arith, c .before .before .before .before .before .before .before .before .before .before .if1 .taken, c .before .before .before .before .before .before .before .before .before .before .before .before .before .before .before .pass-of .ok) }
+add-t12 : tie.Need-add-t12 Inv-loop μ-loop Inv-pairs μ-pairs
+add-t12 c = record { fits = omega (arith, c .before .before .before .before .before .before .before .before .before .before .if1 .taken, c .before .before .before .before .before .before .before .before .before .before .before .before .before .before .before .pass-of .ok) }
 
-met-from-requires : tie.Need-met-from-requires Inv-loop μ-loop Inv-pairs μ-pairs
-met-from-requires c κs = search needs
+field-from-requires : tie.Need-field-from-requires Inv-loop μ-loop Inv-pairs μ-pairs
+field-from-requires c κs = (c .before .before .before .before .before .before .before .before .before .before .before .before .before .before .before .before .pre, c .before .before .before .before .before .before .before .before .before .before .before .before .before .before .before .pass-of .ensures .0)
 
 pairs-less : tie.Need-pairs-less Inv-loop μ-loop Inv-pairs μ-pairs
-pairs-less c = omega (arith, c .met-from .ensures .0, c .before .before .before .before .before .before .before .before .before .before .before .if1 .taken)
+pairs-less c = omega (arith, c .field-from .ensures .0, c .before .before .before .before .before .before .before .before .before .before .before .if1 .taken)
 
 pairs-again : tie.Need-pairs-again Inv-loop μ-loop Inv-pairs μ-pairs
 pairs-again c = (
   λ valid. c .before .before .before .before .before .loop .inv .1 valid .0,
-  λ valid none. next-at (c .before .before .before .before .before) valid (c .before .before .before .before .before .before .before .before .before .before .before .before .before .pairs .inv .1 valid none) (omega (arith, c .before .before .if2 .left)) (c .met-from .result) (c .met-from .ensures .1),
+  λ valid none.
+      let j = c .before .before .before .before .before .before .before .before .before .before .before .before .before .before .before .before .before .args .job in
+      let is = c .before .before .before .before .before .before .before .before .before .before .before .before .before .before .before .before .pass-of .ensures .1 valid in
+      none-next j (c .field-from .result)
+      (c .field-from .ensures .1 valid is (over-at (c .before .before .before .before .before) valid (c .before .before .before .before .before .before .before .before .before .before .before .before .before .pairs .inv .1 valid none) (omega (arith, c .before .before .if2 .left)))),
 )
 
 returns : tie.Need-returns Inv-loop μ-loop Inv-pairs μ-pairs
@@ -167,7 +163,7 @@ first-pair-spec =
     pairs-holds
     span-of-requires
     minus-requires
-    add-met-from
+    add-t13
     partner-from-requires
     loop-holds
     admits-requires
@@ -175,8 +171,8 @@ first-pair-spec =
     partner-from-requires-2
     loop-less
     loop-again
-    add-met-from-2
-    met-from-requires
+    add-t12
+    field-from-requires
     pairs-less
     pairs-again
     returns

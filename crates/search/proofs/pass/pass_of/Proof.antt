@@ -1,15 +1,11 @@
 -- `search::pass::pass_of` meets its contract. Assumes nothing.
 use mathlib.Core.Bool.{true, false, _&&_, true≢false}
-use mathlib.Core.Path.{sym, ap, ap₂, _∙_, subst}
-use native.Mathlib.Omega.{arith}
-use Rattle.format.proofs.Room.{exponent-room}
-use Rattle.mask.specs.declared.Mask.{Mask}
-use Rattle.mask.specs.Mask.{WellFormed, meets}
-use Rattle.mask.specs.Next.{MetFrom}
+use mathlib.Core.Path.{sym, ap, ap₂, _∙_}
+use Rattle.mask.specs.Mask.{meets}
 use Rattle.mask.proofs.Checks.{meets-true}
 use Rattle.word.specs.Masks.{exponentMask, fractionMask}
 use Rattle.word.proofs.Bounds.{exponents}
-use Rattle.search.proofs.Pairs.{field-formed}
+use Rattle.search.proofs.Spans.{met-field}
 use borrow.Author.Needs.{needs}
 use Rattle.search.proofs.pass.pass_of.Statement.{statement}
 use Rattle.search.proofs.pass.pass_of.Tie as tie
@@ -53,7 +49,7 @@ returns c =
     let first = c .before .before .before .before .before .met-from in (
       past,
       λ valid.
-          let met = subst (λ (m : Mask). WellFormed (F .w) m → MetFrom (F .w) m 1 (first .result)) (c .before .before .before .before .before .before .before .before .before .exponent-mask .ensures) (first .ensures .1 (omega (arith, exponent-room F (s .pre)))) (field-formed F (j .a .mask) (valid .a .mask)) in
+          let met = met-field F (j .a .mask) (c .before .before .before .before .before .before .before .before .before .exponent-mask .result) 1 (first .result) (s .pre) (valid .a .mask) (c .before .before .before .before .before .before .before .before .before .exponent-mask .ensures) (first .ensures .1) in
           record {
             a = c .before .before .before .before .before .before .before .before .before .exponent-mask .ensures;
             b = c .before .before .before .before .before .before .before .exponent-mask3 .ensures;

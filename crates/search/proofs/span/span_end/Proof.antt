@@ -1,12 +1,17 @@
 -- `search::span::span_end` meets its contract, by `earlier-answered`. Assumes nothing.
-use mathlib.Core.Logic.{inl, inr}
-use Prim.Native.Nat.{_+_, _-_}
+use Prim.Native.Nat.{_+_, _≤_, _<_}
 use native.Mathlib.Omega.{arith}
 use lib.Pow.{pow-mono}
 use Rattle.format.proofs.Room.{significand-room, exponent-room}
-use Rattle.special.specs.Asked.{fieldIs}
+use Rattle.job.specs.declared.Job.{Job}
+use Rattle.job.specs.Job.{Valid}
+use Rattle.word.specs.declared.Biased.{Biased}
+use Rattle.word.specs.Word.{allOnes}
+use Rattle.special.specs.Asked.{PairFits}
+use Rattle.classes.specs.Class.{farGap}
+use Rattle.search.specs.Walk.{NoneBelow, PassOf}
 use Rattle.search.proofs.Pairs.{pair-range}
-use Rattle.search.proofs.Spans.{earlier-answered}
+use Rattle.search.proofs.Spans.{only-far, earlier-answered}
 use borrow.Author.Needs.{needs}
 use Rattle.search.proofs.span.span_end.Statement.{statement}
 use Rattle.search.proofs.span.span_end.Tie as tie
@@ -34,25 +39,29 @@ add-far-2 c =
     let short = significand-room (s .args .job .setting .format) (s .pre .0) in
     record { fits = omega (arith, s .pre .1, s .pre .2) }
 
+-- the first field of a has the answer for those that a's is far below
+module _ (c : tie.Else2) where
+  abbrev s : tie.Start
+  s = c .before .before .before .before .before .before
+
+  abbrev j : Job
+  j = s .args .job
+
+  abbrev ea : Biased
+  ea = s .args .ea
+
+  answered : Valid j → PassOf j (s .args .pass) → NoneBelow j ea → (d : Biased) → (d .0 < allOnes (j .setting .format) → ea .0 + farGap (j .setting .format .f) ≤ d .0) → PairFits j ea d → ⊥
+  answered valid is none d far P =
+      let first = s .args .pass .first in
+      let later = c .if2 .left in
+      earlier-answered j valid first ea d (none first d (omega (arith, later))) (is .first-some) (omega (arith, later)) (is .first-meets (omega (arith, s .pre .1, s .pre .2, later)))
+      (only-far j valid ea d (omega (arith, s .pre .1, s .pre .2, c .before .before .before .if1 .left)) (λ l. (omega (arith, later, is .first-some), far l)) P) P
+
 returns-3 : tie.Need-returns-3
-returns-3 c =
-    let s = c .before .before .before .before .before .before .before .before .before in
-    let a = s .args in (
-      omega arith,
-      λ valid is none d from P.
-          earlier-answered (a .job) valid (a .ea) (a .pass .first) (fieldIs (a .ea .0 + (a .job .setting .format .f + 3))) d none (omega (arith, s .pre .1, s .pre .2, c .before .before .before .before .before .before .if1 .left)) (is .first-some) (omega (arith, c .before .before .before .if2 .left))
-          (is .first-meets (omega (arith, s .pre .1, s .pre .2, c .before .before .before .if2 .left))) (inl (omega arith)) from P,
-    )
+returns-3 c = (omega arith, λ valid is none d from P. answered (c .before .before .before) valid is none d (λ l. omega arith) P)
 
 returns-4 : tie.Need-returns-4
-returns-4 c =
-    let s = c .before .before .before .before .before .before .before .before .before in
-    let a = s .args in (
-      omega arith,
-      λ valid is none d from P.
-          earlier-answered (a .job) valid (a .ea) (a .pass .first) (fieldIs (a .pass .past .0 - 1)) d none (omega (arith, s .pre .1, s .pre .2, c .before .before .before .before .before .before .if1 .left)) (is .first-some) (omega (arith, c .before .before .before .if2 .left))
-          (is .first-meets (omega (arith, s .pre .1, s .pre .2, c .before .before .before .if2 .left))) (inr (omega (arith, s .pre .1))) from P,
-    )
+returns-4 c = let s = c .before .before .before .before .before .before .before .before .before in (omega arith, λ valid is none d from P. answered (c .before .before .before) valid is none d (λ l. absurd (omega (arith, s .pre .1))) P)
 
 pub span-end-spec : {M : Type 1} → statement M
 span-end-spec = tie.close (tie.spec sub-ones returns returns-2 add-far add-far-2 returns-3 returns-4)
