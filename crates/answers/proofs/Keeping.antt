@@ -4,7 +4,7 @@ use mathlib.Core.List.{List}
 use mathlib.Core.Logic.{inl, inr}
 use mathlib.Core.Path.{_≡_, sym, ap, ap₂, _∙_, subst}
 use Prim.Native.Nat.{ℕ, zero, suc, _+_, _-_, _*_, _%_, _^_, _≤_, _<_}
-use native.Mathlib.Decide.{decLt, ℕ-discrete}
+use native.Mathlib.Decide.{decLe, decLt, ℕ-discrete}
 use native.Mathlib.Omega.{arith}
 use lib.Bits.{bitOr, or-zero-r}
 use lib.ListN.{getD, set, replicate, length-replicate, getD-replicate, length-set, List·getD-eq-default}
@@ -24,8 +24,8 @@ use Rattle.word.specs.Word.{unitOf, allOnes}
 use Rattle.special.specs.Asked.{fieldIs, PairFits}
 use Rattle.classes.specs.declared.Fields.{Fields}
 use Rattle.classes.specs.declared.Class.{Class}
-use Rattle.classes.specs.Class.{InOrder, Ordered, FiniteFields, topField, classOf, onlyField, ClassIn, Wide, NeverPast, Classed}
-use Rattle.answers.specs.Kept.{places, placeOf, classPlaces, Never, askedBit, Refuses, Closed, closedPlace, closedBit, Kept, NoField, ClassEnd}
+use Rattle.classes.specs.Class.{InOrder, Ordered, FiniteFields, farGap, topField, lowField, classOf, onlyField, ClassIn, Wide, NeverPast, Classed}
+use Rattle.answers.specs.Kept.{places, placeOf, classPlaces, Never, askedBit, Refuses, Closed, closedPlace, closedBit, Kept, NoField, ClassEnd, NoPair}
 use Rattle.classes.proofs.Aligning.{low-le}
 use Rattle.classes.proofs.Classes.{class-reached, class-less}
 
@@ -182,3 +182,13 @@ pub partner-closed : (j : Job) (t : List ℕ) (end : Biased) (p : Fields) → Va
 partner-closed j t end p valid within kept sorted top l known =
     let by = within (p .larger) (p .smaller) (inl top) l in
     pair-closed j p (record { by-size = sorted; finite = by .1 }) valid (by .0) (kept .closed (classOf (j .setting .format .f) p) (class-in (j .setting .format .f) p sorted) known)
+
+-- where all classes of pairs with a's field above the far gap are closed, none of them admits a case
+pub pairs-closed : (j : Job) (t : List ℕ) (end : Biased) → Valid j → ClassEnd j end → Kept j t
+    → ((E e : Biased) → farGap (j .setting .format .f) < E .0 → e .0 ≤ E .0 → bit (getD t (closedPlace (j .setting .format .f) 0) 0) (closedBit (j .setting .format .f) 0 (lowField (j .setting .format .f) E e .0)) ≡ 1)
+    → ((E e : Biased) → farGap (j .setting .format .f) < e .0 → e .0 < E .0 → bit (getD t (closedPlace (j .setting .format .f) 1) 0) (closedBit (j .setting .format .f) 1 (lowField (j .setting .format .f) E e .0)) ≡ 1) → NoPair j end
+pairs-closed j t end valid within kept below above d e large d-lt e-lt = go (decLe (e .0) (d .0))
+  where
+    go : Dec (e .0 ≤ d .0) → PairFits j d e → ⊥
+    go (yes q) = partner-closed j t end (record { order = 0; larger = d; smaller = e }) valid within kept (record { order-lt = omega arith; ordered = q }) (omega arith) d-lt (below d e large q)
+    go (no q) = partner-closed j t end (record { order = 1; larger = e; smaller = d }) valid within kept (record { order-lt = omega arith; ordered = omega arith }) (omega arith) e-lt (above e d large (omega arith))

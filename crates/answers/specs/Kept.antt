@@ -14,7 +14,7 @@ use Rattle.word.specs.Word.{allOnes}
 use Rattle.word.specs.Masks.{exponentMask}
 use Rattle.special.specs.Asked.{PairFits}
 use Rattle.classes.specs.declared.Class.{Class}
-use Rattle.classes.specs.Class.{topField, fieldAt, mostField, leastField, onlyField, anyField, ClassAdmits, ClassIn, Normal, Classed}
+use Rattle.classes.specs.Class.{farGap, topField, fieldAt, mostField, leastField, onlyField, anyField, ClassAdmits, ClassIn, Normal, Classed}
 
 -- ---- the table
 
@@ -74,3 +74,7 @@ ClassEnd j end = (E e : Biased) → Normal (j .setting .format .f) E e → E .0 
 -- no pair of a's exponent field e with one of b's from n on and below r admits a case
 abbrev pub NoPartner : Job → Biased → Biased → Biased → Type 0
 NoPartner j e n r = (d : Biased) → n .0 ≤ d .0 → d .0 < r .0 → PairFits j e d → ⊥
+
+-- no pair whose fields are below `end`, a's above the far gap, admits a case
+abbrev pub NoPair : Job → Biased → Type 0
+NoPair j end = (d e : Biased) → farGap (j .setting .format .f) < d .0 → d .0 < end .0 → e .0 < end .0 → PairFits j d e → ⊥

@@ -7,13 +7,14 @@ use bits::minus;
 use classes::FAR_GAP;
 use job::Job;
 use word::Biased;
+ghost use mathlib.Core.Bool.{true};
 ghost use mathlib.Core.Path.{_≡_};
 ghost use Prim.Native.Nat.{ℕ, _+_, _^_, _≤_, _<_};
 ghost use Rattle.bits.specs.Bit.{bit};
 ghost use Rattle.job.specs.Job.{Valid};
 ghost use Rattle.word.specs.declared.Biased.{Biased};
 ghost use Rattle.classes.specs.Class.{farGap, lowField};
-ghost use Rattle.answers.specs.Kept.{closedBit, Kept, ClassEnd, NoPartner};
+ghost use Rattle.answers.specs.Kept.{closedBit, Kept, ClassEnd, NoPartner, NoPair};
 
 // How many bits from i on are ones.
 fn run_from(word: u64, i: u64) -> u64
@@ -88,4 +89,19 @@ pub fn open_from(job: Job, ea: Biased, eb: Biased, end: Biased, table: &[u64; PL
     }
     let at = closed_place(f, 1) as usize;
     open_above(f, ea, eb, end, table[at])
+}
+
+// Whether every class of pairs with a's field above the far gap is known to admit nothing. For a job with a malformed mask or another table
+// than one that `admits` kept, the answer is free.
+pub fn all_closed(job: Job, table: &[u64; PLACES]) -> bool
+    ensures { λ r. ⌜ (r ≡ true → Valid job → Kept job (now (table .entry)) → (end : Biased) → ClassEnd job end → NoPair job end) ⌝ }
+{
+    let f = job.setting.format.f;
+    if MOST_FRACTION < f {
+        return false;
+    }
+    let below = table[closed_place(f, 0) as usize];
+    let above = table[closed_place(f, 1) as usize];
+    let far = f + FAR_GAP;
+    (bit_at(below, 0) == 1) & (far < run_from(below, 1)) & (far <= run_from(above, 1))
 }

@@ -48,12 +48,13 @@ pub record FieldReached (j : Job) (E low : Biased) (P : Mask → Type 0) : Type 
   pub field : Biased
   pub most : field .0 ≤ mostField (j .setting .format .f)
   pub least : low .0 + 2 ≤ topField (j .setting .format .f) .0 → farGap (j .setting .format .f) ≤ field .0
+  pub within : fieldAt (j .setting .format .f) (unitOf E) field .0 < 2 ^ j .setting .format .w
   pub meets : Meets (fieldAt (j .setting .format .f) (unitOf E) field .0) (exponentMask (j .setting .format) (j .c .mask))
   pub zero-meets : field .0 ≡ 0 → Meets 0 (fractionMask (j .setting .format) (j .c .mask))
   pub holds : P (onlyField (j .setting .format) field)
 
 reached-map : (j : Job) (E low : Biased) (P Q : Mask → Type 0) → ((i : Mask) → P i → Q i) → FieldReached j E low P → FieldReached j E low Q
-reached-map j E low P Q h p = record { field = p .field; most = p .most; least = p .least; meets = p .meets; zero-meets = p .zero-meets; holds = h (onlyField (j .setting .format) (p .field)) (p .holds) }
+reached-map j E low P Q h p = record { field = p .field; most = p .most; least = p .least; within = p .within; meets = p .meets; zero-meets = p .zero-meets; holds = h (onlyField (j .setting .format) (p .field)) (p .holds) }
 
 -- ---- two sides, of which x has the larger exponent field
 module _ (j : Job) (valid : Valid j) (x y : Side) (fx : FiniteSide (j .setting .format) x) (fy : FiniteSide (j .setting .format) y)
@@ -102,6 +103,7 @@ module _ (j : Job) (valid : Valid j) (x y : Side) (fx : FiniteSide (j .setting .
     field = w .field;
     most = w .most;
     least = λ l. w .least (long (k .x) (k .made) l);
+    within = w .within;
     meets = own .1;
     zero-meets = λ z. subst (λ (t : ℕ). Meets t (fractionMask F c)) (w .zero-fraction z) (own .2);
     holds = (
@@ -189,6 +191,7 @@ sums-moved j valid x y fx fy classed under (inr l) = ⊎-elim both (λ h. absurd
           field = r .field;
           most = r .most;
           least = λ q. absurd (omega (arith, ap (λ (e : Biased). e .0) y-low));
+          within = subst (λ (e : Biased). fieldAt f (unitOf e) (r .field) .0 < 2 ^ j .setting .format .w) same (r .within);
           meets = subst (λ (e : Biased). Meets (fieldAt f (unitOf e) (r .field) .0) (exponentMask (j .setting .format) (j .c .mask))) same (r .meets);
           zero-meets = r .zero-meets;
           holds = inr (subst₂ (λ (u v : Biased). Larger (asking j (onlyField (j .setting .format) (r .field))) (atField y u) (atField x v)) y-low x-low (r .holds));
@@ -202,6 +205,7 @@ pub record ClassFieldReached (j : Job) (E : Biased) (k : Class) : Type 0 where
   pub field : Biased
   pub most : field .0 ≤ mostField (j .setting .format .f)
   pub least : leastField (j .setting .format .f) k .0 ≤ field .0
+  pub within : fieldAt (j .setting .format .f) (unitOf E) field .0 < 2 ^ j .setting .format .w
   pub meets : Meets (fieldAt (j .setting .format .f) (unitOf E) field .0) (exponentMask (j .setting .format) (j .c .mask))
   pub zero-meets : field .0 ≡ 0 → Meets 0 (fractionMask (j .setting .format) (j .c .mask))
   pub holds : ClassAdmits j k (onlyField (j .setting .format) field)
@@ -220,6 +224,7 @@ module _ (j : Job) (valid : Valid j) (o : ℕ) (E e : Biased) (finite : E .0 < a
     field = r .field;
     most = r .most;
     least = go (decLe (low .0 + 2) (topField f .0));
+    within = r .within;
     meets = r .meets;
     zero-meets = r .zero-meets;
     holds = S .back (asking j (onlyField (j .setting .format) (r .field)) .c) (topField f) low (r .holds);

@@ -2,7 +2,7 @@
 -- lets through no exponent field near the larger one only a zero sum is left; with a gap of 2 or more, near is at most 1 below. Assumes nothing.
 use mathlib.Core.Logic.{_⊎_, inl, inr, ⊎-elim}
 use mathlib.Core.Path.{_≡_, refl, subst}
-use Prim.Native.Nat.{ℕ, zero, suc, _+_, _-_, _≤_, _<_}
+use Prim.Native.Nat.{ℕ, zero, suc, _+_, _-_, _^_, _≤_, _<_}
 use native.Mathlib.Decide.{decLe}
 use native.Mathlib.Omega.{arith}
 use borrow.Author.Tests.{le-leb}
@@ -61,6 +61,7 @@ module _ (j : Job) (valid : Valid j) (o : ℕ) (E e : Biased) (finite : E .0 < a
   nonzero-near : (i below : ℕ) → r .field .0 ≡ suc i → farGap f ≤ i + below → LetsNear j below E
   nonzero-near i below is least = record {
     field = suc i + unitOf E .0 - farGap f;
+    within = subst (λ (n : ℕ). movedField (farGap f) (unitOf E .0) n < 2 ^ j .setting .format .w) is (r .within);
     meets = moved-meets (suc i) is;
     least = omega arith;
     most = omega (arith, r .most, some);

@@ -2,7 +2,7 @@
 -- Internal: no public contract cites this.
 use mathlib.Core.Logic.{_⊎_}
 use mathlib.Core.Path.{_≡_}
-use Prim.Native.Nat.{ℕ, _+_, _≤_, _<_}
+use Prim.Native.Nat.{ℕ, _+_, _^_, _≤_, _<_}
 use Rattle.format.specs.declared.Format.{Format}
 use Rattle.mask.specs.Mask.{Meets}
 use Rattle.job.specs.declared.Job.{Job}
@@ -18,6 +18,7 @@ FarBelow F E e = ((1 ≤ e .0) × (e .0 + farGap (F .f) ≤ E .0) × (E .0 < all
 -- c's mask lets through an exponent field from so many below E to 2 above it, as a sum that is not 0 has one where E is the larger field
 pub record LetsNear (j : Job) (below : ℕ) (E : Biased) : Type 0 where
   pub field : ℕ
+  pub within : field < 2 ^ j .setting .format .w
   pub meets : Meets field (exponentMask (j .setting .format) (j .c .mask))
   pub least : E .0 ≤ field + below
   pub most : field ≤ E .0 + 2

@@ -22,7 +22,7 @@ use Rattle.classes.specs.Far.{FarBelow, LetsNear, LetsZero}
 use Rattle.classes.proofs.Far.{far-alike, near-or-zero, near-sum}
 use Rattle.answers.specs.Kept.{ClassEnd, NoPartner}
 use Rattle.search.specs.declared.span.Span.{Span}
-use Rattle.search.specs.Walk.{NoneBefore, NoneBelow, NoResult, OnlyFar, SpanOf}
+use Rattle.search.specs.Walk.{NoneBefore, NoneBelow, NoneNear, OnlyFar, SpanOf}
 use Rattle.search.proofs.Pairs.{field-formed, pair-range, pair-asked}
 
 -- ---- fields that do not meet their masks
@@ -60,12 +60,13 @@ module _ (j : Job) (valid : Valid j) where
   ones = allOnes (j .setting .format)
 
   -- a field of a is far below one of b, where that is no finite one nearer to it
-  pub only-far : (d e : Biased) → d .0 < ones → (e .0 < ones → (1 ≤ d .0) × (d .0 + gap ≤ e .0)) → PairFits j d e → FarBelow (j .setting .format) e d
-  only-far d e finite far P = go (decLt (e .0) ones)
+  pub only-far : (d e : Biased) → d .0 < ones → (e .0 < ones → (1 ≤ d .0) × (e .0 < d .0 + gap → ⊥)) → PairFits j d e → FarBelow (j .setting .format) e d
+  only-far d e finite far P = go (decLt (e .0) ones) (decLt (e .0) (d .0 + gap))
     where
-      go : Dec (e .0 < ones) → FarBelow (j .setting .format) e d
-      go (yes l) = inl (far l .0, far l .1, l)
-      go (no l) = inr (omega (arith, pair-range j d e valid P .b-lt), finite)
+      go : Dec (e .0 < ones) → Dec (e .0 < d .0 + gap) → FarBelow (j .setting .format) e d
+      go (yes l) (yes near) = absurd (far l .1 near)
+      go (yes l) (no near) = inl (far l .0, omega arith, l)
+      go (no l) near = inr (omega (arith, pair-range j d e valid P .b-lt), finite)
 
   far-lower : (E e g : Biased) → FarBelow (j .setting .format) E e → 1 ≤ g .0 → g .0 ≤ e .0 → FarBelow (j .setting .format) E g
   far-lower E e g (inl h) some le = inl (some, omega (arith, h .1), h .2)
@@ -89,37 +90,28 @@ module _ (j : Job) (valid : Valid j) where
       → (PairFits j ea eb → ⊥) → PairFits j ea d → ⊥
   field-answered ea eb d far-eb far-d met none P = none (far-alike j valid 0 ea d eb far-d far-eb met P)
 
-  -- ---- fields near which c's mask lets none through: from n on and below r, as far as the classes answer
-  module _ (end : Biased) (within : ClassEnd j end) (n r : Biased) (inside : r .0 ≤ end .0) (none : NoResult j n r) where
-    not-near : (below : ℕ) (E : Biased) → gap < E .0 → n .0 + below ≤ E .0 → E .0 + 2 < r .0 → LetsNear j below E → ⊥
-    not-near below E large low high near =
-        let l = within (fieldIs (E .0 + 2)) E (inl (omega arith)) (omega arith) .1 in
-        none (near .field) (omega (arith, near .least)) (omega (arith, near .most)) (omega (arith, near .most, l)) (near .meets)
+  -- ---- fields below r, none of which has near it one from n on that c's mask lets through; classes answer for them
+  module _ (end : Biased) (within : ClassEnd j end) (n r : Biased) (inside : r .0 ≤ end .0) (none : NoneNear j n r) where
+    not-near : (below : ℕ) (E : Biased) → n .0 + below ≤ E .0 → E .0 < r .0 → LetsNear j below E → ⊥
+    not-near below E low high near = none (E .0) (near .field) high (omega (arith, near .least)) (near .most) (near .within) (near .meets)
 
     -- no sum of fields 2 or more apart is left
-    pub no-sum : (o : ℕ) (E e : Biased) → gap < E .0 → n .0 + 1 ≤ E .0 → E .0 + 2 < r .0 → e .0 + 2 ≤ E .0 → InOrder (PairFits j) o E e → ⊥
+    pub no-sum : (o : ℕ) (E e : Biased) → gap < E .0 → n .0 + 1 ≤ E .0 → E .0 < r .0 → e .0 + 2 ≤ E .0 → InOrder (PairFits j) o E e → ⊥
     no-sum o E e large low high apart P =
         let by = within E e (inl (omega arith)) (omega arith) in
-        not-near 1 E large low high (near-sum j valid o E e (by .1) (omega arith) P (by .0) apart)
+        not-near 1 E low high (near-sum j valid o E e (by .1) (omega arith) P (by .0) apart)
 
     -- a zero sum is left, if b's field is nearer than the far gap
-    only-zero : (d e : Biased) → gap < d .0 → n .0 + gap ≤ d .0 → d .0 + gap + 1 < r .0 → e .0 < d .0 + gap → PairFits j d e → LetsZero j
+    pub only-zero : (d e : Biased) → gap < d .0 → n .0 + gap ≤ d .0 → d .0 + gap ≤ r .0 → e .0 < d .0 + gap → PairFits j d e → LetsZero j
     only-zero d e large low high l P = go (decLe (e .0) (d .0))
       where
         go : Dec (e .0 ≤ d .0) → LetsZero j
         go (yes q) =
             let by = within d e (inl (omega arith)) (omega arith) in
-            ⊎-elim (λ near. absurd (not-near gap d large low (omega arith) near)) (λ z. z) (near-or-zero j valid 0 d e (by .1) q P (by .0))
+            ⊎-elim (λ near. absurd (not-near gap d low (omega arith) near)) (λ z. z) (near-or-zero j valid 0 d e (by .1) q P (by .0))
         go (no q) =
             let by = within e d (inl (omega arith)) (omega arith) in
-            ⊎-elim (λ near. absurd (not-near gap e (omega arith) (omega arith) (omega arith) near)) (λ z. z) (near-or-zero j valid 1 e d (by .1) (omega arith) P (by .0))
-
-    pub none-nearer : (LetsZero j → ⊥) → (d e : Biased) → gap < d .0 → n .0 + gap ≤ d .0 → d .0 + gap + 1 < r .0 → PairFits j d e → d .0 + gap ≤ e .0
-    none-nearer never d e large low high P = go (decLt (e .0) (d .0 + gap))
-      where
-        go : Dec (e .0 < d .0 + gap) → d .0 + gap ≤ e .0
-        go (yes l) = absurd (never (only-zero d e large low high l P))
-        go (no l) = omega arith
+            ⊎-elim (λ near. absurd (not-near gap e (omega arith) (omega arith) near)) (λ z. z) (near-or-zero j valid 1 e d (by .1) (omega arith) P (by .0))
 
 -- ---- the fields of b with one of a, from eb on: the questions begin at `from`
 module _ (j : Job) (ea eb : Biased) (span : Span) (none : NoneBefore j (record { a = ea; b = eb })) (is : SpanOf j ea span) (from n r : Biased) (start : from .0 ≡ eb .0 + (span .from .0 - eb .0))

@@ -42,9 +42,9 @@ NoneBefore j p = (d e : Biased) → Before d e p → PairFits j d e → ⊥
 abbrev pub NoneBelow : Job → Biased → Type 0
 NoneBelow j n = (d e : Biased) → d .0 < n .0 → PairFits j d e → ⊥
 
--- c's mask lets through no exponent field from n on and below r
-abbrev pub NoResult : Job → Biased → Biased → Type 0
-NoResult j n r = (d : ℕ) → n .0 ≤ d → d < r .0 → d < 2 ^ j .setting .format .w → Meets d (exponentMask (j .setting .format) (j .c .mask)) → ⊥
+-- c's mask lets through no exponent field from n on that is at most 2 above one below r
+abbrev pub NoneNear : Job → Biased → Biased → Type 0
+NoneNear j n r = (E d : ℕ) → E < r .0 → n .0 ≤ d → d ≤ E + 2 → d < 2 ^ j .setting .format .w → Meets d (exponentMask (j .setting .format) (j .c .mask)) → ⊥
 
 -- each field of a from n on and below r admits a case only with one of b that it is far below
 abbrev pub OnlyFar : Job → Biased → Biased → Type 0

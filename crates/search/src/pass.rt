@@ -77,7 +77,7 @@ pub(crate) fn first_pair(job: Job, start: Exponents) -> Exponents
             let next = after(job, pass, ea, eb);
             eb = partner_from(job, pass, ea, next, span.end, &table);
         }
-        ea = field_from(job, pass, Biased(ea.0 + 1));
+        ea = field_from(job, pass, Biased(ea.0 + 1), &table);
         eb = Biased(0);
     }
     Exponents { a: ea, b: eb }

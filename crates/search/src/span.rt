@@ -1,5 +1,5 @@
 // The fields of b that are left to ask with one of a, and the step from one to the next.
-use crate::field::result_from;
+use crate::field::near_from;
 use crate::pass::Pass;
 use answers::PLACES;
 use answers::open::open_from;
@@ -56,8 +56,8 @@ fn sum_from(job: Job, pass: Pass, larger: Biased) -> Biased
     if larger.0 <= job.setting.format.f + FAR_GAP {
         return larger;
     }
-    let near = result_from(job, pass, Biased(larger.0 - 1));
-    Biased(larger.0 + minus(minus(near.0, 2), larger.0))
+    let near = near_from(job, pass, Biased(larger.0 - 1));
+    Biased(larger.0 + minus(near.0, larger.0))
 }
 
 // The fields of b that are left to ask with one of a, where no smaller field of a has a case. With no signs left for finite operands they

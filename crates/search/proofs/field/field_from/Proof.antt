@@ -16,7 +16,7 @@ returns c =
     let F = a .job .setting .format in
     let first = c .before .before .before .met-from in (
       first .ensures .0,
-      λ valid is. none-met (a .job) valid (a .n .0) (first .result) (met-field F (a .job .a .mask) (a .pass .a) (a .n .0) (first .result) (s .pre .0) (valid .a .mask) (is .a) (first .ensures .1)),
+      λ valid is kept. none-met (a .job) valid (a .n .0) (first .result) (met-field F (a .job .a .mask) (a .pass .a) (a .n .0) (first .result) (s .pre .0) (valid .a .mask) (is .a) (first .ensures .1)),
     )
 
 far-end-requires : tie.Need-far-end-requires
@@ -36,12 +36,12 @@ returns-2 c =
     let first = a .pass .first in
     let later = c .before .before .if1 .left in (
       omega (arith, one .ensures .0, far .ensures .0, two .ensures .0),
-      λ valid is none.
+      λ valid is kept none.
           let met = met-field F (a .job .a .mask) (a .pass .a) (a .n .0) (one .result) (s .pre .0) (valid .a .mask) (is .a) (one .ensures .1) in
           let again = met-field F (a .job .a .mask) (a .pass .a) (far .result .0) (two .result) (s .pre .0) (valid .a .mask) (is .a) (two .ensures .1) in
           none-met (a .job) valid (far .result .0) (two .result) again
           (none-far (a .job) valid first (fieldIs (one .result)) (far .result) (is .first-some) (omega (arith, later)) (is .first-meets)
-          (none-met (a .job) valid (a .n .0) (one .result) met none) (far .ensures .1 valid is)),
+          (none-met (a .job) valid (a .n .0) (one .result) met none) (far .ensures .1 valid is kept)),
     )
 
 pub field-from-spec : {M : Type 1} → statement M

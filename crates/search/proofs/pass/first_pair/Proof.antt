@@ -123,20 +123,21 @@ add-t12 : tie.Need-add-t12 Inv-loop μ-loop Inv-pairs μ-pairs
 add-t12 c = record { fits = omega (arith, c .before .before .before .before .before .before .before .before .before .before .if1 .taken, c .before .before .before .before .before .before .before .before .before .before .before .before .before .before .before .pass-of .ok) }
 
 field-from-requires : tie.Need-field-from-requires Inv-loop μ-loop Inv-pairs μ-pairs
-field-from-requires c κs = (c .before .before .before .before .before .before .before .before .before .before .before .before .before .before .before .before .pre, c .before .before .before .before .before .before .before .before .before .before .before .before .before .before .before .pass-of .ensures .0)
+field-from-requires c κs = (c .before .before .before .before .before .before .before .before .before .before .before .before .before .before .before .before .before .pre, c .before .before .before .before .before .before .before .before .before .before .before .before .before .before .before .before .pass-of .ensures .0)
 
 pairs-less : tie.Need-pairs-less Inv-loop μ-loop Inv-pairs μ-pairs
-pairs-less c = omega (arith, c .field-from .ensures .0, c .before .before .before .before .before .before .before .before .before .before .before .if1 .taken)
+pairs-less c = omega (arith, c .field-from .ensures .0, c .before .before .before .before .before .before .before .before .before .before .before .before .if1 .taken)
 
 pairs-again : tie.Need-pairs-again Inv-loop μ-loop Inv-pairs μ-pairs
-pairs-again c = (
-  λ valid. c .before .before .before .before .before .loop .inv .1 valid .0,
-  λ valid none.
-      let j = c .before .before .before .before .before .before .before .before .before .before .before .before .before .before .before .before .before .args .job in
-      let is = c .before .before .before .before .before .before .before .before .before .before .before .before .before .before .before .before .pass-of .ensures .1 valid in
-      none-next j (c .field-from .result)
-      (c .field-from .ensures .1 valid is (over-at (c .before .before .before .before .before) valid (c .before .before .before .before .before .before .before .before .before .before .before .before .before .pairs .inv .1 valid none) (omega (arith, c .before .before .if2 .left)))),
-)
+pairs-again c =
+    let l = c .before .before .before .before .before .before in (
+      λ valid. l .loop .inv .1 valid .0,
+      λ valid none.
+          let j = l .before .before .before .before .before .before .before .before .before .before .before .before .args .job in
+          let is = l .before .before .before .before .before .before .before .before .before .before .before .pass-of .ensures .1 valid in
+          none-next j (c .field-from .result)
+          (c .field-from .ensures .1 valid is (l .loop .inv .1 valid .0) (over-at l valid (l .before .before .before .before .before .before .before .before .pairs .inv .1 valid none) (omega (arith, c .before .before .before .if2 .left)))),
+    )
 
 returns : tie.Need-returns Inv-loop μ-loop Inv-pairs μ-pairs
 returns c = λ valid none. record { none = c .before .before .pairs .inv .1 valid none; left = λ h. absurd (omega (arith, c .before .before .before .before .before .pass-of .ensures .0, c .if1 .left)) }

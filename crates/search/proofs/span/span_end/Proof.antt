@@ -55,7 +55,7 @@ module _ (c : tie.Else2) where
       let first = s .args .pass .first in
       let later = c .if2 .left in
       earlier-answered j valid first ea d (none first d (omega (arith, later))) (is .first-some) (omega (arith, later)) (is .first-meets (omega (arith, s .pre .1, s .pre .2, later)))
-      (only-far j valid ea d (omega (arith, s .pre .1, s .pre .2, c .before .before .before .if1 .left)) (λ l. (omega (arith, later, is .first-some), far l)) P) P
+      (only-far j valid ea d (omega (arith, s .pre .1, s .pre .2, c .before .before .before .if1 .left)) (λ l. (omega (arith, later, is .first-some), λ near. omega (arith, far l))) P) P
 
 returns-3 : tie.Need-returns-3
 returns-3 c = (omega arith, λ valid is none d from P. answered (c .before .before .before) valid is none d (λ l. omega arith) P)

@@ -17,29 +17,25 @@ returns c = (omega arith, λ valid is o E e from to. absurd (omega arith))
 sub-t5 : tie.Need-sub-t5
 sub-t5 c = search needs
 
-result-from-requires : tie.Need-result-from-requires
-result-from-requires c κs = c .before .before .before .before .pre
+near-from-requires : tie.Need-near-from-requires
+near-from-requires c κs = c .before .before .before .before .pre
 
 minus-requires : tie.Need-minus-requires
 minus-requires c κs = search needs
 
-minus-requires-2 : tie.Need-minus-requires-2
-minus-requires-2 c κs = search needs
-
-add-t9 : tie.Need-add-t9
-add-t9 c = record { fits = omega (arith, c .before .minus2 .ensures, c .before .before .minus .ok) }
+add-t8 : tie.Need-add-t8
+add-t8 c = record { fits = omega (arith, c .before .minus .ensures, c .before .before .near-from .ok) }
 
 returns-2 : tie.Need-returns-2
 returns-2 c =
-    let a = c .before .before .before .before .before .before .before .before .args in
-    let near = c .before .before .before .result-from in
-    let one = c .before .before .minus .ensures in
-    let two = c .before .minus2 .ensures in
-    let large = c .before .before .before .before .before .if1 .left in (
+    let a = c .before .before .before .before .before .before .before .args in
+    let near = c .before .before .near-from in
+    let over = c .before .minus .ensures in
+    let large = c .before .before .before .before .if1 .left in (
       omega arith,
       λ valid is o E e from to.
           no-sum (a .job) valid (a .pass .end) (is .end) (fieldIs (a .larger .0 - 1)) (near .result) (near .ensures .0) (near .ensures .1 valid is) o E e (omega (arith, large)) (omega (arith, large)) (omega arith),
     )
 
 pub sum-from-spec : {M : Type 1} → statement M
-sum-from-spec = tie.close (tie.spec add-if1 returns sub-t5 result-from-requires minus-requires minus-requires-2 add-t9 returns-2)
+sum-from-spec = tie.close (tie.spec add-if1 returns sub-t5 near-from-requires minus-requires add-t8 returns-2)
