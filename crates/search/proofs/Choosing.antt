@@ -13,9 +13,10 @@ use Rattle.job.specs.declared.Role.{Role}
 use Rattle.job.specs.declared.Role.the-variants.{A, B}
 use Rattle.special.specs.Asked.{fieldIs}
 use Rattle.fit.specs.Fit.{Fits, Fitting}
-use Rattle.search.specs.declared.Exponents.{Exponents}
+use Rattle.pass.specs.declared.Exponents.{Exponents}
 use Rattle.search.specs.Left.{Ready}
-use Rattle.search.specs.Walk.{NoneBefore, OpenBits, Triple, TripleFits, memberOf, WalkEnd}
+use Rattle.pass.specs.First.{NoneBefore}
+use Rattle.search.specs.Walk.{OpenBits, Triple, TripleFits, memberOf, WalkEnd}
 use Rattle.search.proofs.Roles.{none-back}
 
 -- before a walk every bit is open

@@ -2,4 +2,3 @@ pub mod Pairs
 pub mod Roles
 pub mod Walking
 pub mod Choosing
-pub mod Spans

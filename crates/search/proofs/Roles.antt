@@ -9,8 +9,9 @@ use Rattle.job.specs.Role.{wanted, withWanted, withMask}
 use Rattle.job.proofs.Roles.{setting-with}
 use Rattle.word.specs.Word.{biased}
 use Rattle.fit.proofs.Roles.{fits-with, with-allowed, fits-back}
-use Rattle.search.specs.declared.Exponents.{Exponents}
-use Rattle.search.specs.Walk.{NoneBefore, Triple, TripleFits, memberOf}
+use Rattle.pass.specs.declared.Exponents.{Exponents}
+use Rattle.pass.specs.First.{NoneBefore}
+use Rattle.search.specs.Walk.{Triple, TripleFits, memberOf}
 
 -- the cases that fit the job with another mask of one word
 pub fits-replaced : (j : Job) (role : Role) (m : Mask) (t : Job) → t ≡ withWanted role j (withMask (wanted role j) m)

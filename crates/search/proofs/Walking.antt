@@ -18,11 +18,12 @@ use Rattle.job.specs.Job.{Valid}
 use Rattle.job.specs.Role.{wanted, withWanted, withMask}
 use Rattle.job.proofs.Roles.{wanted-with, valid-wanted, valid-with}
 use Rattle.fit.proofs.Roles.{member-lt, fits-allowed}
-use Rattle.search.specs.declared.Exponents.{Exponents}
+use Rattle.pass.specs.declared.Exponents.{Exponents}
 use Rattle.search.specs.Left.{Left, Ready}
-use Rattle.search.specs.Walk.{NoneBefore, FirstPair, OpenBits, WalkStart, Triple, TripleFits, memberOf, WalkEnd}
+use Rattle.pass.specs.First.{NoneBefore, FirstPair}
+use Rattle.search.specs.Walk.{OpenBits, WalkStart, Triple, TripleFits, memberOf, WalkEnd}
 use Rattle.search.proofs.Roles.{fits-replaced, replaced-setting, none-back}
-use Rattle.search.proofs.Pairs.{past-none}
+use Rattle.search.proofs.Pairs.{pair-left, past-none}
 
 module _ (j : Job) (role : Role) where
   walked : (n : ℕ) → OpenBits j role n → Walked Triple (memberOf role) (wordBits (j .setting .format)) (wanted role j .mask) (TripleFits j) n
@@ -101,7 +102,7 @@ module _ (j : Job) (role : Role) (n : ℕ) (o : OpenBits j role n) (h : n ≡ 0 
     -- the pair that was found starts the walk below
     pub tried-started : (first : Exponents) → FirstPair t first → first .a .0 < 2 ^ j .setting .format .w → WalkStart t role (n - 1) first
     tried-started first found l = record {
-      top = next-open j role n v o h v-lt t is (found .left (subst (λ (S : Setting). first .a .0 < 2 ^ S .format .w) (sym tried-setting) l));
+      top = next-open j role n v o h v-lt t is (pair-left t (first .a) (first .b) (found .admits (subst (λ (S : Setting). first .a .0 < 2 ^ S .format .w) (sym tried-setting) l)));
       none = found .none;
     }
 

@@ -1,13 +1,11 @@
 // The masked search: whether a case is left, and the operands of the one that two random words choose.
-mod field;
-mod pass;
-mod span;
 mod walk;
 
 use bits::power;
 use format::format_cause;
 use job::Job;
 use job::Role;
+use pass::Exponents;
 use pass::first_pair;
 use walk::follow;
 use word::Biased;
@@ -27,12 +25,6 @@ pub struct Pair {
 pub enum Choice {
     Operands(Pair),
     Nothing,
-}
-
-// The exponent fields of two operands. They are gone over by a's, and for each of a's by b's.
-pub struct Exponents {
-    pub a: Biased,
-    pub b: Biased,
 }
 
 // The operands that the random words choose: each bit of a, from the top, follows the first, and then each bit of b the second. Nothing in

@@ -1,12 +1,12 @@
 // The bits of one operand, fixed from the top: each follows the random word where that leaves a case.
-use super::Exponents;
-use super::pass::first_pair;
 use bits::power;
 use job::Job;
 use job::Role;
 use job::words::fix_bit;
 use job::words::wanted;
 use mask::free;
+use pass::Exponents;
+use pass::first_pair;
 ghost use mathlib.Core.Path.{_≡_};
 ghost use Rattle.format.specs.Format.{Supported};
 ghost use Rattle.search.specs.Walk.{WalkStart, WalkEnd};

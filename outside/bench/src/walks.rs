@@ -51,7 +51,7 @@ pub const COUNTED: [Counted; 4] = [
         text: "How many steps the search takes: one for each exponent field of a that it looks for \
                partners of, and one for each pair that it visits, those that the table refuses \
                among them.",
-        function: "search::span::partner_from",
+        function: "pass::span::partner_from",
         figure: Figure::Calls,
     },
     Counted {

@@ -9,7 +9,7 @@ use Rattle.job.specs.declared.Setting.{Setting}
 use Rattle.word.proofs.Bounds.{exponents}
 use Rattle.search.specs.Left.{Ready}
 use Rattle.search.proofs.Choosing.{all-open, none-first, end-none, walks-choose}
-use Rattle.search.proofs.Pairs.{past-none}
+use Rattle.search.proofs.Pairs.{pair-left, past-none}
 use borrow.Author.Needs.{needs}
 use Rattle.search.proofs.choose.Statement.{statement}
 use Rattle.search.proofs.choose.Tie as tie
@@ -21,7 +21,7 @@ returns : tie.Need-returns
 returns c = (λ n. refl, λ valid. absurd (unsupported-of (c .before .format-cause .ensures) (c .if1 .taken) (valid .setting .format)))
 
 first-pair-requires : tie.Need-first-pair-requires
-first-pair-requires c κs = supported-of (c .before .format-cause .ensures) (c .if1 .left)
+first-pair-requires c κs = search needs
 
 power-requires : tie.Need-power-requires
 power-requires c κs = search needs
@@ -46,8 +46,9 @@ returns-2 c =
       λ n. absurd (n ok),
       λ valid.
           let is = exponents (a .job .setting .format) ok (c .before .before .before .before .before .power .ensures) in
+          let one-first = c .before .before .before .before .before .before .first-pair .result in
           let first = c .before .before .before .before .before .before .first-pair .ensures valid (none-first (a .job)) in
-          let ready : Ready (a .job) = record { valid = valid; left = first .left (omega (arith, is, c .before .before .before .if2 .taken)) } in
+          let ready : Ready (a .job) = record { valid = valid; left = pair-left (a .job) (one-first .a) (one-first .b) (first .admits (omega (arith, is, c .before .before .before .if2 .taken))) } in
           let with-a = one .ensures .1 (record { top = all-open (a .job) A (wordBits (a .job .setting .format)) ready refl; none = first .none }) in
           let with-b = c .follow2 .ensures .1 (record {
             top = all-open (one .result) B (wordBits (a .job .setting .format)) (with-a .ready) (ap (λ (S : Setting). wordBits (S .format)) (sym (one .ensures .0)));

@@ -21,7 +21,7 @@ use Rattle.word.proofs.Bounds.{exponents}
 use Rattle.search.specs.Walk.{OpenBits}
 use Rattle.search.proofs.Roles.{replaced-setting}
 use Rattle.search.proofs.Walking.{end-done, skipped-bit, tried-valid, tried-none, tried-started, tried-past, tried-end, other-started, other-end}
-use Rattle.search.proofs.pass.first_pair.Reads as first-pair-reads
+use Rattle.pass.proofs.first_pair.Reads as first-pair-reads
 use Rattle.search.proofs.walk.+follow.Lts-follow as follow-lts
 use Rattle.search.proofs.walk.+follow.{statement}
 use Rattle.search.proofs.walk.follow.Kinds as follow-kinds
@@ -72,8 +72,7 @@ follow-fix-bit-requires : (t : ℕ) → follow-lts.Need-fix-bit-requires (wanted
 follow-fix-bit-requires t c κs = search needs
 
 follow-first-pair-requires : (t : ℕ) → follow-lts.Need-first-pair-requires (wanted-reads.Asked, wanted-reads.Learnt, free-reads.Asked, free-reads.Learnt, follow-below t, follow.Post, bit-at-reads.Asked, bit-at-reads.Learnt, fix-bit-reads.Asked, fix-bit-reads.Learnt, first-pair-reads.Asked, first-pair-reads.Learnt, power-reads.Asked, power-reads.Learnt) (follow-at t) follow.Post
-follow-first-pair-requires t c κs = let a = c .before .before .before .before .before .before .args in
-    subst (λ (S : Setting). Supported (S .format)) (sym (replaced-setting (a .job) (a .role) (fix (wanted (a .role) (a .job) .mask) (a .open-bits - 1) (c .before .bit-at .result)) (c .fix-bit .result) (c .fix-bit .ensures))) (c .before .before .before .before .before .before .pre .1)
+follow-first-pair-requires t c κs = search needs
 
 follow-power-requires : (t : ℕ) → follow-lts.Need-power-requires (wanted-reads.Asked, wanted-reads.Learnt, free-reads.Asked, free-reads.Learnt, follow-below t, follow.Post, bit-at-reads.Asked, bit-at-reads.Learnt, fix-bit-reads.Asked, fix-bit-reads.Learnt, first-pair-reads.Asked, first-pair-reads.Learnt, power-reads.Asked, power-reads.Learnt) (follow-at t) follow.Post
 follow-power-requires t c κs = search needs
