@@ -16,7 +16,7 @@ use Rattle.answers.specs.Kept.{ClassEnd, NoPartner}
 use Rattle.pass.specs.declared.pairs.Pass.{Pass}
 use Rattle.pass.specs.declared.span.Span.{Span}
 
--- none with an exponent field of a below n does
+-- no pair with an exponent field of a below n admits a case
 abbrev pub NoneBelow : Job → Biased → Type 0
 NoneBelow j n = (d e : Biased) → d .0 < n .0 → PairFits j d e → ⊥
 
