@@ -51,12 +51,12 @@ module _ (f closed : ℕ) where
       go (yes q) = ap (bit closed) (bit-over f d e some (omega arith) .0 q ∙ omega arith) ∙ ones (d - e - gap) (near q)
       go (no q) = ap (bit closed) (bit-over f d e some (omega arith) .1 (omega arith) ∙ omega arith) ∙ ones (farGap f - gap) (past (omega arith))
 
-  -- all below a's field E, and all above it
+  -- all of b's fields up to a's, and all above it
   pub all-below : (E e run : ℕ) → farGap f < E → e ≤ E → bit closed 0 ≡ 1 → farGap f < run → ((k : ℕ) → k < run → bit closed (1 + k) ≡ 1) → bit closed (closedBit f 0 (lowerField f (E - 1 - (e - 1)) e .0)) ≡ 1
   all-below E zero run large le first long ones = first
   all-below E (suc e) run large le first long ones =
       run-below E 1 (suc e) run (omega arith) (omega arith) (omega arith) le (omega arith) (omega arith)
       (λ k l. subst (λ (i : ℕ). bit closed (i + k) ≡ 1) (omega arith) (ones k l))
 
-  pub all-above : (e E run : ℕ) → 1 ≤ e → e < E → farGap f ≤ run → ((k : ℕ) → k < run → bit closed (1 + k) ≡ 1) → bit closed (closedBit f 1 (lowerField f (E - 1 - (e - 1)) e .0)) ≡ 1
-  all-above e E run some lt long ones = run-over e (e + 1) E 1 run some (omega arith) (omega arith) (omega arith) (inl (omega arith)) ones
+  pub all-over : (e E run : ℕ) → 1 ≤ e → e < E → farGap f ≤ run → ((k : ℕ) → k < run → bit closed (1 + k) ≡ 1) → bit closed (closedBit f 1 (lowerField f (E - 1 - (e - 1)) e .0)) ≡ 1
+  all-over e E run some lt long ones = run-over e (e + 1) E 1 run some (omega arith) (omega arith) (omega arith) (inl (omega arith)) ones

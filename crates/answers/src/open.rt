@@ -1,4 +1,4 @@
-// The partners of an exponent field of a whose classes are known to admit nothing.
+// What the closed classes rule out: partners of an exponent field of a, or all pairs at once.
 use crate::MOST_FRACTION;
 use crate::PLACES;
 use crate::known::closed_place;

@@ -3,7 +3,7 @@
 use mathlib.Core.Logic.{_⊎_, inl, inr, ⊎-elim}
 use mathlib.Core.Path.{_≡_, refl, sym, ap, _∙_, subst, subst₂}
 use mathlib.Core.Bool.{Bool, cond}
-use Prim.Native.Nat.{ℕ, zero, suc, _+_, _-_, _^_, _≤_, _<_}
+use Prim.Native.Nat.{ℕ, zero, suc, _+_, _^_, _≤_, _<_}
 use native.Mathlib.Decide.{decLe, ℕ-discrete}
 use native.Mathlib.Omega.{arith}
 use borrow.Author.Tests.{le-leb, lt-leb}
@@ -98,7 +98,7 @@ module _ (j : Job) (valid : Valid j) (x y : Side) (fx : FiniteSide (j .setting .
         moved (j .setting .format) (j .setting .mode) (eqb (x .sign) (y .sign)) (x .sign) (unitOf (x .exponent)) (fx .sign-lt) (classed .wide) n
         (made-most f (alignedOf (j .setting .format) (j .carries) x′ y′) n made) (reach (ℕ-discrete n 0)) within
 
-  pub larger-moved : Larger j x y → FieldReached j (x .exponent) low (λ (i : Mask). Larger (asking j i) x′ y′)
+  larger-moved : Larger j x y → FieldReached j (x .exponent) low (λ (i : Mask). Larger (asking j i) x′ y′)
   larger-moved (order, a) = record {
     field = w .field;
     most = w .most;
@@ -161,7 +161,7 @@ module _ (j : Job) (valid : Valid j) (x y : Side) (fx : FiniteSide (j .setting .
           unit n = record { 0 = n }
 
 -- the one or the other side is the larger operand: the one with the smaller field only where the fields are equal
-pub sums-moved : (j : Job) → Valid j → (x y : Side) → FiniteSide (j .setting .format) x → FiniteSide (j .setting .format) y → Classed (j .setting .format) (j .c .mask) (x .exponent) (y .exponent)
+sums-moved : (j : Job) → Valid j → (x y : Side) → FiniteSide (j .setting .format) x → FiniteSide (j .setting .format) y → Classed (j .setting .format) (j .c .mask) (x .exponent) (y .exponent)
     → y .exponent .0 ≤ x .exponent .0 → Sums j x y
     → FieldReached j (x .exponent) (lowField (j .setting .format .f) (x .exponent) (y .exponent))
     (λ (i : Mask). Sums (asking j i) (atField x (topField (j .setting .format .f))) (atField y (lowField (j .setting .format .f) (x .exponent) (y .exponent))))

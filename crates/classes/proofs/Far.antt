@@ -1,5 +1,5 @@
 -- Pairs that need no question of their own: those whose smaller exponent field is far below the larger one have one answer, and where c's mask
--- lets through no exponent field near the larger one only a zero sum is left; with a gap of 2 or more, near is at most 1 below. Assumes nothing.
+-- lets through no exponent field near the larger one only a zero sum is left; with a gap of 2 or more none is, and near is at most 1 below. Assumes nothing.
 use mathlib.Core.Logic.{_⊎_, inl, inr, ⊎-elim}
 use mathlib.Core.Path.{_≡_, refl, subst}
 use Prim.Native.Nat.{ℕ, zero, suc, _+_, _-_, _^_, _≤_, _<_}
@@ -77,9 +77,12 @@ module _ (j : Job) (valid : Valid j) (o : ℕ) (E e : Biased) (finite : E .0 < a
   -- with a gap of 2 or more
   pub near-sum : e .0 + 2 ≤ E .0 → LetsNear j 1 E
   unfolding leastField
-  near-sum apart = go (r .field .0) refl (decLe (lowField f E e .0 + 2) (topField f .0))
+  near-sum apart = go (r .field .0) refl (least (decLe (lowField f E e .0 + 2) (topField f .0)))
     where
-      go : (i : ℕ) → r .field .0 ≡ i → Dec (lowField f E e .0 + 2 ≤ topField f .0) → LetsNear j 1 E
-      go i is (no l) = absurd (omega (arith, low-near f (E .0) (e .0) under (omega arith)))
-      go zero is (yes l) = absurd (omega (arith, is, rw (le-leb (lowField f E e .0 + 2) (topField f .0) l) at (r .least)))
-      go (suc i) is (yes l) = nonzero-near i 1 is (omega (arith, is, rw (le-leb (lowField f E e .0 + 2) (topField f .0) l) at (r .least)))
+      least : Dec (lowField f E e .0 + 2 ≤ topField f .0) → farGap f ≤ r .field .0
+      least (yes l) = rw (le-leb (lowField f E e .0 + 2) (topField f .0) l) at (r .least)
+      least (no l) = absurd (omega (arith, low-near f (E .0) (e .0) under (omega arith)))
+
+      go : (i : ℕ) → r .field .0 ≡ i → farGap f ≤ r .field .0 → LetsNear j 1 E
+      go zero is l = absurd (omega arith)
+      go (suc i) is l = nonzero-near i 1 is (omega arith)

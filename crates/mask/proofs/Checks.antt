@@ -2,7 +2,7 @@
 -- and the Bool of a test is the statement.
 -- Assumes nothing.
 use mathlib.Core.Logic.{_↔_}
-use mathlib.Core.Path.{_≡_, refl, sym, _∙_}
+use mathlib.Core.Path.{_≡_, refl, sym, ap, _∙_}
 use mathlib.Core.Bool.{Bool, true, false, and-eq-true-iff, false≢true}
 use Prim.Native.Nat.{ℕ, suc, _^_}
 use borrow.Author.Tests.{ltb-true, lt-ltb, eqb-true, eq-eqb}
@@ -18,6 +18,13 @@ use Rattle.mask.specs.Named.{Named}
 
 pub meets-true : (x : ℕ) (m : Mask) → (meets x m ≡ true) ↔ Meets x m
 meets-true x m = (eqb-true (bitAnd x (m .care)) (m .value), eq-eqb (bitAnd x (m .care)) (m .value))
+
+-- the same of a test against a mask that is known as another
+pub meets-tested : (x : ℕ) {m n : Mask} {t : Bool} → t ≡ meets x m → m ≡ n → (t ≡ true) ↔ Meets x n
+meets-tested x {m} {n} {t} test is =
+    let law = meets-true x n in
+    let same : t ≡ meets x n = test ∙ ap (meets x) is in
+    ((λ h. law .0 (sym same ∙ h)), λ h. same ∙ law .1 h)
 
 pub inside-true : (m : Mask) → (inside m ≡ true) ↔ Inside m
 inside-true m = meets-true (m .value) m

@@ -1,32 +1,24 @@
 -- The operands of a case have exponent fields below 2^w, and these meet the masks on them. Assumes nothing.
-use mathlib.Core.Path.{_≡_, sym, ap, _∙_, subst}
-use mathlib.Core.Bool.{Bool, true}
-use mathlib.Core.Logic.{_↔_}
-use Prim.Native.Nat.{ℕ, _+_, _/_, _^_, _<_}
-use native.Mathlib.Nat.{mod-lt}
+use mathlib.Core.Path.{_≡_, subst}
+use Prim.Native.Nat.{ℕ, _+_, _^_, _<_}
 use native.Mathlib.Omega.{arith}
-use lib.Pow.{pow-pos}
 use Rattle.format.specs.declared.Format.{Format}
 use Rattle.format.specs.Format.{wordBits}
 use Rattle.mask.specs.declared.Mask.{Mask}
-use Rattle.mask.specs.Mask.{WellFormed, Meets, meets, high}
-use Rattle.mask.proofs.Checks.{meets-true}
+use Rattle.mask.specs.Mask.{WellFormed, Meets, high}
 use Rattle.mask.proofs.ByParts.{low-formed, high-formed, meets-fields}
 use Rattle.job.specs.declared.Job.{Job}
 use Rattle.job.specs.Job.{Valid}
 use Rattle.word.specs.declared.Biased.{Biased}
 use Rattle.word.specs.Word.{biased}
+use Rattle.word.proofs.Fields.{biased-lt}
 use Rattle.special.specs.Asked.{InRange, PairFits}
 use Rattle.classes.specs.Class.{Asked}
 use Rattle.word.specs.Masks.{exponentMask}
 
--- the exponent field of a word is below 2^w
-pub field-lt : (F : Format) (x : ℕ) → biased F x .0 < 2 ^ F .w
-field-lt F x = mod-lt (x / 2 ^ F .f) (pow-pos (F .w))
-
--- and that of a word that meets a mask meets the mask on it
-field-meets : (F : Format) (m : Mask) (x : ℕ) (e : Biased) → WellFormed (wordBits F) m → Meets x m → biased F x ≡ e → Meets (e .0) (exponentMask F m)
-field-meets F m x e h met is = subst (λ (u : Biased). Meets (u .0) (exponentMask F m)) is (meets-fields (F .w) (F .f) m h x .0 met .1)
+-- the exponent field of a word that meets a mask meets the mask on it
+exponent-meets : (F : Format) (m : Mask) (x : ℕ) (e : Biased) → WellFormed (wordBits F) m → Meets x m → biased F x ≡ e → Meets (e .0) (exponentMask F m)
+exponent-meets F m x e h met is = subst (λ (u : Biased). Meets (u .0) (exponentMask F m)) is (meets-fields (F .w) (F .f) m h x .0 met .1)
 
 -- the mask on an exponent field is well formed
 pub field-formed : (F : Format) (m : Mask) → WellFormed (wordBits F) m → WellFormed (F .w) (exponentMask F m)
@@ -36,21 +28,14 @@ field-formed F m h = low-formed (F .w) (high (F .f) m) (high-formed (F .w + 1) (
 pub pair-range : (j : Job) (ea eb : Biased) → Valid j → PairFits j ea eb → InRange (j .setting .format) ea eb
 pair-range j ea eb v p = record {
   supported = v .setting .format;
-  a-lt = subst (λ (u : Biased). u .0 < 2 ^ j .setting .format .w) (p .a-exponent) (field-lt (j .setting .format) (p .a));
-  b-lt = subst (λ (u : Biased). u .0 < 2 ^ j .setting .format .w) (p .b-exponent) (field-lt (j .setting .format) (p .b));
+  a-lt = subst (λ (u : Biased). u .0 < 2 ^ j .setting .format .w) (p .a-exponent) (biased-lt (j .setting .format) (p .a));
+  b-lt = subst (λ (u : Biased). u .0 < 2 ^ j .setting .format .w) (p .b-exponent) (biased-lt (j .setting .format) (p .b));
 }
 
 -- and it may be asked
 pub pair-asked : (j : Job) (ea eb : Biased) → Valid j → PairFits j ea eb → Asked j ea eb
 pair-asked j ea eb v p = record {
   valid = v;
-  a-exponent = field-meets (j .setting .format) (j .a .mask) (p .a) ea (v .a .mask) (p .fits .satisfies .a-allowed .mask) (p .a-exponent);
-  b-exponent = field-meets (j .setting .format) (j .b .mask) (p .b) eb (v .b .mask) (p .fits .satisfies .b-allowed .mask) (p .b-exponent);
+  a-exponent = exponent-meets (j .setting .format) (j .a .mask) (p .a) ea (v .a .mask) (p .fits .satisfies .a-allowed .mask) (p .a-exponent);
+  b-exponent = exponent-meets (j .setting .format) (j .b .mask) (p .b) eb (v .b .mask) (p .fits .satisfies .b-allowed .mask) (p .b-exponent);
 }
-
--- the test of an exponent field against its mask
-pub tested : (F : Format) (m : Mask) (e : ℕ) {m′ : Mask} {t : Bool} → m′ ≡ exponentMask F m → t ≡ meets e m′ → (t ≡ true) ↔ Meets e (exponentMask F m)
-tested F m e is q =
-    let law = meets-true e (exponentMask F m) in
-    let same = q ∙ ap (meets e) is in
-    (λ h. law .0 (sym same ∙ h), λ h. same ∙ law .1 h)

@@ -33,13 +33,17 @@ pub met-field : (F : Format) (m p : Mask) (n r : ℕ) → Supported F → WellFo
     → MetFrom (F .w) (exponentMask F m) n r
 met-field F m p n r supported formed is met = subst (λ (q : Mask). WellFormed (F .w) q → MetFrom (F .w) q n r) is (met (omega (arith, exponent-room F supported))) (field-formed F m formed)
 
+-- two stretches of a's fields as one
+none-join : (j : Job) (n r : Biased) → NoneBelow j n → ((d e : Biased) → n .0 ≤ d .0 → d .0 < r .0 → PairFits j d e → ⊥) → NoneBelow j r
+none-join j n r one two d e l = go (decLt (d .0) (n .0))
+  where
+    go : Dec (d .0 < n .0) → PairFits j d e → ⊥
+    go (yes h) = one d e h
+    go (no h) = two d e (omega arith) l
+
 module _ (j : Job) (valid : Valid j) (n r : ℕ) where
   pub none-met : MetFrom (j .setting .format .w) (exponentMask (j .setting .format) (j .a .mask)) n r → NoneBelow j (fieldIs n) → NoneBelow j (fieldIs r)
-  none-met met none d e l = go (decLt (d .0) n)
-    where
-      go : Dec (d .0 < n) → PairFits j d e → ⊥
-      go (yes h) P = none d e h P
-      go (no h) P = met .none (d .0) (omega arith) l (pair-range j d e valid P .a-lt) (pair-asked j d e valid P .a-exponent)
+  none-met met none = none-join j (fieldIs n) (fieldIs r) none (λ d e from to P. met .none (d .0) from to (pair-range j d e valid P .a-lt) (pair-asked j d e valid P .a-exponent))
 
   pub partners-met : MetFrom (j .setting .format .w) (exponentMask (j .setting .format) (j .b .mask)) n r → (ea : Biased) → NoPartner j ea (fieldIs n) (fieldIs r)
   partners-met met ea d from to P = met .none (d .0) from to (pair-range j ea d valid P .b-lt) (pair-asked j ea d valid P .b-exponent)
@@ -80,11 +84,8 @@ module _ (j : Job) (valid : Valid j) where
 
   -- so has it for all that admit a case only from far below
   pub none-far : (first n r : Biased) → 1 ≤ first .0 → first .0 < n .0 → (first .0 < 2 ^ j .setting .format .w → Meets (first .0) (exponentMask (j .setting .format) (j .a .mask))) → NoneBelow j n → OnlyFar j n r → NoneBelow j r
-  none-far first n r some below met none far d e l = go (decLt (d .0) (n .0))
-    where
-      go : Dec (d .0 < n .0) → PairFits j d e → ⊥
-      go (yes h) P = none d e h P
-      go (no h) P = earlier-answered first d e (none first e below) some (omega arith) (met (omega (arith, pair-range j d e valid P .a-lt))) (far d e (omega arith) l P) P
+  none-far first n r some below met none far =
+      none-join j n r none (λ d e from to P. earlier-answered first d e (none first e below) some (omega arith) (met (omega (arith, pair-range j d e valid P .a-lt))) (far d e from to P) P)
 
   -- a field far below a's that was refused has the answer
   pub field-answered : (ea eb d : Biased) → FarBelow (j .setting .format) ea eb → FarBelow (j .setting .format) ea d → Meets (eb .0) (exponentMask (j .setting .format) (j .b .mask))
@@ -102,7 +103,7 @@ module _ (j : Job) (valid : Valid j) where
         let by = within E e (inl (omega arith)) (omega arith) in
         not-near 1 E low high (near-sum j valid o E e (by .1) (omega arith) P (by .0) apart)
 
-    -- a zero sum is left, if b's field is nearer than the far gap
+    -- only a zero sum is left, if b's field is nearer than the far gap
     pub only-zero : (d e : Biased) → gap < d .0 → n .0 + gap ≤ d .0 → d .0 + gap ≤ r .0 → e .0 < d .0 + gap → PairFits j d e → LetsZero j
     only-zero d e large low high l P = go (decLe (e .0) (d .0))
       where

@@ -32,13 +32,12 @@ OnlyFar j n r = (d e : Biased) → n .0 ≤ d .0 → d .0 < r .0 → PairFits j 
 abbrev pub NoSum : Job → Biased → Biased → Type 0
 NoSum j n r = (o : ℕ) (E e : Biased) → n .0 ≤ E .0 → E .0 < r .0 → e .0 + 2 ≤ E .0 → InOrder (PairFits j) o E e → ⊥
 
--- what a pass over the exponent fields asks: the masks on them, one past the last one, a field from 1 on that meets a's mask, whether signs are
+-- what a pass over the exponent fields asks: the masks on them, a field from 1 on that meets a's mask, whether signs are
 -- left for finite operands, whether c may be a zero, and one past the fields that the classes of pairs answer for
 pub record PassOf (j : Job) (p : Pass) : Type 0 where
   pub a : p .a ≡ exponentMask (j .setting .format) (j .a .mask)
   pub b : p .b ≡ exponentMask (j .setting .format) (j .b .mask)
   pub c : p .c ≡ exponentMask (j .setting .format) (j .c .mask)
-  pub past : p .past .0 ≡ 2 ^ j .setting .format .w
   pub first-some : 1 ≤ p .first .0
   pub first-meets : p .first .0 < 2 ^ j .setting .format .w → Meets (p .first .0) (exponentMask (j .setting .format) (j .a .mask))
   pub signs : p .signs ≡ signsLeft j

@@ -28,9 +28,9 @@ pub(crate) fn near_from(job: Job, pass: Pass, n: Biased) -> Biased
     }
 }
 
-// One past the fields of a, from ea on, that admit a case only with one of b that they are far below: all finite ones where no signs are left
-// for finite operands; those that the classes answer for where all classes are closed; else those near which c's mask lets no exponent
-// field through, if c may be no zero.
+// One past the fields of a, from ea on, that admit a case only with one of b that they are far below. Where no signs are left for finite
+// operands these are all finite ones. Else they are above the far gap, and the classes answer for them with all nearer partners: all
+// classes are closed, or c may not be a zero and its mask lets no exponent field through near a's field or such a partner's.
 fn far_end(job: Job, pass: Pass, ea: Biased, table: &[u64; PLACES]) -> Biased
     requires { ⌜ Supported (job .setting .format) × (pass .past .0 ≡ 2 ^ job .setting .format .w) ⌝ }
     ensures { λ r. ⌜ (ea .0 ≤ r .0) × (Valid job → PassOf job pass → Kept job (now (table .entry)) → OnlyFar job ea r) ⌝ }

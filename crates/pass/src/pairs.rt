@@ -56,8 +56,8 @@ fn pass_of(job: Job) -> Pass
     }
 }
 
-// The first pair of exponent fields that some case left has, or past them all. Those before `start` are known to have none. The loops are
-// left at the first pair that admits a case, and step over those that need no question.
+// The first pair of exponent fields that admits a case, or past them all, where those before `start` admit none. The loops are left at that
+// pair, and step over those that need no question.
 pub(crate) fn first_from(job: Job, start: Exponents) -> Exponents
     requires { ⌜ Supported (job .setting .format) ⌝ }
     ensures { λ r. ⌜ (Valid job → NoneBefore job start → FirstPair job r) ⌝ }

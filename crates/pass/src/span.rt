@@ -61,7 +61,7 @@ fn sum_from(job: Job, pass: Pass, larger: Biased) -> Biased
 }
 
 // The fields of b that are left to ask with one of a, where no smaller field of a has a case. With no signs left for finite operands they
-// begin at those of infinities and NaNs; where c's mask lets through no sum by its exponent, next to a's.
+// begin at those of infinities and NaNs; where c's mask lets through no sum by its exponent, at the one next below a's.
 pub(crate) fn span_of(job: Job, pass: Pass, ea: Biased) -> Span
     requires { ⌜ Supported (job .setting .format) × (pass .past .0 ≡ 2 ^ job .setting .format .w) × (ea .0 < pass .past .0) ⌝ }
     ensures { λ r. ⌜ (Valid job → PassOf job pass → SpanIn job ea r) × (Valid job → PassOf job pass → NoneBelow job ea → SpanOf job ea r) ⌝ }
@@ -99,9 +99,9 @@ pub(crate) fn after(job: Job, pass: Pass, ea: Biased, eb: Biased) -> Biased
     if (ea.0 == ones) & (eb.0 < ones) {
         return Biased(ones);
     }
-    let near = minus(ea.0 + 1, job.setting.format.f + FAR_GAP);
-    if (ea.0 < ones) & (1 <= eb.0) & (eb.0 < near) {
-        return Biased(near);
+    let past_far = minus(ea.0 + 1, job.setting.format.f + FAR_GAP);
+    if (ea.0 < ones) & (1 <= eb.0) & (eb.0 < past_far) {
+        return Biased(past_far);
     }
     Biased(eb.0 + 1)
 }

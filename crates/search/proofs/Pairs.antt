@@ -7,10 +7,10 @@ use native.Mathlib.Omega.{arith}
 use Rattle.job.specs.declared.Job.{Job}
 use Rattle.word.specs.declared.Biased.{Biased}
 use Rattle.word.specs.Word.{biased}
+use Rattle.word.proofs.Fields.{biased-lt}
 use Rattle.special.specs.Asked.{PairFits}
 use Rattle.pass.specs.declared.Exponents.{Exponents}
 use Rattle.pass.specs.First.{FirstPair}
-use Rattle.pass.proofs.Fields.{field-lt}
 use Rattle.search.specs.Left.{Left}
 
 pub pair-left : (j : Job) (ea eb : Biased) → PairFits j ea eb → Left j
@@ -19,5 +19,5 @@ pair-left j ea eb p = record { a = p .a; b = p .b; c = p .c; fits = p .fits }
 -- past the last exponent field of a no case is left
 pub past-none : (j : Job) (first : Exponents) → FirstPair j first → 2 ^ j .setting .format .w ≤ first .a .0 → Left j → ⊥
 past-none j first is past p =
-    is .none (biased (j .setting .format) (p .a)) (biased (j .setting .format) (p .b)) (inl (omega (arith, field-lt (j .setting .format) (p .a))))
+    is .none (biased (j .setting .format) (p .a)) (biased (j .setting .format) (p .b)) (inl (omega (arith, biased-lt (j .setting .format) (p .a))))
     (record { a = p .a; b = p .b; c = p .c; fits = p .fits; a-exponent = refl; b-exponent = refl })

@@ -16,7 +16,7 @@ use Rattle.mask.proofs.ByBits.{value-below}
 use Rattle.mask.proofs.ByParts.{fraction-formed, meets-fields}
 use Rattle.word.specs.declared.Biased.{Biased}
 use Rattle.word.specs.Word.{fraction, biased, sign}
-use Rattle.word.proofs.Fields.{together-lt, together-sign, together-biased, together-fraction, signed-lt}
+use Rattle.word.proofs.Fields.{biased-lt, together-lt, together-sign, together-biased, together-fraction, signed-lt}
 use Rattle.significand.specs.Tail.{greatest}
 use Rattle.significand.proofs.Part.{part-le}
 use Rattle.significand.proofs.Range.{greatest-lt, meets-range}
@@ -91,9 +91,6 @@ pub stands-lt : (F : Format) (x : ℕ) → standsFor F x < 4
 stands-lt F x = omega (arith, nonzero-lt (fraction F x))
 
 module _ (F : Format) (m : Mask) (w : WellFormed (wordBits F) m) (x : ℕ) (met : Meets x m) where
-  e-lt : biased F x .0 < 2 ^ F .w
-  e-lt = mod-lt (x / 2 ^ F .f) (pow-pos (F .w))
-
   which-sign : standsFor F x / 2 ≡ sign F x
   which-sign = omega (arith, nonzero-lt (fraction F x))
 
@@ -101,14 +98,14 @@ module _ (F : Format) (m : Mask) (w : WellFormed (wordBits F) m) (x : ℕ) (met 
   which-fraction = omega (arith, nonzero-lt (fraction F x))
 
   sign-of : sign F (representative F m (biased F x) (standsFor F x)) ≡ sign F x
-  sign-of = representative-sign F m w (biased F x) (standsFor F x) e-lt (stands-lt F x) ∙ which-sign
+  sign-of = representative-sign F m w (biased F x) (standsFor F x) (biased-lt F x) (stands-lt F x) ∙ which-sign
 
   exponent-of : biased F (representative F m (biased F x) (standsFor F x)) ≡ biased F x
-  exponent-of = representative-biased F m w (biased F x) (standsFor F x) e-lt (stands-lt F x)
+  exponent-of = representative-biased F m w (biased F x) (standsFor F x) (biased-lt F x) (stands-lt F x)
 
   fraction-of : fraction F (representative F m (biased F x) (standsFor F x)) ≡ extreme (F .f) (fractionMask F m) (nonzero (fraction F x))
   fraction-of =
-      representative-fraction F m w (biased F x) (standsFor F x) e-lt (stands-lt F x) ∙ ap (extreme (F .f) (fractionMask F m)) which-fraction
+      representative-fraction F m w (biased F x) (standsFor F x) (biased-lt F x) (stands-lt F x) ∙ ap (extreme (F .f) (fractionMask F m)) which-fraction
 
   pub representative-alike : Alike F x (representative F m (biased F x) (standsFor F x))
   representative-alike = record {

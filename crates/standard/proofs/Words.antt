@@ -15,7 +15,7 @@ use Rattle.word.specs.Word.{fraction, biased, sign, significand, allOnes, signe
 use Rattle.word.specs.Operand.{finiteOf, magnitude}
 use Rattle.rounding.specs.Rounding.{direction, magnitudeWord, overflowWord, rounded}
 use Rattle.word.proofs.Bounds.{infinity-pos}
-use Rattle.word.proofs.Fields.{biased-fraction, word-together}
+use Rattle.word.proofs.Fields.{biased-lt, biased-fraction, word-together}
 use Rattle.rounding.proofs.Rounded.{bounded-within, bounded-past}
 use Rattle.rounding.proofs.RoundedFields.{rounded-sign, rounded-word-biased, rounded-word-fraction}
 use Rattle.standard.specs.Representable.{Representable, magnitudeOf, largest, roundedMagnitude}
@@ -38,7 +38,7 @@ module _ (F : Format) where
   -- a finite word lies below infinity's
   finite-below : (x : ℕ) → FiniteWord F x → x % 2 ^ (F .w + F .f) < infinityWord F
   finite-below x ne =
-      let e = mod-lt (x / 2 ^ F .f) (pow-pos (F .w)) in
+      let e = biased-lt F x in
       let t = mod-lt x (pow-pos (F .f)) in
       let l : biased F x .0 < allOnes F = omega (arith, ne) in
       let m = mul-le-mul-right (2 ^ F .f) l in

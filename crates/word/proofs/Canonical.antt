@@ -17,6 +17,7 @@ use Rattle.word.specs.declared.Operand.the-variants.{Finite, Infinite, N
 use Rattle.word.specs.Word.{fraction, biased, sign, unitOf, significand, allOnes}
 use Rattle.word.specs.Operand.{finiteOf, operandOf, magnitude, Canonical, Sound}
 use Rattle.bits.proofs.Division.{ltb-scale}
+use Rattle.word.proofs.Fields.{biased-lt}
 
 -- a significand has p bits, and its top bit stands exactly where e is not 0
 pub significand-bounds : (f e t : ℕ) → t < 2 ^ f → (significand f e t < 2 ^ (f + 1)) × (e ≡ 0 → significand f e t < 2 ^ f) × (0 < e → 2 ^ f ≤ significand f e t)
@@ -27,7 +28,7 @@ significand-bounds f (suc e) t h = let p = pow-add 2 f 1 in (omega arith, λ z. 
 -- a word whose exponent field is not all ones stands for a canonical number
 pub finite-canonical : (F : Format) (x : ℕ) → (biased F x .0 ≡ allOnes F → ⊥) → Canonical F (finiteOf F x)
 finite-canonical F x ne =
-    let e = mod-lt (x / 2 ^ F .f) (pow-pos (F .w)) in
+    let e = biased-lt F x in
     let b = significand-bounds (F .f) (biased F x .0) (fraction F x) (mod-lt x (pow-pos (F .f))) in
     record {
       sign-lt = mod-lt (x / 2 ^ (F .w + F .f)) (omega arith);

@@ -10,6 +10,10 @@ use Rattle.format.specs.declared.Format.{Format}
 use Rattle.format.specs.Format.{wordBits}
 use Rattle.word.specs.Word.{fraction, biased, sign, signed, effective}
 
+-- the exponent field of a word has w bits
+pub biased-lt : (F : Format) (x : ℕ) → biased F x .0 < 2 ^ F .w
+biased-lt F x = mod-lt (x / 2 ^ F .f) (pow-pos (F .w))
+
 -- the fields of a sign and the word of a magnitude
 module _ (F : Format) (s m : ℕ) (hs : s < 2) (hm : m < 2 ^ (F .w + F .f)) where
   pub signed-sign : sign F (signed F s m) ≡ s

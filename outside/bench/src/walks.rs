@@ -49,8 +49,8 @@ pub const COUNTED: [Counted; 4] = [
     Counted {
         title: "Pairs visited",
         text: "How many steps the search takes: one for each exponent field of a that it looks \
-               for partners of, and one for each pair that it visits, those that the table \
-               refuses among them.",
+               for partners of, and one for each pair that is refused, by the table or by a \
+               question.",
         function: "pass::span::partner_from",
         figure: Figure::Calls,
     },

@@ -1,4 +1,4 @@
--- `answers::open::all_closed` meets its contract: the runs of ones hold every class, by `all-below` and `all-above`. Assumes nothing.
+-- `answers::open::all_closed` meets its contract: the runs of ones hold every class, by `all-below` and `all-over`. Assumes nothing.
 use mathlib.Core.Bool.{_&&_, and-eq-true-iff, false≢true}
 use mathlib.Core.Path.{_≡_, sym, _∙_, subst}
 use Prim.Native.Nat.{ℕ, _+_}
@@ -11,7 +11,7 @@ use Rattle.bits.specs.Bit.{bit}
 use Rattle.classes.specs.Class.{lowField}
 use Rattle.answers.specs.Kept.{closedBit}
 use Rattle.answers.proofs.Keeping.{pairs-closed}
-use Rattle.answers.proofs.Runs.{all-below, all-above}
+use Rattle.answers.proofs.Runs.{all-below, all-over}
 use borrow.Author.Needs.{needs}
 use Rattle.answers.proofs.open.all_closed.Statement.{statement}
 use Rattle.answers.proofs.open.all_closed.Tie as tie
@@ -65,7 +65,7 @@ returns-2 c =
     (all-below f (getD (now (a .table)) (c .before .before .before .before .before .before .closed-place .result) 0) (E .0) (e .0) (below .result) large le
     (sym (first .ensures) ∙ eqb-true (first .result) 1 (v .0)) (omega (arith, ltb-true (f + 3) (below .result) (v .1))) (below .ensures .1)))
     (λ E e large lt. subst (λ (n : ℕ). bit (getD (now (a .table)) n 0) (closedBit f 1 (lowField f E e .0)) ≡ 1) (c .before .before .before .before .closed-place2 .ensures)
-    (all-above f (getD (now (a .table)) (c .before .before .before .before .closed-place2 .result) 0) (e .0) (E .0) (above .result) (omega arith) lt (omega (arith, leb-true (f + 3) (above .result) (u .1))) (above .ensures .1)))
+    (all-over f (getD (now (a .table)) (c .before .before .before .before .closed-place2 .result) 0) (e .0) (E .0) (above .result) (omega arith) lt (omega (arith, leb-true (f + 3) (above .result) (u .1))) (above .ensures .1)))
 
 pub all-closed-spec : {M : Type 1} → statement M
 all-closed-spec = tie.close (tie.spec returns closed-place-requires mul-below element-copy-out-below closed-place-requires-2 mul-above element-copy-out-above add-far bit-at-requires run-from-requires run-from-requires-2 returns-2)

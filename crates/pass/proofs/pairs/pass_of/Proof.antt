@@ -1,9 +1,7 @@
 -- `pass::pairs::pass_of` meets its contract. Assumes nothing.
-use mathlib.Core.Bool.{true, false, _&&_, true≢false}
-use mathlib.Core.Path.{sym, ap, ap₂, _∙_}
-use Rattle.mask.specs.Mask.{meets}
-use Rattle.mask.proofs.Checks.{meets-true}
-use Rattle.word.specs.Masks.{exponentMask, fractionMask}
+use mathlib.Core.Bool.{_&&_, true≢false}
+use mathlib.Core.Path.{sym, ap₂, _∙_}
+use Rattle.mask.proofs.Checks.{meets-tested}
 use Rattle.word.proofs.Bounds.{exponents}
 use Rattle.pass.proofs.Spans.{met-field}
 use borrow.Author.Needs.{needs}
@@ -54,13 +52,12 @@ returns c =
             a = c .before .before .before .before .before .before .before .before .before .exponent-mask .ensures;
             b = c .before .before .before .before .before .before .before .exponent-mask3 .ensures;
             c = c .before .before .before .before .before .before .before .before .exponent-mask2 .ensures;
-            past = past;
             first-some = met .from;
             first-meets = met .meets;
             signs = c .before .before .before .before .signs-left .ensures;
             zero = λ no z.
-                true≢false (sym (ap₂ _&&_ (c .before .before .before .meets .ensures ∙ ap (meets 0) (c .before .before .before .before .before .before .before .before .exponent-mask2 .ensures) ∙ meets-true 0 (exponentMask F (j .c .mask)) .1 (z .exponent))
-                (c .before .meets2 .ensures ∙ ap (meets 0) (c .before .before .fraction-mask .ensures) ∙ meets-true 0 (fractionMask F (j .c .mask)) .1 (z .fraction))) ∙ no);
+                true≢false (sym (ap₂ _&&_ (meets-tested 0 (c .before .before .before .meets .ensures) (c .before .before .before .before .before .before .before .before .exponent-mask2 .ensures) .1 (z .exponent))
+                (meets-tested 0 (c .before .meets2 .ensures) (c .before .before .fraction-mask .ensures) .1 (z .fraction))) ∙ no);
             end = c .class-end .ensures .0 valid;
           },
     )

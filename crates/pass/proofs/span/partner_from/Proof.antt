@@ -3,6 +3,7 @@
 use mathlib.Core.Path.{_≡_, refl, subst}
 use Prim.Native.Nat.{ℕ, _-_, _^_, _≤_, _<_}
 use native.Mathlib.Omega.{arith}
+use denote.Ref.{now}
 use Rattle.mask.specs.Mask.{WellFormed, Meets}
 use Rattle.mask.specs.Next.{MetFrom}
 use Rattle.job.specs.declared.Job.{Job}
@@ -43,15 +44,26 @@ loop-holds c = let a = c .before .args in (
 asked-from-requires : tie.Need-asked-from-requires Inv-loop μ-loop
 asked-from-requires c κs = c .before .before .before .before .before .pre
 
+-- at any turn of the loop, none from n on was passed over that admits a case
+module _ (c : tie.At-loop Inv-loop μ-loop) where
+  abbrev s : tie.Start Inv-loop μ-loop
+  s = c .before .before
+
+  abbrev j : Job
+  j = s .args .job
+
+  found : (s .args .n .0 ≤ c .loop .eb .0)
+      × (Valid j → PassOf j (s .args .pass) → Kept j (now (s .args .table)) → (c .loop .eb .0 < 2 ^ j .setting .format .w → Meets (c .loop .eb .0) (exponentMask (j .setting .format) (j .b .mask))) × NoPartner j (s .args .ea) (s .args .n) (c .loop .eb))
+  found =
+      let first = c .before .met-from in (
+        omega (arith, first .ensures .0, c .loop .inv .1),
+        λ valid is kept.
+            let inv = c .loop .inv .2 valid is kept in
+            (inv .0, partners-join j (s .args .ea) (s .args .n) (fieldIs (first .result)) (c .loop .eb) (partners-met j valid (s .args .n .0) (first .result) (met-at j (s .args .pass) (s .args .n .0) (first .result) valid is (first .ensures .1)) (s .args .ea)) (inv .1)),
+      )
+
 returns : tie.Need-returns Inv-loop μ-loop
-returns c = let a = c .before .before .before .before .before .before .before .before .before .args in
-    let l = c .before .before .before .before .before .before .before .loop in
-    let first = c .before .before .before .before .before .before .before .before .met-from in (
-      omega (arith, first .ensures .0, l .inv .1),
-      λ valid is kept.
-          let inv = l .inv .2 valid is kept in
-          (inv .0, partners-join (a .job) (a .ea) (a .n) (fieldIs (first .result)) (l .eb) (partners-met (a .job) valid (a .n .0) (first .result) (met-at (a .job) (a .pass) (a .n .0) (first .result) valid is (first .ensures .1)) (a .ea)) (inv .1)),
-    )
+returns c = found (c .before .before .before .before .before .before .before)
 
 met-from-requires-2 : tie.Need-met-from-requires-2 Inv-loop μ-loop
 met-from-requires-2 c κs = search needs
@@ -73,14 +85,7 @@ loop-again c = let a = c .before .before .before .before .before .before .before
     )
 
 returns-2 : tie.Need-returns-2 Inv-loop μ-loop
-returns-2 c = let a = c .before .before .before .before .before .args in
-    let l = c .before .before .before .loop in
-    let first = c .before .before .before .before .met-from in (
-      omega (arith, first .ensures .0, l .inv .1),
-      λ valid is kept.
-          let inv = l .inv .2 valid is kept in
-          (inv .0, partners-join (a .job) (a .ea) (a .n) (fieldIs (first .result)) (l .eb) (partners-met (a .job) valid (a .n .0) (first .result) (met-at (a .job) (a .pass) (a .n .0) (first .result) valid is (first .ensures .1)) (a .ea)) (inv .1)),
-    )
+returns-2 c = found (c .before .before .before)
 
 pub partner-from-spec : {M : Type 1} → statement M
 partner-from-spec =

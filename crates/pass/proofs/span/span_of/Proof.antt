@@ -8,6 +8,7 @@ use native.Mathlib.Omega.{arith}
 use lib.Dec.{ltb}
 use borrow.Author.Tests.{not-true, not-false, ltb-true}
 use Rattle.mask.specs.Mask.{Meets}
+use Rattle.mask.proofs.Checks.{meets-tested}
 use Rattle.job.specs.declared.Job.{Job}
 use Rattle.job.specs.Job.{Valid}
 use Rattle.word.specs.declared.Biased.{Biased}
@@ -16,7 +17,7 @@ use Rattle.special.specs.Asked.{fieldIs, PairFits}
 use Rattle.pair.proofs.LikeSigns.{signs-none}
 use Rattle.answers.specs.Kept.{NoPartner}
 use Rattle.pass.specs.Steps.{NoneBelow, PassOf, SpanIn, SpanOf}
-use Rattle.pass.proofs.Fields.{pair-asked, tested}
+use Rattle.pass.proofs.Fields.{pair-asked}
 use borrow.Author.Needs.{needs}
 use Rattle.pass.proofs.span.span_of.Statement.{statement}
 use Rattle.pass.proofs.span.span_of.Tie as tie
@@ -25,7 +26,7 @@ use Rattle.pass.proofs.span.span_of.Tie as tie
 met-at : (c : tie.Else1) → PassOf (c .before .before .before .args .job) (c .before .before .before .args .pass) → Meets (c .before .before .before .args .ea .0) (exponentMask (c .before .before .before .args .job .setting .format) (c .before .before .before .args .job .a .mask))
 met-at c is =
     let a = c .before .before .before .args in
-    tested (a .job .setting .format) (a .job .a .mask) (a .ea .0) (is .a) (c .before .meets .ensures) .0 (not-false (c .before .meets .result) (c .if1 .left))
+    meets-tested (a .ea .0) (c .before .meets .ensures) (is .a) .0 (not-false (c .before .meets .result) (c .if1 .left))
 
 meets-requires : tie.Need-meets-requires
 meets-requires c κs = search needs
@@ -36,7 +37,7 @@ returns c =
     let a = s .args in (
       λ valid is. record { within = omega (arith, s .pre .1); meets = λ l. absurd (omega arith) },
       λ valid is none.
-          let no : (d : Biased) → PairFits (a .job) (a .ea) d → ⊥ = λ d P. false≢true (sym (not-true (c .before .meets .result) (c .if1 .taken)) ∙ tested (a .job .setting .format) (a .job .a .mask) (a .ea .0) (is .a) (c .before .meets .ensures) .1 (pair-asked (a .job) (a .ea) d valid P .a-exponent)) in
+          let no : (d : Biased) → PairFits (a .job) (a .ea) d → ⊥ = λ d P. false≢true (sym (not-true (c .before .meets .result) (c .if1 .taken)) ∙ meets-tested (a .ea .0) (c .before .meets .ensures) (is .a) .1 (pair-asked (a .job) (a .ea) d valid P .a-exponent)) in
           record { low = λ d from l. no d; high = λ d from. no d },
     )
 
