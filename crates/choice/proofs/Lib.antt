@@ -4,3 +4,4 @@ pub mod Pair
 pub mod Existence
 pub mod Fixing
 pub mod Walk
+pub mod NextBit

@@ -4,3 +4,4 @@ pub mod Borrow
 pub mod Some
 pub mod Reach
 pub mod Product
+pub mod Resumed

@@ -1,6 +1,5 @@
 -- What a fitting case says of the word of a role, and what becomes of it where something else is wanted of that word; once over the roles.
 -- Assumes nothing.
-use mathlib.Core.Path.{subst}
 use Prim.Native.Nat.{ℕ, _^_, _<_}
 use Rattle.format.specs.Format.{wordBits}
 use Rattle.job.specs.declared.Wanted.{Wanted}
@@ -8,7 +7,6 @@ use Rattle.job.specs.declared.Job.{Job}
 use Rattle.job.specs.declared.Role.{Role}
 use Rattle.job.specs.declared.Role.the-variants.{A, B, C}
 use Rattle.job.specs.Role.{member, wanted, withWanted}
-use Rattle.job.proofs.Roles.{with-back}
 use Rattle.fit.specs.Fit.{Allowed, Fits}
 
 module _ (j : Job) (a b c : ℕ) where
@@ -36,15 +34,3 @@ module _ (j : Job) (a b c : ℕ) where
     right = f .right;
     satisfies = record { a-allowed = f .satisfies .a-allowed; b-allowed = f .satisfies .b-allowed; c-allowed = h; row = f .satisfies .row };
   }
-
-  pub with-allowed : (role : Role) (w : Wanted) → Fits (withWanted role j w) a b c → Allowed (j .setting .format) (member role a b c) w
-  with-allowed A w f = f .satisfies .a-allowed
-  with-allowed B w f = f .satisfies .b-allowed
-  with-allowed C w f = f .satisfies .c-allowed
-
--- and back, where it is as it was wanted before
-pub fits-back : (j : Job) (a b c : ℕ) (role : Role) (w : Wanted) → Fits (withWanted role j w) a b c
-    → Allowed (j .setting .format) (member role a b c) (wanted role j) → Fits j a b c
-fits-back j a b c A w f h = subst (λ (t : Job). Fits t a b c) (with-back A j w) (fits-with (withWanted A j w) a b c A (wanted A j) f h)
-fits-back j a b c B w f h = subst (λ (t : Job). Fits t a b c) (with-back B j w) (fits-with (withWanted B j w) a b c B (wanted B j) f h)
-fits-back j a b c C w f h = subst (λ (t : Job). Fits t a b c) (with-back C j w) (fits-with (withWanted C j w) a b c C (wanted C j) f h)

@@ -29,6 +29,10 @@ withWanted C j w = record { setting = j .setting; a = j .a; b = j .b; c = w; car
 abbrev pub withMask : Wanted → Mask → Wanted
 withMask w m = record { mask = m }
 
+-- the job with another mask of that word
+abbrev pub withWordMask : Role → Job → Mask → Job
+withWordMask role j m = withWanted role j (withMask (wanted role j) m)
+
 -- a word agrees with a mask, and nothing else is wanted of it
 abbrev pub onlyMask : Mask → Wanted
 onlyMask m = record { mask = m }

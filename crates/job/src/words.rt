@@ -4,10 +4,8 @@ use crate::Role;
 use crate::Setting;
 use crate::Wanted;
 use mask::Mask;
-use mask::fix;
 ghost use mathlib.Core.Path.{_≡_};
-ghost use Rattle.mask.specs.Mask.{fix};
-ghost use Rattle.job.specs.Role.{wanted, withWanted, withMask, maskedJob};
+ghost use Rattle.job.specs.Role.{wanted, withWanted, withMask, withWordMask, maskedJob};
 
 // What is wanted of the word of a role.
 pub fn wanted(job: Job, role: Role) -> Wanted
@@ -42,12 +40,12 @@ pub fn with_mask(w: Wanted, m: Mask) -> Wanted
     with
 }
 
-// The job with bit i of the word of a role fixed to v, unless it is fixed already.
-pub fn fix_bit(job: Job, role: Role, i: u64, v: u64) -> Job
-    ensures { λ r. ⌜ r ≡ withWanted role job (withMask (wanted role job) (fix (wanted role job .mask) i v)) ⌝ }
+// The job with another mask of the word of a role.
+pub fn with_word_mask(job: Job, role: Role, m: Mask) -> Job
+    ensures { λ r. ⌜ r ≡ withWordMask role job m ⌝ }
 {
     let w = wanted(job, role);
-    with_wanted(job, role, with_mask(w, fix(w.mask, i, v)))
+    with_wanted(job, role, with_mask(w, m))
 }
 
 // The job that states four masks and nothing else.

@@ -1,8 +1,9 @@
 -- A case is left exactly where some pair of exponent fields admits one: the operands of a fitting case have exponent fields below 2^w.
 -- Assumes nothing.
-use mathlib.Core.Logic.{inl}
-use mathlib.Core.Path.{refl}
-use Prim.Native.Nat.{_^_, _≤_}
+use mathlib.Core.Logic.{inl, inr}
+use mathlib.Core.Path.{_≡_, refl}
+use Prim.Native.Nat.{_^_, _≤_, _<_}
+use native.Mathlib.Decide.{decLt}
 use native.Mathlib.Omega.{arith}
 use Rattle.job.specs.declared.Job.{Job}
 use Rattle.word.specs.declared.Biased.{Biased}
@@ -10,8 +11,9 @@ use Rattle.word.specs.Word.{biased}
 use Rattle.word.proofs.Fields.{biased-lt}
 use Rattle.special.specs.Asked.{PairFits}
 use Rattle.pass.specs.declared.Exponents.{Exponents}
-use Rattle.pass.specs.First.{FirstPair}
+use Rattle.pass.specs.First.{Before, FirstPair}
 use Rattle.search.specs.Left.{Left}
+use Rattle.search.specs.Walk.{FoundAt}
 
 pub pair-left : (j : Job) (ea eb : Biased) → PairFits j ea eb → Left j
 pair-left j ea eb p = record { a = p .a; b = p .b; c = p .c; fits = p .fits }
@@ -21,3 +23,20 @@ pub past-none : (j : Job) (first : Exponents) → FirstPair j first → 2 ^ j .s
 past-none j first is past p =
     is .none (biased (j .setting .format) (p .a)) (biased (j .setting .format) (p .b)) (inl (omega (arith, biased-lt (j .setting .format) (p .a))))
     (record { a = p .a; b = p .b; c = p .c; fits = p .fits; a-exponent = refl; b-exponent = refl })
+
+-- only one pair is the first
+pub found-unique : (j : Job) (p q : Exponents) → FoundAt j p → FoundAt j q → p ≡ q
+found-unique j p q x y = go (decLt (p .a .0) (q .a .0)) (decLt (q .a .0) (p .a .0)) (decLt (p .b .0) (q .b .0)) (decLt (q .b .0) (p .b .0))
+  where
+    not-before : (u v : Exponents) → FoundAt j u → FoundAt j v → Before (u .a) (u .b) v → ⊥
+    not-before u v fu fv h = fv .first .none (u .a) (u .b) h (fu .first .admits (fu .within))
+
+    same : p .a .0 ≡ q .a .0 → p .b .0 ≡ q .b .0 → p ≡ q
+    same e f = λ i. record { a = record { 0 = e i }; b = record { 0 = f i } }
+
+    go : Dec (p .a .0 < q .a .0) → Dec (q .a .0 < p .a .0) → Dec (p .b .0 < q .b .0) → Dec (q .b .0 < p .b .0) → p ≡ q
+    go (yes l) _ _ _ = absurd (not-before p q x y (inl l))
+    go (no n) (yes l) _ _ = absurd (not-before q p y x (inl l))
+    go (no n) (no m) (yes l) _ = absurd (not-before p q x y (inr (omega arith, l)))
+    go (no n) (no m) (no k) (yes l) = absurd (not-before q p y x (inr (omega arith, l)))
+    go (no n) (no m) (no k) (no l) = same (omega arith) (omega arith)

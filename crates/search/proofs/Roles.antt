@@ -1,30 +1,44 @@
 -- The words of a case alike, by their role, as the bit walk needs them. Assumes nothing.
-use mathlib.Core.Path.{_≡_, sym, ap, _∙_, subst}
+use mathlib.Core.Path.{_≡_, sym, subst}
+use Prim.Native.Nat.{_^_, _<_}
+use Rattle.format.specs.Format.{Supported, wordBits}
+use Rattle.format.proofs.Room.{word-room}
 use Rattle.mask.specs.declared.Mask.{Mask}
-use Rattle.choice.proofs.Walk.{Replaced}
+use Rattle.mask.specs.Mask.{WellFormed, Meets}
+use Rattle.choice.proofs.Walk.{Lawful}
 use Rattle.job.specs.declared.Setting.{Setting}
 use Rattle.job.specs.declared.Job.{Job}
 use Rattle.job.specs.declared.Role.{Role}
-use Rattle.job.specs.Role.{wanted, withWanted, withMask}
-use Rattle.job.proofs.Roles.{setting-with}
+use Rattle.job.specs.Job.{Valid}
+use Rattle.job.specs.Role.{wanted, withMask, withWordMask}
+use Rattle.job.proofs.Roles.{word-mask-same, word-mask-wanted, word-mask-setting, valid-wanted, valid-with}
 use Rattle.word.specs.Word.{biased}
-use Rattle.fit.proofs.Roles.{fits-with, with-allowed, fits-back}
+use Rattle.fit.proofs.Roles.{member-lt, fits-allowed, fits-with}
 use Rattle.pass.specs.declared.Exponents.{Exponents}
 use Rattle.pass.specs.First.{NoneBefore}
-use Rattle.search.specs.Walk.{Triple, TripleFits, memberOf}
+use Rattle.search.specs.Walk.{Triple, TripleFits, memberOf, walkOf}
 
--- the cases that fit the job with another mask of one word
-pub fits-replaced : (j : Job) (role : Role) (m : Mask) (t : Job) → t ≡ withWanted role j (withMask (wanted role j) m)
-    → Replaced Triple (memberOf role) (TripleFits j) (wanted role j .mask) m (TripleFits t)
-fits-replaced j role m t is = subst (λ (u : Job). Replaced Triple (memberOf role) (TripleFits j) (wanted role j .mask) m (TripleFits u)) (sym is) (record {
-  to = λ p f e. fits-with j (p .0) (p .1) (p .2) role (withMask (wanted role j) m) f (record { mask = e });
-  meets = λ p f. with-allowed j (p .0) (p .1) (p .2) role (withMask (wanted role j) m) f .mask;
-  back = λ p f e. fits-back j (p .0) (p .1) (p .2) role (withMask (wanted role j) m) f (record { mask = e });
-})
+module _ (j : Job) (role : Role) where
+  -- what a bit walk asks of its cases
+  pub lawful : Supported (j .setting .format) → Lawful (walkOf j role) (wordBits (j .setting .format))
+  lawful ok = record {
+    short = word-room (j .setting .format) ok;
+    small = λ m p f. subst (λ (S : Setting). memberOf role p < 2 ^ wordBits (S .format)) (word-mask-setting role j m) (member-lt (withWordMask role j m) (p .0) (p .1) (p .2) role f);
+    meets = λ m p f. subst (Meets (memberOf role p)) (word-mask-wanted role j m) (fits-allowed (withWordMask role j m) (p .0) (p .1) (p .2) role f .mask);
+    replaced = λ m m′ p f e. subst (λ (t : Job). TripleFits t p) (word-mask-same role j m m′)
+        (fits-with (withWordMask role j m) (p .0) (p .1) (p .2) role (withMask (wanted role (withWordMask role j m)) m′) f (record { mask = e }));
+  }
 
--- that job has the same setting
-pub replaced-setting : (j : Job) (role : Role) (m : Mask) (t : Job) → t ≡ withWanted role j (withMask (wanted role j) m) → t .setting ≡ j .setting
-replaced-setting j role m t is = ap (λ (u : Job). u .setting) is ∙ setting-with role j (withMask (wanted role j) m)
+  pub word-mask-formed : (m : Mask) → Valid (withWordMask role j m) → WellFormed (wordBits (j .setting .format)) m
+  word-mask-formed m v =
+      subst (λ (S : Setting). WellFormed (wordBits (S .format)) m) (word-mask-setting role j m)
+      (subst (WellFormed (wordBits (withWordMask role j m .setting .format))) (word-mask-wanted role j m) (valid-wanted role (withWordMask role j m) v .mask))
+
+  pub word-mask-valid : (m m′ : Mask) → Valid (withWordMask role j m) → WellFormed (wordBits (j .setting .format)) m′ → Valid (withWordMask role j m′)
+  word-mask-valid m m′ v w =
+      subst Valid (word-mask-same role j m m′)
+      (valid-with role (withWordMask role j m) (withMask (wanted role (withWordMask role j m)) m′) v
+      (record { mask = subst (λ (S : Setting). WellFormed (wordBits (S .format)) m′) (sym (word-mask-setting role j m)) w }))
 
 -- where each case of t fits j, no case of t has exponent fields that none of j has
 pub none-back : (j t : Job) (n : Exponents) → t .setting ≡ j .setting → ((p : Triple) → TripleFits t p → TripleFits j p) → NoneBefore j n → NoneBefore t n

@@ -1,143 +1,153 @@
 -- The bit walk over jobs, once over the two roles, by the laws of `choice`. Assumes nothing.
 use mathlib.Core.Path.{_≡_, refl, sym, ap, _∙_, subst}
-use mathlib.Core.Bool.{Bool, false}
-use Prim.Native.Nat.{ℕ, _-_, _^_, _≤_, _<_}
+use mathlib.Core.Bool.{Bool, true}
+use mathlib.Core.Logic.{_⊎_, inl, inr}
+use Prim.Native.Nat.{ℕ, suc, _-_, _^_, _≤_, _<_}
 use native.Mathlib.Omega.{arith}
-use borrow.Author.Tests.{eqb-false}
 use Rattle.bits.specs.Bit.{bit}
 use Rattle.bits.proofs.Laws.{bit-lt}
-use Rattle.format.specs.Format.{wordBits}
-use Rattle.mask.specs.Mask.{free, fix}
-use Rattle.choice.specs.Walk.{FixedFrom}
-use Rattle.choice.proofs.Walk.{Walked, Replaced, fixed-below, walk-done, walk-formed, walk-top, walk-back, walk-tried, walk-left, walk-other}
+use Rattle.format.specs.Format.{Supported, wordBits}
+use Rattle.mask.specs.declared.Mask.{Mask}
+use Rattle.mask.specs.Mask.{WellFormed, free, fix}
+use Rattle.steps.specs.Steps.{Leads, Resumes, CutAt}
+use Rattle.steps.proofs.Steps.{leads-cut-at}
+use Rattle.choice.specs.Walk.{FixedFrom, EndOfWalk}
+use Rattle.choice.proofs.Walk.{WalkInvariant, walk-formed, walk-back}
+use Rattle.choice.proofs.NextBit.{next-at, next-back, next-invariant, next-word, next-other, walk-ends, bit-walk-resumes}
 use Rattle.job.specs.declared.Setting.{Setting}
-use Rattle.job.specs.declared.Wanted.{Wanted}
 use Rattle.job.specs.declared.Job.{Job}
 use Rattle.job.specs.declared.Role.{Role}
 use Rattle.job.specs.Job.{Valid}
-use Rattle.job.specs.Role.{wanted, withWanted, withMask}
-use Rattle.job.proofs.Roles.{wanted-with, valid-wanted, valid-with}
-use Rattle.fit.proofs.Roles.{member-lt, fits-allowed}
+use Rattle.job.specs.Role.{wanted, withWordMask}
+use Rattle.job.proofs.Roles.{word-mask-own, word-mask-wanted, word-mask-setting}
 use Rattle.pass.specs.declared.Exponents.{Exponents}
-use Rattle.search.specs.Left.{Left, Ready}
 use Rattle.pass.specs.First.{NoneBefore, FirstPair}
-use Rattle.search.specs.Walk.{OpenBits, WalkStart, Triple, TripleFits, memberOf, WalkEnd}
-use Rattle.search.proofs.Roles.{fits-replaced, replaced-setting, none-back}
-use Rattle.search.proofs.Pairs.{pair-left, past-none}
+use Rattle.search.specs.declared.walk.State.{State}
+use Rattle.search.specs.Walk.{OpenBits, WalkStart, Triple, TripleFits, memberOf, FoundAt, walkOf, walkState, StartState, NextState, StateRun, WalkEnd}
+use Rattle.search.proofs.Pairs.{past-none, found-unique}
+use Rattle.search.proofs.Roles.{lawful, word-mask-formed, word-mask-valid, none-back}
 
 module _ (j : Job) (role : Role) where
-  walked : (n : ℕ) → OpenBits j role n → Walked Triple (memberOf role) (wordBits (j .setting .format)) (wanted role j .mask) (TripleFits j) n
-  walked n o = record {
-    formed = valid-wanted role j (o .ready .valid) .mask;
-    small = λ p. member-lt j (p .0) (p .1) (p .2) role;
-    meets = λ p f. fits-allowed j (p .0) (p .1) (p .2) role f .mask;
-    short = omega (arith, o .ready .valid .setting .format .w-most, o .ready .valid .setting .format .f-most);
-    most = o .most;
-    top = o .fixed;
-  }
+  -- jobs that differ in the mask of the word have one setting
+  same-setting : (m m′ : Mask) → withWordMask role j m .setting ≡ withWordMask role j m′ .setting
+  same-setting m m′ = word-mask-setting role j m ∙ sym (word-mask-setting role j m′)
 
-  -- nothing is open
-  pub end-done : (word : ℕ) → OpenBits j role 0 → WalkEnd j role word j
-  end-done word o =
-      let p = o .ready .left in
-      record { ready = o .ready; ends = walk-done (walked 0 o) refl word (p .a, p .b, p .c) (p .fits) }
+  module _ (s : State) (o : StartState j role s) where
+    ok : Supported (j .setting .format)
+    ok = subst (λ (S : Setting). Supported (S .format)) (word-mask-setting role j (s .mask)) (o .top .ready .valid .setting .format)
 
-  -- n bits are open, and the highest is fixed to v
-  module _ (n v : ℕ) (o : OpenBits j role n) (h : n ≡ 0 → ⊥) (hv : v < 2) (t : Job) (is : t ≡ withWanted role j (withMask (wanted role j) (fix (wanted role j .mask) (n - 1) v))) where
-    next : Wanted
-    next = withMask (wanted role j) (fix (wanted role j .mask) (n - 1) v)
+    -- the state of a walk, as its laws have it
+    invariant : WalkInvariant (walkOf j role) (wordBits (j .setting .format)) (s .mask) (s .open_bits)
+    invariant =
+        let left = o .top .ready .left in
+        record {
+          formed = word-mask-formed j role (s .mask) (o .top .ready .valid);
+          most = omega (arith, o .top .most, ap (λ (S : Setting). wordBits (S .format)) (word-mask-setting role j (s .mask)));
+          top = subst (λ (S : Setting). FixedFrom (wordBits (S .format)) (s .mask) (s .open_bits)) (word-mask-setting role j (s .mask))
+              (subst (λ (m : Mask). FixedFrom (wordBits (withWordMask role j (s .mask) .setting .format)) m (s .open_bits)) (word-mask-wanted role j (s .mask)) (o .top .fixed));
+          case = (left .a, left .b, left .c);
+          fits = left .fits;
+        }
 
-    next-setting : t .setting ≡ j .setting
-    next-setting = replaced-setting j role (fix (wanted role j .mask) (n - 1) v) t is
-
-    next-valid : Valid t
-    unfolding next
-    next-valid = subst Valid (sym is) (valid-with role j next (o .ready .valid) (record { mask = walk-formed (walked n o) h v hv }))
-
-    next-open : Left t → OpenBits t role (n - 1)
-    unfolding next
-    next-open left = record {
-      ready = record { valid = next-valid; left = left };
-      most = omega (arith, o .most, ap (λ (S : Setting). wordBits (S .format)) next-setting);
-      fixed = subst (λ (S : Setting). FixedFrom (wordBits (S .format)) (wanted role t .mask) (n - 1)) (sym next-setting)
-          (subst (λ (w : Wanted). FixedFrom (wordBits (j .setting .format)) (w .mask) (n - 1)) (sym (ap (wanted role) is ∙ wanted-with role j next)) (walk-top (walked n o) h v hv));
+    -- and back
+    opened : (t : State) → WalkInvariant (walkOf j role) (wordBits (j .setting .format)) (t .mask) (t .open_bits) → OpenBits (withWordMask role j (t .mask)) role (t .open_bits)
+    opened t w = record {
+      ready = record {
+        valid = word-mask-valid j role (s .mask) (t .mask) (o .top .ready .valid) (w .formed);
+        left = record { a = w .case .0; b = w .case .1; c = w .case .2; fits = w .fits };
+      };
+      most = omega (arith, w .most, ap (λ (S : Setting). wordBits (S .format)) (word-mask-setting role j (t .mask)));
+      fixed = subst (λ (S : Setting). FixedFrom (wordBits (S .format)) (wanted role (withWordMask role j (t .mask)) .mask) (t .open_bits)) (sym (word-mask-setting role j (t .mask)))
+          (subst (λ (m : Mask). FixedFrom (wordBits (j .setting .format)) m (t .open_bits)) (sym (word-mask-wanted role j (t .mask))) (w .top));
     }
 
-    next-fits : Replaced Triple (memberOf role) (TripleFits j) (wanted role j .mask) (fix (wanted role j .mask) (n - 1) v) (TripleFits t)
-    next-fits = fits-replaced j role (fix (wanted role j .mask) (n - 1) v) t is
+    -- where each case that is left was left, no case has exponent fields that none had
+    none-left : (m : Mask) → ((p : Triple) → TripleFits (withWordMask role j m) p → TripleFits (withWordMask role j (s .mask)) p) → NoneBefore (withWordMask role j m) (s .at)
+    none-left m back = none-back (withWordMask role j (s .mask)) (withWordMask role j m) (s .at) (same-setting m (s .mask)) back (o .none)
 
-    -- fixing more never gains a case
-    next-none : (s : Exponents) → NoneBefore j s → NoneBefore t s
-    next-none s = none-back j t s next-setting (walk-back (walked n o) h v hv next-fits)
+    -- the highest open bit, which is free, is tried as that of the word
+    module _ (some : 0 < s .open_bits) {f : Bool} (test : f ≡ free (s .mask) (s .open_bits - 1)) (frees : f ≡ true) (word v : ℕ) (e : v ≡ bit word (s .open_bits - 1))
+        (m : Mask) (tried : m ≡ fix (s .mask) (s .open_bits - 1) v) (t : Job) (is : t ≡ withWordMask role j m) where
+      v-lt : v < 2
+      v-lt = omega (arith, bit-lt word (s .open_bits - 1))
 
--- ---- as the code has it: n bits are open, and the highest, where it is free, is first tried as that of the random word
+      k-lt : suc (s .open_bits - 1) ≤ wordBits (j .setting .format)
+      k-lt = omega (arith, invariant .most)
 
-module _ (j : Job) (role : Role) (n : ℕ) (o : OpenBits j role n) (h : n ≡ 0 → ⊥) where
-  pub skipped-bit : {w : Wanted} {t : Bool} → w ≡ wanted role j → t ≡ free (w .mask) (n - 1) → t ≡ false → OpenBits j role (n - 1)
-  skipped-bit is e held =
-      let care = wanted role j .mask .care in
-      let some = eqb-false (bit care (n - 1)) 0 (sym (e ∙ ap (λ (w : Wanted). free (w .mask) (n - 1)) is) ∙ held) in
-      record {
-        ready = o .ready;
-        most = omega (arith, o .most);
-        fixed = fixed-below (wordBits (j .setting .format)) (wanted role j .mask) n (o .fixed) (omega (arith, some, bit-lt care (n - 1)));
-      }
+      tried-valid : Valid t
+      tried-valid =
+          subst Valid (sym is)
+          (word-mask-valid j role (s .mask) m (o .top .ready .valid)
+          (subst (WellFormed (wordBits (j .setting .format))) (sym tried) (walk-formed (walkOf j role) (wordBits (j .setting .format)) (lawful j role ok) (s .mask) (invariant .formed) (s .open_bits - 1) k-lt v v-lt)))
 
-  module _ (word v : ℕ) (e : v ≡ bit word (n - 1)) (t : Job) (is : t ≡ withWanted role j (withMask (wanted role j) (fix (wanted role j .mask) (n - 1) v))) where
-    v-lt : v < 2
-    v-lt = omega (arith, bit-lt word (n - 1))
+      tried-none : NoneBefore t (s .at)
+      tried-none =
+          subst (λ (u : Job). NoneBefore u (s .at)) (sym is)
+          (none-left m (λ p g. walk-back (walkOf j role) (wordBits (j .setting .format)) (lawful j role ok) (s .mask) (invariant .formed) (s .open_bits - 1) k-lt v v-lt p
+          (subst (λ (u : Mask). TripleFits (withWordMask role j u) p) tried g)))
 
-    pub tried-valid : Valid t
-    tried-valid = next-valid j role n v o h v-lt t is
+      -- a search from where it stands ends at p
+      module _ (p : Exponents) (ends : Valid t → NoneBefore t (s .at) → FirstPair t p) where
+        found : FirstPair (withWordMask role j m) p
+        found = subst (λ (u : Job). FirstPair u p) is (ends tried-valid tried-none)
 
-    pub tried-none : (s : Exponents) → NoneBefore j s → NoneBefore t s
-    tried-none = next-none j role n v o h v-lt t is
+        format-same : withWordMask role j m .setting .format .w ≡ j .setting .format .w
+        format-same = ap (λ (S : Setting). S .format .w) (word-mask-setting role j m)
 
-    tried-setting : t .setting ≡ j .setting
-    tried-setting = next-setting j role n v o h v-lt t is
+        pub word-next : p .a .0 < 2 ^ j .setting .format .w → NextState j role word s (record { mask = m; open_bits = s .open_bits - 1; at = p })
+        word-next l =
+            let within : p .a .0 < 2 ^ withWordMask role j m .setting .format .w = rw format-same l in
+            let q = found .admits within in
+            next-word (walkOf j role) word (walkState s) some test frees v e m tried (q .a, q .b, q .c) (q .fits) p (record { first = found; within = within })
 
-    tried-fits : Replaced Triple (memberOf role) (TripleFits j) (wanted role j .mask) (fix (wanted role j .mask) (n - 1) v) (TripleFits t)
-    tried-fits = next-fits j role n v o h v-lt t is
+        pub other-next : 2 ^ j .setting .format .w ≤ p .a .0 → (m′ : Mask) → m′ ≡ fix (s .mask) (s .open_bits - 1) (1 - v)
+            → NextState j role word s (record { mask = m′; open_bits = s .open_bits - 1; at = s .at })
+        other-next l =
+            let past : 2 ^ withWordMask role j m .setting .format .w ≤ p .a .0 = rw format-same l in
+            next-other (walkOf j role) word (walkState s) some test frees v e m tried
+            (λ c g. past-none (withWordMask role j m) p found past (record { a = c .0; b = c .1; c = c .2; fits = g }))
 
-    -- the pair that was found starts the walk below
-    pub tried-started : (first : Exponents) → FirstPair t first → first .a .0 < 2 ^ j .setting .format .w → WalkStart t role (n - 1) first
-    tried-started first found l = record {
-      top = next-open j role n v o h v-lt t is (pair-left t (first .a) (first .b) (found .admits (subst (λ (S : Setting). first .a .0 < 2 ^ S .format .w) (sym tried-setting) l)));
-      none = found .none;
+    -- a step leads to a state where a walk can start
+    pub next-started : (word : ℕ) (t : State) → NextState j role word s t → StartState j role t
+    next-started word t next = record {
+      top = opened t (next-invariant (walkOf j role) word (wordBits (j .setting .format)) (lawful j role ok) (walkState s) (walkState t) next invariant);
+      none = go (next-at (walkOf j role) word (walkState s) (walkState t) next);
     }
+      where
+        go : (t .at ≡ s .at) ⊎ FoundAt (withWordMask role j (t .mask)) (t .at) → NoneBefore (withWordMask role j (t .mask)) (t .at)
+        go (inl same) =
+            subst (NoneBefore (withWordMask role j (t .mask))) (sym same)
+            (none-left (t .mask) (next-back (walkOf j role) word (wordBits (j .setting .format)) (lawful j role ok) (walkState s) (walkState t) next invariant))
+        go (inr found) = found .first .none
 
-    -- past the last field no case is left
-    pub tried-past : (first : Exponents) → FirstPair t first → 2 ^ j .setting .format .w ≤ first .a .0 → Ready t → ⊥
-    tried-past first is past ready =
-        past-none t first is (subst (λ (S : Setting). 2 ^ S .format .w ≤ first .a .0) (sym tried-setting) past) (ready .left)
+  -- before a walk the state has the word's own mask
+  module _ (b : ℕ) (start : Exponents) (o : WalkStart j role b start) (m : Mask) (own : m ≡ wanted role j .mask) where
+    abbrev first : State
+    first = record { mask = m; open_bits = b; at = start }
 
-    pub tried-end : (u : Job) → WalkEnd t role word u → WalkEnd j role word u
-    tried-end u q = record {
-      ready = q .ready;
-      ends = walk-tried (walked j role n o) h word v e tried-fits (q .ends);
-    }
+    same-job : withWordMask role j m ≡ j
+    same-job = ap (withWordMask role j) own ∙ word-mask-own role j
 
-    module _ (none : Ready t → ⊥) (t′ : Job) (is′ : t′ ≡ withWanted role j (withMask (wanted role j) (fix (wanted role j .mask) (n - 1) (1 - v)))) where
-      w-lt : 1 - v < 2
-      w-lt = omega arith
+    pub all-started : StartState j role first
+    all-started = subst (λ (u : Job). WalkStart u role b start) (sym same-job) o
 
-      no-case : (p : Triple) → TripleFits t p → ⊥
-      no-case p f = none (record { valid = tried-valid; left = record { a = p .0; b = p .1; c = p .2; fits = f } })
+    -- and after as many steps as there are open bits the word is fixed
+    pub steps-follow : (word : ℕ) (last : State) → Leads State (NextState j role word) b first last → (t : Job) → t ≡ withWordMask role j (last .mask) → WalkEnd j role word t
+    steps-follow word last steps t is =
+        let e = walk-ends (walkOf j role) word State walkState (wordBits (j .setting .format)) (lawful j role (ok first all-started)) b first last steps (invariant first all-started) refl in
+        let ends = subst (λ (u : Job). EndOfWalk Triple (memberOf role) (TripleFits u) word (TripleFits (withWordMask role j (last .mask))) (last .mask .value)) same-job (e .1) in
+        subst (WalkEnd j role word) (sym is) (record {
+          ready = opened first all-started (record { mask = last .mask; open_bits = 0; at = start }) (e .0) .ready;
+          ends = subst (λ (u : Mask). EndOfWalk Triple (memberOf role) (TripleFits j) word (TripleFits (withWordMask role j (last .mask))) (u .value)) (sym (word-mask-wanted role j (last .mask))) ends;
+        })
 
-      other-fits : Replaced Triple (memberOf role) (TripleFits j) (wanted role j .mask) (fix (wanted role j .mask) (n - 1) (1 - v)) (TripleFits t′)
-      other-fits = next-fits j role n (1 - v) o h w-lt t′ is′
+  -- a walk can be cut at any position and taken up again
+  pub case-walk-resumes : (word : ℕ) → Resumes State (Leads State (NextState j role word))
+  case-walk-resumes word =
+      bit-walk-resumes (walkOf j role) word State walkState (λ m. found-unique (withWordMask role j m)) (λ s t e i. record { mask = e i .mask; open_bits = e i .open-bits; at = e i .at })
 
-      pub other-started : (s : Exponents) → NoneBefore j s → WalkStart t′ role (n - 1) s
-      other-started s below =
-          let p = o .ready .left in
-          let kept = walk-left (walked j role n o) h word v e tried-fits no-case other-fits (p .a, p .b, p .c) (p .fits) in
-          record {
-            top = next-open j role n (1 - v) o h w-lt t′ is′ (record { a = kept .case .0; b = kept .case .1; c = kept .case .2; fits = kept .fits });
-            none = next-none j role n (1 - v) o h w-lt t′ is′ s below;
-          }
-
-      pub other-end : (u : Job) → WalkEnd t′ role word u → WalkEnd j role word u
-      other-end u q = record {
-        ready = q .ready;
-        ends = walk-other (walked j role n o) h word v e tried-fits no-case other-fits (q .ends);
-      }
+  -- so `follow_bits` may be called again on what it replied: two calls end where one for as many bits does
+  pub case-walk-cut : (word m : ℕ) (s u : State) → StartState j role s → StateRun j role word m s u → CutAt State (StartState j role) (StateRun j role word) m s u
+  case-walk-cut word m s u o p =
+      let q = leads-cut-at State (NextState j role word) (case-walk-resumes word) (StartState j role) (λ a b h. next-started a h word b) m s u o (p o) in
+      record { starts = q .starts; ends = λ n t v x uncut. q .ends n t v (x (q .starts)) (uncut o) }

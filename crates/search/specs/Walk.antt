@@ -1,15 +1,16 @@
--- What the bit walk asks and promises (document 01, "each bit of a, from the top, follows the first random word": recursion over the bits
--- still open). Nothing here is needed to read the choice. Assumes nothing.
--- Internal: no public contract cites this.
-use Prim.Native.Nat.{ℕ, _≤_}
+-- What the bit walk asks, hands on and promises (document 01, "each bit of a, from the top, follows the first random word": recursion over
+-- the bits still open; document 02, W-204). Nothing here is needed to read the choice. Assumes nothing.
+use Prim.Native.Nat.{ℕ, _^_, _≤_, _<_}
 use Rattle.format.specs.Format.{wordBits}
-use Rattle.choice.specs.Walk.{FixedFrom, EndOfWalk}
+use Rattle.steps.specs.Steps.{Leads}
+use Rattle.choice.specs.Walk.{BitWalk, WalkState, FixedFrom, NextBit, EndOfWalk}
 use Rattle.job.specs.declared.Job.{Job}
 use Rattle.job.specs.declared.Role.{Role}
-use Rattle.job.specs.Role.{member, wanted}
+use Rattle.job.specs.Role.{member, wanted, withWordMask}
 use Rattle.fit.specs.Fit.{Fits}
 use Rattle.pass.specs.declared.Exponents.{Exponents}
-use Rattle.pass.specs.First.{NoneBefore}
+use Rattle.pass.specs.First.{NoneBefore, FirstPair}
+use Rattle.search.specs.declared.walk.State.{State}
 use Rattle.search.specs.Left.{Ready}
 
 -- a case is left, and the word's bits from position k on are fixed
@@ -32,6 +33,38 @@ TripleFits j p = Fits j (p .0) (p .1) (p .2)
 
 abbrev pub memberOf : Role → Triple → ℕ
 memberOf role p = member role (p .0) (p .1) (p .2)
+
+-- p is the first pair of exponent fields that admits a case
+pub record FoundAt (j : Job) (p : Exponents) : Type 0 where
+  pub first : FirstPair j p
+  pub within : p .a .0 < 2 ^ j .setting .format .w
+
+-- the walk over the bits of the word, whose search stands at a pair of exponent fields
+abbrev pub walkOf : Job → Role → BitWalk
+walkOf j role = record {
+  Case = Triple;
+  number = memberOf role;
+  Fits = λ m. TripleFits (withWordMask role j m);
+  At = Exponents;
+  Found = λ m. FoundAt (withWordMask role j m);
+}
+
+-- the state as the laws of a bit walk have it
+abbrev pub walkState : State → WalkState Exponents
+walkState s = record { mask = s .mask; open-bits = s .open_bits; at = s .at }
+
+-- a walk can start at the state s: with its mask a case is left, the bits above its open ones are fixed, and no case left has exponent
+-- fields before its pair
+abbrev pub StartState : Job → Role → State → Type 0
+StartState j role s = WalkStart (withWordMask role j (s .mask)) role (s .open_bits) (s .at)
+
+-- t is s with its highest open bit chosen
+abbrev pub NextState : Job → Role → ℕ → State → State → Type 0
+NextState j role word s t = NextBit (walkOf j role) word (walkState s) (walkState t)
+
+-- so many steps lead from s to t, where a walk can start at s
+abbrev pub StateRun : Job → Role → ℕ → ℕ → State → State → Type 0
+StateRun j role word count s t = StartState j role s → Leads State (NextState j role word) count s t
 
 -- t is j with the word fixed to its closest value
 pub record WalkEnd (j : Job) (role : Role) (word : ℕ) (t : Job) : Type 0 where

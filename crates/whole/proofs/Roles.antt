@@ -1,9 +1,8 @@
 -- The three numbers alike: what a case and its masks say of the number of a role. Assumes nothing.
-use mathlib.Core.Path.{_≡_, refl, sym, subst}
+use mathlib.Core.Path.{_≡_, refl}
 use Prim.Native.Nat.{ℕ, _^_, _<_}
 use Rattle.mask.specs.declared.Mask.{Mask}
 use Rattle.mask.specs.Mask.{WellFormed, Meets}
-use Rattle.choice.proofs.Walk.{Replaced}
 use Rattle.whole.specs.declared.Masks.{Masks}
 use Rattle.whole.specs.declared.Case.{Case}
 use Rattle.whole.specs.declared.Role.{Role}
@@ -16,6 +15,17 @@ pub mask-with : (role : Role) (s : Masks) (m : Mask) → maskOf role (withMask r
 mask-with X s m = refl
 mask-with Y s m = refl
 mask-with Z s m = refl
+
+-- the number's own mask, and one put in place of another
+pub with-own : (role : Role) (s : Masks) → withMask role s (maskOf role s) ≡ s
+with-own X s = refl
+with-own Y s = refl
+with-own Z s = refl
+
+pub with-same : (role : Role) (s : Masks) (m m′ : Mask) → withMask role (withMask role s m) m′ ≡ withMask role s m′
+with-same X s m m′ = refl
+with-same Y s m m′ = refl
+with-same Z s m m′ = refl
 
 module _ (n : ℕ) (s : Masks) where
   pub formed-own : (role : Role) → Formed n s → WellFormed n (maskOf role s)
@@ -39,30 +49,7 @@ module _ (n : ℕ) (s : Masks) where
     fits-own Y f = f .y-meets
     fits-own Z f = f .z-meets
 
-    fits-with : (role : Role) (m : Mask) → Fits n s c → Meets (number role c) m → Fits n (withMask role s m) c
+    pub fits-with : (role : Role) (m : Mask) → Fits n s c → Meets (number role c) m → Fits n (withMask role s m) c
     fits-with X m f e = record { adds = f .adds; x-meets = e; y-meets = f .y-meets; z-meets = f .z-meets; carries-meets = f .carries-meets }
     fits-with Y m f e = record { adds = f .adds; x-meets = f .x-meets; y-meets = e; z-meets = f .z-meets; carries-meets = f .carries-meets }
     fits-with Z m f e = record { adds = f .adds; x-meets = f .x-meets; y-meets = f .y-meets; z-meets = e; carries-meets = f .carries-meets }
-
-    fits-mask : (role : Role) (m : Mask) → Fits n (withMask role s m) c → Meets (number role c) m
-    fits-mask X m f = f .x-meets
-    fits-mask Y m f = f .y-meets
-    fits-mask Z m f = f .z-meets
-
--- the old mask put back
-with-back : (role : Role) (s : Masks) (m : Mask) → withMask role (withMask role s m) (maskOf role s) ≡ s
-with-back X s m = refl
-with-back Y s m = refl
-with-back Z s m = refl
-
-fits-back : (n : ℕ) (s : Masks) (c : Case) (role : Role) (m : Mask) → Fits n (withMask role s m) c → Meets (number role c) (maskOf role s) → Fits n s c
-fits-back n s c role m f e =
-    subst (λ (t : Masks). Fits n t c) (with-back role s m) (fits-with n (withMask role s m) c role (maskOf role s) f e)
-
--- the cases that fit the masks with that one replaced
-pub fits-replaced : (n : ℕ) (s : Masks) (role : Role) (m : Mask) (t : Masks) → t ≡ withMask role s m → Replaced Case (number role) (Fits n s) (maskOf role s) m (Fits n t)
-fits-replaced n s role m t is = subst (λ (u : Masks). Replaced Case (number role) (Fits n s) (maskOf role s) m (Fits n u)) (sym is) (record {
-  to = λ c. fits-with n s c role m;
-  meets = λ c. fits-mask n s c role m;
-  back = λ c. fits-back n s c role m;
-})

@@ -1,101 +1,97 @@
 -- The bit walk over whole-number masks, once over the three roles, by the laws of `choice`. Assumes nothing.
 use mathlib.Core.Path.{_≡_, refl, sym, ap, _∙_, subst}
-use mathlib.Core.Bool.{Bool, false}
-use Prim.Native.Nat.{ℕ, _-_, _<_}
+use Prim.Native.Nat.{ℕ, _-_, _≤_, _<_}
 use native.Mathlib.Omega.{arith}
-use borrow.Author.Tests.{eqb-false}
-use Rattle.bits.specs.Bit.{bit}
-use Rattle.bits.proofs.Laws.{bit-lt}
+use Rattle.format.specs.Limits.{mostLength}
 use Rattle.mask.specs.declared.Mask.{Mask}
-use Rattle.mask.specs.Mask.{free, fix}
-use Rattle.choice.specs.Walk.{FixedFrom}
-use Rattle.choice.proofs.Walk.{Walked, Replaced, fixed-below, walk-done, walk-formed, walk-top, walk-tried, walk-left, walk-other}
+use Rattle.mask.specs.Mask.{WellFormed, Meets, fix}
+use Rattle.steps.specs.Steps.{Leads, Resumes, CutAt}
+use Rattle.steps.proofs.Steps.{leads-cut-at}
+use Rattle.choice.specs.Walk.{FixedFrom, EndOfWalk}
+use Rattle.choice.proofs.Walk.{Lawful, WalkInvariant, walk-formed}
+use Rattle.choice.proofs.NextBit.{next-invariant, walk-ends, bit-walk-resumes}
 use Rattle.whole.specs.declared.Masks.{Masks}
 use Rattle.whole.specs.declared.Case.{Case}
 use Rattle.whole.specs.declared.Role.{Role}
+use Rattle.whole.specs.declared.walk.State.{State}
 use Rattle.whole.specs.Role.{number, maskOf, withMask}
 use Rattle.whole.specs.Job.{Formed}
-use Rattle.whole.specs.Fits.{Fits, Left}
-use Rattle.whole.specs.Walk.{OpenBits, WalkEnd}
-use Rattle.whole.proofs.Roles.{mask-with, formed-own, formed-with, number-lt, fits-own, fits-replaced}
+use Rattle.whole.specs.Fits.{Fits}
+use Rattle.whole.specs.Walk.{OpenBits, walkOf, walkState, OpenState, NextState, WalkEnd}
+use Rattle.whole.proofs.Roles.{mask-with, with-same, with-own, formed-own, formed-with, number-lt, fits-own, fits-with}
 
 module _ (n : ℕ) (s : Masks) (role : Role) where
-  walked : (b : ℕ) → OpenBits n s role b → Walked Case (number role) n (maskOf role s) (Fits n s) b
-  walked b o = record {
-    formed = formed-own n s role (o .ready .formed);
-    small = λ c. number-lt n s c role;
-    meets = λ c. fits-own n s c role;
-    short = omega (arith, o .ready .most);
-    most = o .most;
-    top = o .fixed;
+  lawful : n ≤ mostLength → Lawful (walkOf n s role) n
+  lawful most = record {
+    short = omega arith;
+    small = λ m c. number-lt n (withMask role s m) c role;
+    meets = λ m c f. subst (Meets (number role c)) (mask-with role s m) (fits-own n (withMask role s m) c role f);
+    replaced = λ m m′ c f e. subst (λ (u : Masks). Fits n u c) (with-same role s m m′) (fits-with n (withMask role s m) c role m′ f e);
   }
 
-  -- nothing is open
-  pub end-done : (word : ℕ) → OpenBits n s role 0 → WalkEnd n s role word s
-  end-done word o =
-      let p = o .ready .left in
-      record { ready = o .ready; ends = walk-done (walked 0 o) refl word (p .case) (p .fits) }
+  -- the state of a walk, as its laws have it
+  invariant : (st : State) → OpenState n s role st → WalkInvariant (walkOf n s role) n (st .mask) (st .open_bits)
+  invariant st o = record {
+    formed = subst (WellFormed n) (mask-with role s (st .mask)) (formed-own n (withMask role s (st .mask)) role (o .ready .formed));
+    most = o .most;
+    top = subst (λ (m : Mask). FixedFrom n m (st .open_bits)) (mask-with role s (st .mask)) (o .fixed);
+    case = o .ready .left .case;
+    fits = o .ready .left .fits;
+  }
 
-  -- b bits are open, and the highest is fixed to v
-  module _ (b v : ℕ) (o : OpenBits n s role b) (h : b ≡ 0 → ⊥) (hv : v < 2) (t : Masks) (is : t ≡ withMask role s (fix (maskOf role s) (b - 1) v)) where
-    next-formed : Formed n t
-    next-formed =
-        subst (Formed n) (sym is) (formed-with n s role (fix (maskOf role s) (b - 1) v) (o .ready .formed) (walk-formed (walked b o) h v hv))
+  -- and back
+  opened : (first : State) → OpenState n s role first → (st : State) → WalkInvariant (walkOf n s role) n (st .mask) (st .open_bits) → OpenState n s role st
+  opened first o st w = record {
+    ready = record {
+      least = o .ready .least;
+      most = o .ready .most;
+      formed = subst (Formed n) (with-same role s (first .mask) (st .mask)) (formed-with n (withMask role s (first .mask)) role (st .mask) (o .ready .formed) (w .formed));
+      left = record { case = w .case; fits = w .fits };
+    };
+    most = w .most;
+    fixed = subst (λ (m : Mask). FixedFrom n m (st .open_bits)) (sym (mask-with role s (st .mask))) (w .top);
+  }
 
-    next-open : Left n t → OpenBits n t role (b - 1)
-    next-open left = record {
-      ready = record { least = o .ready .least; most = o .ready .most; formed = next-formed; left = left };
-      most = omega (arith, o .most);
-      fixed = subst (λ (m : Mask). FixedFrom n m (b - 1)) (sym (ap (maskOf role) is ∙ mask-with role s (fix (maskOf role s) (b - 1) v))) (walk-top (walked b o) h v hv);
-    }
+  -- the masks with the highest open bit tried as v are well formed
+  pub tried-formed : (st : State) → OpenState n s role st → 0 < st .open_bits → (v : ℕ) → v < 2 → (m : Mask) → m ≡ fix (st .mask) (st .open_bits - 1) v
+      → (t : Masks) → t ≡ withMask role s m → Formed n t
+  tried-formed st o some v hv m fixed t is =
+      let w = invariant st o in
+      let formed = walk-formed (walkOf n s role) n (lawful (o .ready .most)) (st .mask) (w .formed) (st .open_bits - 1) (omega (arith, o .most)) v hv in
+      subst (Formed n) (sym is)
+      (subst (Formed n) (with-same role s (st .mask) m) (formed-with n (withMask role s (st .mask)) role m (o .ready .formed) (subst (WellFormed n) (sym fixed) formed)))
 
--- ---- as the code has it: b bits are open, and the highest, where it is free, is first tried as that of the random word
+  pub next-open : (word : ℕ) (st next : State) → OpenState n s role st → NextState n s role word st next → OpenState n s role next
+  next-open word st next o step =
+      opened st o next (next-invariant (walkOf n s role) word n (lawful (o .ready .most)) (walkState st) (walkState next) step (invariant st o))
 
-module _ (n : ℕ) (s : Masks) (role : Role) (b : ℕ) (o : OpenBits n s role b) (h : b ≡ 0 → ⊥) where
-  pub skipped-bit : {m : Mask} {t : Bool} → m ≡ maskOf role s → t ≡ free m (b - 1) → t ≡ false → OpenBits n s role (b - 1)
-  skipped-bit is e held =
-      let care = maskOf role s .care in
-      let some = eqb-false (bit care (b - 1)) 0 (sym (e ∙ ap (λ (m : Mask). free m (b - 1)) is) ∙ held) in
-      record {
-        ready = o .ready;
-        most = omega (arith, o .most);
-        fixed = fixed-below n (maskOf role s) b (o .fixed) (omega (arith, some, bit-lt care (b - 1)));
-      }
+  -- before a walk the state has the number's own mask
+  module _ (b : ℕ) (o : OpenBits n s role b) (m : Mask) (own : m ≡ maskOf role s) where
+    abbrev first : State
+    first = record { mask = m; open_bits = b }
 
-  module _ (word v : ℕ) (e : v ≡ bit word (b - 1)) (t : Masks) (is : t ≡ withMask role s (fix (maskOf role s) (b - 1) v)) where
-    v-lt : v < 2
-    v-lt = omega (arith, bit-lt word (b - 1))
+    same-masks : withMask role s m ≡ s
+    same-masks = ap (withMask role s) own ∙ with-own role s
 
-    pub tried-formed : Formed n t
-    tried-formed = next-formed n s role b v o h v-lt t is
+    pub all-open : OpenState n s role first
+    all-open = subst (λ (u : Masks). OpenBits n u role b) (sym same-masks) o
 
-    pub tried-open : Left n t → OpenBits n t role (b - 1)
-    tried-open = next-open n s role b v o h v-lt t is
+    -- and after as many steps as there are open bits the number is fixed
+    pub steps-follow : (word : ℕ) (last : State) → Leads State (NextState n s role word) b first last → (t : Masks) → t ≡ withMask role s (last .mask) → WalkEnd n s role word t
+    steps-follow word last steps t is =
+        let e = walk-ends (walkOf n s role) word State walkState n (lawful (o .ready .most)) b first last steps (invariant first all-open) refl in
+        let ends = subst (λ (u : Masks). EndOfWalk Case (number role) (Fits n u) word (Fits n (withMask role s (last .mask))) (last .mask .value)) same-masks (e .1) in
+        subst (WalkEnd n s role word) (sym is) (record {
+          ready = opened first all-open (record { mask = last .mask; open_bits = 0 }) (e .0) .ready;
+          ends = subst (λ (u : Mask). EndOfWalk Case (number role) (Fits n s) word (Fits n (withMask role s (last .mask))) (u .value)) (sym (mask-with role s (last .mask))) ends;
+        })
 
-    tried-fits : Replaced Case (number role) (Fits n s) (maskOf role s) (fix (maskOf role s) (b - 1) v) (Fits n t)
-    tried-fits = fits-replaced n s role (fix (maskOf role s) (b - 1) v) t is
+  -- a walk can be cut at any position and taken up again
+  pub whole-walk-resumes : (word : ℕ) → Resumes State (Leads State (NextState n s role word))
+  whole-walk-resumes word =
+      bit-walk-resumes (walkOf n s role) word State walkState (λ m p q x y. refl) (λ st next e i. record { mask = e i .mask; open_bits = e i .open-bits })
 
-    pub tried-end : (u : Masks) → WalkEnd n t role word u → WalkEnd n s role word u
-    tried-end u q = record {
-      ready = q .ready;
-      ends = walk-tried (walked n s role b o) h word v e tried-fits (q .ends);
-    }
-
-    module _ (none : Left n t → ⊥) (t′ : Masks) (is′ : t′ ≡ withMask role s (fix (maskOf role s) (b - 1) (1 - v))) where
-      no-case : (c : Case) → Fits n t c → ⊥
-      no-case c f = none (record { case = c; fits = f })
-
-      other-fits : Replaced Case (number role) (Fits n s) (maskOf role s) (fix (maskOf role s) (b - 1) (1 - v)) (Fits n t′)
-      other-fits = fits-replaced n s role (fix (maskOf role s) (b - 1) (1 - v)) t′ is′
-
-      pub other-open : OpenBits n t′ role (b - 1)
-      other-open =
-          let p = o .ready .left in
-          let kept = walk-left (walked n s role b o) h word v e tried-fits no-case other-fits (p .case) (p .fits) in
-          next-open n s role b (1 - v) o h (omega arith) t′ is′ (record { case = kept .case; fits = kept .fits })
-
-      pub other-end : (u : Masks) → WalkEnd n t′ role word u → WalkEnd n s role word u
-      other-end u q = record {
-        ready = q .ready;
-        ends = walk-other (walked n s role b o) h word v e tried-fits no-case other-fits (q .ends);
-      }
+  -- so `follow_bits` may be called again on what it replied: two calls end where one for as many bits does
+  pub whole-walk-cut : (word m : ℕ) (st u : State) → OpenState n s role st → Leads State (NextState n s role word) m st u
+      → CutAt State (OpenState n s role) (Leads State (NextState n s role word)) m st u
+  whole-walk-cut word = leads-cut-at State (NextState n s role word) (whole-walk-resumes word) (OpenState n s role) (next-open word)

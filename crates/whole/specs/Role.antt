@@ -1,6 +1,5 @@
 -- The three numbers of a case, one definition for each use of "x, y, z" (document 01, "Masks and choice", whole numbers).
 -- Assumes nothing.
--- Internal: no public contract cites this.
 use Prim.Native.Nat.{ℕ}
 use Rattle.mask.specs.declared.Mask.{Mask}
 use Rattle.whole.specs.declared.Masks.{Masks}

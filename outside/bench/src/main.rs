@@ -2,10 +2,10 @@
 //!
 //! `bench [--seed N] [--jobs N] [--limit SECONDS] [--stack KIB] [--slow SECONDS] [--alone]
 //! [--write]`: at least one job of each kind, 40 by default; z3 may spend the limit on a job, 20
-//! seconds by default; every job runs on a thread with a stack of so many KiB, 256 by default;
-//! `--alone` asks no z3; `--write` writes what is printed to docs/SPEED.md; `--slow` searches for
-//! slow jobs for so long and does nothing else; with `--write` it says how long the search for the
-//! report is, 120 seconds by default.
+//! seconds by default; every job that is timed runs on a thread with a stack of so many KiB, 256 by
+//! default; `--alone` asks no z3; `--write` writes what is printed to docs/SPEED.md; `--slow`
+//! searches for slow jobs for so long and does nothing else; with `--write` it says how long the
+//! search for the report is, 120 seconds by default.
 //!
 //! Where `VINDACSOR_LIBRARY` names an archive when this program is built, that is linked in place
 //! of target/staticlib/libvindacsor.a: so two builds can be timed one after the other.
@@ -19,6 +19,7 @@ mod report;
 mod rows;
 mod slow;
 mod solver;
+mod stack;
 mod steps;
 mod targets;
 mod times;
@@ -51,6 +52,7 @@ fn found(options: &Options) -> Result<Found, String> {
         rows,
         case_13: case_13::case_13()?,
         counts: walks::counts(options.seed, options.jobs)?,
+        stacks: stack::stacks(options.seed, options.jobs),
         slowest: options
             .write
             .then(|| (slow::slowest(options.seed, time), time)),

@@ -13,7 +13,7 @@ pub struct Options {
     pub seed: u64,
     pub jobs: usize,
     pub limit: Duration,
-    /// The stack of the thread on which every job runs, in KiB.
+    /// The stack of the thread on which every timed job runs, in KiB.
     pub stack: usize,
     /// How long slow jobs are searched for.
     pub slow: Option<Duration>,

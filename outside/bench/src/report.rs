@@ -8,6 +8,7 @@ use crate::options::Options;
 use crate::rows::Row;
 use crate::slow::{Slowest, BEGINNINGS, COMPARED};
 use crate::solver::ENOUGH;
+use crate::stack::{self, Deepest, Stacks};
 use crate::targets;
 use crate::times::{microseconds, plain, text, RUNS};
 use crate::walks::{formats, Counted, Counts, COUNTED};
@@ -19,6 +20,7 @@ pub struct Found {
     pub rows: Vec<Row>,
     pub case_13: Vec<Runs>,
     pub counts: Option<Vec<Counts>>,
+    pub stacks: Stacks,
     /// The slowest jobs, where they were searched for, and how long.
     pub slowest: Option<(Vec<Slowest>, Duration)>,
 }
@@ -39,6 +41,7 @@ pub fn report(options: &Options, found: &Found) -> String {
     if let Some(counts) = &found.counts {
         parts.extend((0..COUNTED.len()).map(|which| count(counts, which)));
     }
+    parts.push(stack(&found.stacks));
     parts.push(conditions(options, rows));
     parts.join("\n")
 }
@@ -200,6 +203,25 @@ fn count(counts: &[Counts], which: usize) -> String {
     table
 }
 
+/// The stack of a reply, a line for each kind and one format beside the other.
+fn stack(stacks: &Stacks) -> String {
+    let names = stack::FORMATS.map(|(w, f)| format!("{w}/{f}"));
+    let mut table = format!(
+        "## Stack\n\nHow many bytes of stack a reply takes, the frames of the Rust wrapper among them: the \
+         most of the jobs of a kind. On jobs of 32 bits, half fixed, the generator of whole numbers \
+         took {} at most.\n\n\
+         | Jobs | {} |\n|---|{}\n",
+        stacks.whole,
+        names.join(" | "),
+        "---|".repeat(names.len())
+    );
+    for Deepest { name, bytes } in &stacks.cases {
+        let columns = bytes.map(|bytes| bytes.to_string());
+        table += &format!("| {name} | {} |\n", columns.join(" | "));
+    }
+    table
+}
+
 fn conditions(options: &Options, rows: &[Row]) -> String {
     let left_out: u64 = rows.iter().map(|row| row.left_out).sum();
     format!(
@@ -207,7 +229,7 @@ fn conditions(options: &Options, rows: &[Row]) -> String {
          {}, then `cargo run --release --offline --manifest-path \
          outside/bench/Cargo.toml -- --write`, on {}. Seed {:#x}. Each job is given {RUNS} times, \
          to z3 as to the generator, and the least time counts; z3 is not given a job again that it \
-         has had {} s for. All jobs ran on a thread with a stack of {} KiB. That no job takes longer \
+         has had {} s for. All jobs that are timed ran on a thread with a stack of {} KiB. That no job takes longer \
          than the largest here is not shown.\n\n\
          {KINDS_MEAN} {left_out} impossible jobs were drawn again because they had a case.\n",
         library(),
