@@ -182,7 +182,8 @@ module _ (W : BitWalk) (word : ℕ) (S : Type 0) (walkState : S → WalkState (W
       let q = walk-ends n law b u t (p .2) (subst (WalkInvariant W n (walkState u .mask)) below (next-invariant W word n law (walkState s) (walkState u) (p .1) o′)) below in
       (q .0, next-end W word n law (walkState s) (walkState u) (p .1) o′ (walkState t .mask) (q .1))
 
-  -- a walk cut at any position and taken up again ends as the uncut one does, where a search finds one place and states that hand on the same are one
+  -- a walk cut at any position and taken up again ends as the uncut one does, where a search finds one place, and states that hand on the
+  -- same are one
   pub bit-walk-resumes : ((m : Mask) (p q : W .At) → W .Found m p → W .Found m q → p ≡ q) → ((s t : S) → walkState s ≡ walkState t → s ≡ t)
       → Resumes S (Leads S (λ s t. NextBit W word (walkState s) (walkState t)))
   bit-walk-resumes one back =

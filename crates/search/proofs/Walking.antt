@@ -146,7 +146,7 @@ module _ (j : Job) (role : Role) where
   case-walk-resumes word =
       bit-walk-resumes (walkOf j role) word State walkState (λ m. found-unique (withWordMask role j m)) (λ s t e i. record { mask = e i .mask; open_bits = e i .open-bits; at = e i .at })
 
-  -- so `follow_bits` may be called again on what it replied: two calls end where one for as many bits does
+  -- so a walk can start at what `follow_bits` replied, and two calls of it end where one for as many bits does
   pub case-walk-cut : (word m : ℕ) (s u : State) → StartState j role s → StateRun j role word m s u → CutAt State (StartState j role) (StateRun j role word) m s u
   case-walk-cut word m s u o p =
       let q = leads-cut-at State (NextState j role word) (case-walk-resumes word) (StartState j role) (λ a b h. next-started a h word b) m s u o (p o) in

@@ -91,7 +91,7 @@ module _ (n : ℕ) (s : Masks) (role : Role) where
   whole-walk-resumes word =
       bit-walk-resumes (walkOf n s role) word State walkState (λ m p q x y. refl) (λ st next e i. record { mask = e i .mask; open_bits = e i .open-bits })
 
-  -- so `follow_bits` may be called again on what it replied: two calls end where one for as many bits does
+  -- so a walk can start at what `follow_bits` replied, and two calls of it end where one for as many bits does
   pub whole-walk-cut : (word m : ℕ) (st u : State) → OpenState n s role st → Leads State (NextState n s role word) m st u
       → CutAt State (OpenState n s role) (Leads State (NextState n s role word)) m st u
   whole-walk-cut word = leads-cut-at State (NextState n s role word) (whole-walk-resumes word) (OpenState n s role) (next-open word)

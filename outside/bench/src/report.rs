@@ -207,9 +207,9 @@ fn count(counts: &[Counts], which: usize) -> String {
 fn stack(stacks: &Stacks) -> String {
     let names = stack::FORMATS.map(|(w, f)| format!("{w}/{f}"));
     let mut table = format!(
-        "## Stack\n\nHow many bytes of stack a reply takes, the frames of the Rust wrapper among them: the \
-         most of the jobs of a kind. On jobs of 32 bits, half fixed, the generator of whole numbers \
-         took {} at most.\n\n\
+        "## Stack\n\nHow many bytes of stack a reply takes, the frames of the Rust wrapper among \
+         them: the most of the jobs of a kind. On jobs of 32 bits, half fixed, the generator of \
+         whole numbers took {} at most.\n\n\
          | Jobs | {} |\n|---|{}\n",
         stacks.whole,
         names.join(" | "),
@@ -229,8 +229,8 @@ fn conditions(options: &Options, rows: &[Row]) -> String {
          {}, then `cargo run --release --offline --manifest-path \
          outside/bench/Cargo.toml -- --write`, on {}. Seed {:#x}. Each job is given {RUNS} times, \
          to z3 as to the generator, and the least time counts; z3 is not given a job again that it \
-         has had {} s for. All jobs that are timed ran on a thread with a stack of {} KiB. That no job takes longer \
-         than the largest here is not shown.\n\n\
+         has had {} s for. All jobs that are timed ran on a thread with a stack of {} KiB. That no \
+         job takes longer than the largest here is not shown.\n\n\
          {KINDS_MEAN} {left_out} impossible jobs were drawn again because they had a case.\n",
         library(),
         machine(),
