@@ -75,7 +75,8 @@ pub fn result(w: u64, f: u64, operation: u64, mode: u64, a: u64, b: u64) -> Resu
     Ok(answer(|out| buffer::result(w, f, operation, mode, a, b, out))?[0])
 }
 
-/// The carry row of two words; none where one is infinite or a NaN. Refuses with 1, 2, 3, 6.
+/// The carry row of two words; none where one is infinite or a NaN. With equal exponents it is that
+/// of a first and then b. Refuses with 1, 2, 3, 6.
 pub fn row(w: u64, f: u64, operation: u64, a: u64, b: u64) -> Result<Option<u64>, Refusal> {
     let numbers = answer(|out| buffer::row(w, f, operation, a, b, out))?;
     Ok(row_in(numbers[0], numbers[1]))
@@ -133,6 +134,8 @@ mod tests {
     fn cases_of_the_document() {
         assert_eq!(result(3, 4, 0, 0, 0x45, 0x2B), Ok(0x4C));
         assert_eq!(row(3, 4, 0, 0x45, 0x2B), Ok(Some(0x04)));
+        assert_eq!(row(3, 4, 1, 0x30, 0x31), Ok(Some(0x1F)));
+        assert_eq!(row(3, 4, 1, 0x31, 0x30), Ok(Some(0x00)));
         assert_eq!(row(3, 4, 1, 0x70, 0x70), Ok(None));
         assert_eq!(read(&CASE_1), Ok(Some(28)));
         assert_eq!(read(&[]), Ok(None));

@@ -1,16 +1,16 @@
 -- What the adder publishes beside its contracts: c and the carry row of two finite words, from their fields and from their aligned
 -- significands. Of operands x and y, y's unit not above x's, H is x's significand with some bits below it, and T is y's aligned to it: c
--- comes from them with the guard bits, the row with any number of bits. Where the signs are unlike y is not the larger. The search cites
--- these laws and no other of the adder. Assumes nothing.
+-- comes from them with the guard bits, where y is not the larger or the signs are like; the row with any number of bits, where x is a and y
+-- has not the larger exponent. The search cites these laws and no other of the adder. Assumes nothing.
 use mathlib.Core.Path.{_≡_, refl, sym, ap, ap₂, _∙_}
-use mathlib.Core.Bool.{Bool, true, false, not, cond}
-use mathlib.Core.Logic.{inl, inr, _↔_}
+use mathlib.Core.Bool.{Bool, true, false, not}
+use mathlib.Core.Logic.{_⊎_, inl, inr, _↔_}
 use Prim.Native.Nat.{ℕ, suc, _+_, _-_, _%_, _^_, _≤_, _<_}
-use native.Mathlib.Nat.{add-comm, le-of-lt, not-le-of-lt}
-use native.Mathlib.Decide.{decLt, ℕ-discrete}
+use native.Mathlib.Nat.{le-of-lt}
+use native.Mathlib.Decide.{ℕ-discrete}
 use native.Mathlib.Omega.{arith}
-use borrow.Author.Tests.{lt-ltb, le-ltb, eq-eqb, ne-eqb}
-use lib.Dec.{ltb, leb, eqb}
+use borrow.Author.Tests.{le-ltb, eq-eqb, ne-eqb}
+use lib.Dec.{eqb}
 use Rattle.bits.specs.Bit.{bit}
 use Rattle.format.specs.declared.Format.{Format}
 use Rattle.format.specs.Format.{Supported, precision}
@@ -25,7 +25,7 @@ use Rattle.adder.specs.Result.{finiteSum, kindSum, result}
 use Rattle.rounding.proofs.Outcome.{outcome-held}
 use Rattle.rounding.proofs.Widths.{guards}
 use Rattle.rounding.proofs.Align as align
-use Rattle.word.proofs.Canonical.{unit-le, operand-finite}
+use Rattle.word.proofs.Canonical.{operand-finite}
 use Rattle.word.proofs.Fields.{effective-sign, effective-biased, effective-fraction}
 use Rattle.adder.proofs.FiniteSum.{sum-like, sum-unlike, sum-cancelled, finite-sum-comm}
 use Rattle.adder.proofs.RowBit.{row-bit}
@@ -61,12 +61,12 @@ module _ (F : Format) (operation mode a b : ℕ) (na : biased F a .0 ≡ allOnes
       ap₂ (kindRow F) (operand-finite F a na) (operand-finite F (effective F operation b) ne)
       ∙ ap (λ (y : record-of.Finite). Carries (finiteRow F (finiteOf F a) y)) effective-finite
 
--- which of them comes first does not matter, and the row has p bits
+-- which of them is a does not matter for c, nor for the row where the exponents are unlike or the signs like; the row has p bits
 pub sum-exchanged : (F : Format) (mode : ℕ) (x y : record-of.Finite) → finiteSum F mode x y ≡ finiteSum F mode y x
 sum-exchanged F mode x y = finite-sum-comm F mode x y
 
-pub row-exchanged : (F : Format) (x y : record-of.Finite) → Canonical F x → Canonical F y → finiteRow F x y ≡ finiteRow F y x
-row-exchanged F x y cx cy = finite-row-comm F x y cx cy
+pub row-exchanged : (F : Format) (x y : record-of.Finite) → (x .exponent .0 ≡ y .exponent .0 → ⊥) ⊎ (x .sign ≡ y .sign) → finiteRow F x y ≡ finiteRow F y x
+row-exchanged F x y either = finite-row-comm F x y either
 
 pub row-lt : (F : Format) (x y : record-of.Finite) → finiteRow F x y < 2 ^ precision F
 row-lt F x y = finite-row-lt F x y
@@ -103,6 +103,13 @@ module _ (F : Format) (ok : Supported F) (x y : record-of.Finite) (cx : Canonica
   pub tail-ordered : (q : ℕ) → 0 < q → tailOf q ≤ headOf q ↔ (magnitude y ≤ magnitude x)
   unfolding u v d
   tail-ordered q some = align.tail-ordered q some (x .significand) (y .significand) u v d gap
+
+  pub tail-below : (q : ℕ) → 0 < q → magnitude y < magnitude x → tailOf q < headOf q
+  unfolding u v d
+  tail-below q some l =
+      let o = tail-ordered q some .1 (le-of-lt l) in
+      let ne : (headOf q ≡ tailOf q → ⊥) = λ e. let m = align.equal-tail q some (x .significand) (y .significand) u v d gap .1 e in omega (arith, l) in
+      omega (arith, ne)
 
   -- c, from what they make with the guard bits
 
@@ -144,26 +151,9 @@ module _ (F : Format) (ok : Supported F) (x y : record-of.Finite) (cx : Canonica
         ∙ ap₂ (λ (r s : ℕ). carryIn t (x .significand) r s i) (sym (tail-whole q some (y .significand) d)) (sym (tail-sticky q some (y .significand) d)))
         ∙ sym (column-carry q (x .significand) (tailOf q) i t)
 
-    pub row-columns : (eqb (x .sign) (y .sign) ≡ false → magnitude y ≤ magnitude x) → (i : ℕ) → i < precision F
+    pub row-columns : y .exponent .0 ≤ x .exponent .0 → (i : ℕ) → i < precision F
         → bit (finiteRow F x y) i ≡ carryOf (not (eqb (x .sign) (y .sign))) (headOf q) (tailOf q) (i + suc q)
-    unfolding u v finiteRow
-    row-columns le i h = go (decLt (magnitude x) (magnitude y)) (ℕ-discrete (x .sign) (y .sign))
-      where
-        ordered : (l r : record-of.Finite) → ℕ
-        ordered l r = Rattle.adder.specs.Row.orderedRow F l r
-
-        go : Dec (magnitude x < magnitude y) → Dec (x .sign ≡ y .sign)
-            → bit (cond (ltb (magnitude x) (magnitude y)) (ordered y x) (ordered x y)) i ≡ carryOf (not (eqb (x .sign) (y .sign))) (headOf q) (tailOf q) (i + suc q)
-        go (no l) s =
-            rw (le-ltb (magnitude x) (magnitude y) (omega arith))
-            (gather-bit (precision F) (carryAt (eqb (x .sign) (y .sign)) (magnitude x) (magnitude y) u) i h ∙ row-test i (eqb (x .sign) (y .sign)))
-        go (yes l) (no s) = absurd (not-le-of-lt l (le (ne-eqb _ _ s)))
-        go (yes l) (yes s) =
-            let same : v ≡ u = omega (arith, unit-le F y x cy cx (le-of-lt l)) in
-            let M = 2 ^ (v + suc i) in
-            rw (lt-ltb (magnitude x) (magnitude y) l, eq-eqb _ _ s)
-            (gather-bit (precision F) (carryAt (eqb (y .sign) (x .sign)) (magnitude y) (magnitude x) v) i h
-            ∙ ap (λ (t : Bool). flag (carryAt t (magnitude y) (magnitude x) v i)) (eq-eqb _ _ (sym s))
-            ∙ ap (λ (n : ℕ). flag (leb M n)) (add-comm (magnitude y % M) (magnitude x % M))
-            ∙ ap (λ (n : ℕ). flag (carryAt true (magnitude x) (magnitude y) n i)) same
-            ∙ row-test i true)
+    unfolding u finiteRow
+    row-columns le i h =
+        rw (le-ltb (x .exponent .0) (y .exponent .0) le)
+        (gather-bit (precision F) (carryAt (eqb (x .sign) (y .sign)) (magnitude x) (magnitude y) u) i h ∙ row-test i (eqb (x .sign) (y .sign)))

@@ -1,4 +1,4 @@
--- The carry row of two words (document 01, "The carry row"), and the reply of the public function. Assumes nothing.
+-- The carry row of two words (document 01, "The carry row"; document 02, W-205), and the reply of the public function. Assumes nothing.
 use mathlib.Core.Bool.{Bool, true, false, cond}
 use Prim.Native.Nat.{ℕ, zero, suc, _+_, _*_, _%_, _^_}
 use lib.Dec.{eqb, leb, ltb}
@@ -15,8 +15,8 @@ use Rattle.adder.specs.declared.RowReply.the-variants.{Row, Refused}
 use Rattle.word.specs.Word.{unitOf, effective}
 use Rattle.word.specs.Operand.{operandOf, magnitude}
 
--- Position i for L and R of like or unlike sign, L at least R, where L's unit is 2^u smallest steps. Counted in L's unit a number's
--- remainder by 2^(i+1) is its remainder by 2^(u+i+1) in smallest steps, so R's fractional part needs no fractions.
+-- Position i for L and R of like or unlike sign, where L's unit is 2^u smallest steps. Counted in L's unit a number's remainder by 2^(i+1)
+-- is its remainder by 2^(u+i+1) in smallest steps, so R's fractional part needs no fractions.
 abbrev pub carryAt : Bool → ℕ → ℕ → ℕ → ℕ → Bool
 carryAt true L R u i = leb (2 ^ (u + suc i)) (L % 2 ^ (u + suc i) + R % 2 ^ (u + suc i))
 carryAt false L R u i = ltb (L % 2 ^ (u + suc i)) (R % 2 ^ (u + suc i))
@@ -31,13 +31,13 @@ unfoldable pub gather : ℕ → (ℕ → Bool) → ℕ
 gather zero at = 0
 gather (suc n) at = gather n at + cond (at n) 1 0 * 2 ^ n
 
--- the row of an operand l of larger or equal magnitude and another, r: p bits, position 0 the lowest
+-- the row where l is L and r is R: p bits, position 0 the lowest
 abbrev pub orderedRow : Format → record-of.Finite → record-of.Finite → ℕ
 orderedRow F l r = gather (precision F) (carryAt (eqb (l .sign) (r .sign)) (magnitude l) (magnitude r) (unitOf (l .exponent) .0))
 
--- L is the one of larger magnitude
+-- W-205: L is "the operand with the larger biased exponent, and a where they are equal"; x is a
 unfoldable pub finiteRow : Format → record-of.Finite → record-of.Finite → ℕ
-finiteRow F x y = cond (ltb (magnitude x) (magnitude y)) (orderedRow F y x) (orderedRow F x y)
+finiteRow F x y = cond (ltb (x .exponent .0) (y .exponent .0)) (orderedRow F y x) (orderedRow F x y)
 
 -- with an infinite or NaN operand there is no row
 unfoldable pub kindRow : Format → kind.Operand → kind.Operand → row.Row

@@ -2,7 +2,6 @@
 use crate::Row;
 use crate::RowReply;
 use crate::result::words_cause;
-use crate::sum::smaller;
 use bits::high;
 use bits::low;
 use bits::power;
@@ -19,7 +18,7 @@ use word::unpack::operands;
 ghost use mathlib.Core.Path.{_≡_};
 ghost use Prim.Native.Nat.{_^_, _≤_, _<_};
 ghost use Rattle.format.specs.Format.{Supported};
-ghost use Rattle.word.specs.Operand.{magnitude, Canonical, Sound};
+ghost use Rattle.word.specs.Operand.{Canonical, Sound};
 ghost use Rattle.adder.specs.Row.{gather, orderedRow, finiteRow, kindRow, rowCause, rowReply, carryIn};
 
 // Whether position i of l and r carries, or borrows where the signs are unlike; s is the sticky bit of what r has below position 0.
@@ -52,9 +51,9 @@ fn gathered(n: u64, like: bool, l: u64, r: u64, s: u64) -> u64
     row
 }
 
-// The row of two finite numbers, the first not the smaller: both are counted in the first one's unit.
+// The row of two finite numbers, the second without the larger exponent: both are counted in the first one's unit.
 fn ordered_row(format: Format, l: Finite, r: Finite) -> u64
-    requires { ⌜ Supported format × Canonical format l × Canonical format r × (magnitude r ≤ magnitude l) ⌝ }
+    requires { ⌜ Supported format × Canonical format l × Canonical format r × (r .exponent .0 ≤ l .exponent .0) ⌝ }
     ensures { λ t. ⌜ t ≡ orderedRow format l r ⌝ }
 {
     let u = unit_of(l.exponent);
@@ -65,12 +64,12 @@ fn ordered_row(format: Format, l: Finite, r: Finite) -> u64
     gathered(format.f + 1, l.sign == r.sign, l.significand, whole, rest)
 }
 
-// The row of two finite numbers.
+// The row of two finite numbers, x being a: the exponents alone tell which is L.
 fn finite_row(format: Format, x: Finite, y: Finite) -> u64
     requires { ⌜ Supported format × Canonical format x × Canonical format y ⌝ }
     ensures { λ t. ⌜ t ≡ finiteRow format x y ⌝ }
 {
-    if smaller(x, y, format) {
+    if x.exponent.0 < y.exponent.0 {
         ordered_row(format, y, x)
     } else {
         ordered_row(format, x, y)

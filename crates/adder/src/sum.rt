@@ -18,7 +18,7 @@ ghost use Rattle.word.specs.Operand.{magnitude, Canonical, Sound};
 ghost use Rattle.adder.specs.Result.{nan, infinity, finiteSum, infiniteSum, kindSum};
 
 // Whether x has the smaller magnitude: by the exponents, and where these are equal by the significands.
-pub(crate) fn smaller(x: Finite, y: Finite, format: Format) -> bool
+fn smaller(x: Finite, y: Finite, format: Format) -> bool
     requires { ⌜ Canonical format x × Canonical format y ⌝ }
     ensures { λ r. ⌜ r ≡ ltb (magnitude x) (magnitude y) ⌝ }
 {

@@ -1,4 +1,4 @@
-// The cases of document 01, "Cases, in hexadecimal", and of document 02, W-201.
+// The cases of document 01, "Cases, in hexadecimal", and of document 02, W-201 and W-205.
 use crate::ask::accepted;
 use crate::ask::eight_difference;
 use crate::ask::eight_difference_no_row;
@@ -64,8 +64,20 @@ fn ties_away(count: Count) -> Count {
     eight_difference(five, 4, 0x30, 0x30, 0x00)
 }
 
+// W-205. With equal exponents a is L: 30 - 31 has row 1F, 31 - 30 row 00; with e = 0, 05 - 0A row 1A and 0A - 05 row 05. Of e = 0 and e = 1 the
+// latter is L: 05 - 10 and 10 - 05 have row 0F.
+fn by_exponent(count: Count) -> Count {
+    let one = eight_difference_row(count, 0x30, 0x31, 0x1F);
+    let two = eight_difference_row(one, 0x31, 0x30, 0x00);
+    let three = eight_difference_row(two, 0x05, 0x0A, 0x1A);
+    let four = eight_difference_row(three, 0x0A, 0x05, 0x05);
+    let five = eight_difference_row(four, 0x05, 0x10, 0x0F);
+    eight_difference_row(five, 0x10, 0x05, 0x0F)
+}
+
 pub(crate) fn eight_bit_cases(count: Count) -> Count {
-    ties_away(case_10(case_9(cases_7_and_8(case_6(case_5(case_1(count)))))))
+    let marked = case_10(case_9(cases_7_and_8(case_6(case_5(case_1(count))))));
+    by_exponent(ties_away(marked))
 }
 
 // 12, as W-202 moves it. w = 2 and 11 accepted, 1 and 12 refused; f = 2 and 52 accepted, 1 and 53 refused.

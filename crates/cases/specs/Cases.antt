@@ -153,5 +153,12 @@ malformed =
     ∷ refused (adding 0 nothingFixed nothingFixed nothingFixed outsideCare) 16
     ∷ refused (masked 0 (record { care = 0x20; value = 0x00 })) 16 ∷ []
 
+-- W-205. With equal exponents a is L: 30 - 31 has row 1F, 31 - 30 row 00; with e = 0, 05 - 0A row 1A and 0A - 05 row 05. Of e = 0 and e = 1
+-- the latter is L: 05 - 10 and 10 - 05 have row 0F.
+abbrev pub byExponent : List Claim
+byExponent =
+    subtract 0 0x30 0x31 0x84 (row 0x1F) ∷ subtract 0 0x31 0x30 0x04 (row 0x00) ∷ subtract 0 0x05 0x0A 0x85 (row 0x1A)
+    ∷ subtract 0 0x0A 0x05 0x05 (row 0x05) ∷ subtract 0 0x05 0x10 0x8B (row 0x0F) ∷ subtract 0 0x10 0x05 0x0B (row 0x0F) ∷ []
+
 abbrev pub cases : List Claim
-cases = case1 ++ case2 ++ case3 ++ case4 ++ case5 ++ case6 ++ case7 ++ case8 ++ case9 ++ case10 ++ case11 ++ tiesAway ++ malformed
+cases = case1 ++ case2 ++ case3 ++ case4 ++ case5 ++ case6 ++ case7 ++ case8 ++ case9 ++ case10 ++ case11 ++ tiesAway ++ malformed ++ byExponent

@@ -4,11 +4,12 @@
 -- Assumes nothing.
 use mathlib.Core.Logic.{_⊎_, inl, inr}
 use mathlib.Core.Path.{_≡_, refl, sym, ap, ap₂, _∙_}
-use mathlib.Core.Bool.{Bool, true, false}
+use mathlib.Core.Bool.{Bool, true, false, not, _&&_}
 use Prim.Native.Nat.{ℕ, zero, suc, _+_, _-_, _^_, _≤_, _<_}
 use native.Mathlib.Nat.{lt-of-lt-of-le, div-lt-iff-lt-mul}
-use native.Mathlib.Decide.{decLe}
+use native.Mathlib.Decide.{decLe, ℕ-discrete}
 use native.Mathlib.Omega.{arith}
+use borrow.Author.Tests.{eq-eqb, ne-eqb}
 use lib.Dec.{eqb}
 use lib.Ieee.{size}
 use lib.Pow.{pow-pos, pow-add, pow-mono}
@@ -30,13 +31,18 @@ use Rattle.outcome.specs.Outcome.{Made}
 use Rattle.outcome.proofs.Range.{made-like, made-unlike}
 use Rattle.pair.specs.declared.Side.{Side}
 use Rattle.special.specs.Asked.{fieldIs}
-use Rattle.pair.specs.Pair.{gapOf, alignedOf}
+use Rattle.pair.specs.Pair.{significandsOf, gapOf, reversedOf, alignedOf}
 use Rattle.classes.specs.Class.{farGap, topField, lowerField, lowField, atField}
 
 -- the smaller field of the pair that stands for a class is at most its larger one
 pub low-le : (f gap e : ℕ) → lowerField f gap e .0 ≤ topField f .0
 low-le f gap zero = omega arith
 low-le f gap (suc e) = omega arith
+
+-- and below that where the smaller field of the pair is
+low-lt : (f E e : ℕ) → e < E → lowerField f (E - 1 - (e - 1)) e .0 < topField f .0
+low-lt f E zero l = omega arith
+low-lt f E (suc e) l = omega arith
 
 pub low-same : (f E : ℕ) → 1 ≤ E → lowerField f 0 E ≡ topField f
 low-same f zero l = absurd (omega arith)
@@ -104,14 +110,42 @@ module _ (F : Format) (ok : Supported F) (m : Mask) (formed : WellFormed (F .f) 
           far (fieldIs (suc e)) (E - 1 - (suc e - 1)) lower (omega arith) (past-gap (farGap (F .f)) (E - 1 - (suc e - 1)) (omega arith))
           ∙ ap (λ (n : Mask). tailMask (precision F) n lower) same
 
+-- its fields are equal exactly where those of the pair are, so its row is reversed where that of the pair is
+reversed-same : (f : ℕ) (x y : Side) → 1 ≤ x .exponent .0 → y .exponent .0 ≤ x .exponent .0 → reversedOf x y ≡ reversedOf (atField x (topField f)) (atField y (lowField f (x .exponent) (y .exponent)))
+reversed-same f x y some l = ap (λ (t : Bool). y .first && (t && not (eqb (x .sign) (y .sign)))) (go (ℕ-discrete (x .exponent .0) (y .exponent .0)))
+  where
+    go : Dec (x .exponent .0 ≡ y .exponent .0) → eqb (x .exponent .0) (y .exponent .0) ≡ eqb (topField f .0) (lowField f (x .exponent) (y .exponent) .0)
+    go (yes e) =
+        eq-eqb (x .exponent .0) (y .exponent .0) e
+        ∙ sym (eq-eqb (topField f .0) (lowField f (x .exponent) (y .exponent) .0) (ap (λ (b : Biased). b .0) (sym (low-same f (y .exponent .0) (omega (arith, some, e))) ∙ ap (λ (d : ℕ). lowerField f d (y .exponent .0)) (omega (arith, e)))))
+    go (no n) =
+        ne-eqb (x .exponent .0) (y .exponent .0) n
+        ∙ sym (ne-eqb (topField f .0) (lowField f (x .exponent) (y .exponent) .0) (λ e. let b = low-lt f (x .exponent .0) (y .exponent .0) (omega (arith, l, n)) in omega (arith, b, e)))
+
+-- with unlike fields no row is reversed
+pub forward-row : (x y : Side) → (x .exponent .0 ≡ y .exponent .0 → ⊥) → reversedOf x y ≡ false
+forward-row x y n = go (y .first)
+  where
+    go : (t : Bool) → t && (eqb (x .exponent .0) (y .exponent .0) && not (eqb (x .sign) (y .sign))) ≡ false
+    go true = rw (ne-eqb (x .exponent .0) (y .exponent .0) n)
+    go false = refl
+
 -- the sides of a pair, and those of the pair that stands for its class
 pub aligned-same : (F : Format) → Supported F → (carries : Mask) (x y : Side) → WellFormed (F .f) (x .fraction) → WellFormed (F .f) (y .fraction)
     → 1 ≤ x .exponent .0 → (topField (F .f) .0 ≤ x .exponent .0) ⊎ (1 ≤ y .exponent .0) → y .exponent .0 ≤ x .exponent .0
     → alignedOf F carries x y ≡ alignedOf F carries (atField x (topField (F .f))) (atField y (lowField (F .f) (x .exponent) (y .exponent)))
 aligned-same F ok carries x y fx fy some h l =
-    ap₂ (λ (m t : Mask). record { like = eqb (x .sign) (y .sign); head = m; tail = t; carries = carries })
+    ap₂ (λ (m t : Mask). record { like = eqb (x .sign) (y .sign); reversed = reversedOf x y; head = m; tail = t; carries = carries })
     (ap (λ (k : Mask). tailMask (precision F) k 0) (head-same F ok (x .fraction) fx (x .exponent) (topField (F .f)) some (omega arith)))
     (tail-same F ok (y .fraction) fy (x .exponent .0) (y .exponent .0) h l)
+    ∙ ap (λ (t : Bool). record { like = eqb (x .sign) (y .sign); reversed = t; head = tailMask (precision F) (significandsOf F x′) 0; tail = tailMask (precision F) (significandsOf F y′) (gapOf x′ y′); carries = carries })
+    (reversed-same (F .f) x y some l)
+  where
+    x′ : Side
+    x′ = atField x (topField (F .f))
+
+    y′ : Side
+    y′ = atField y (lowField (F .f) (x .exponent) (y .exponent))
 
 -- ---- with a gap of 2 places or more the sum has one digit less than the larger operand at the least
 module _ (F : Format) (ok : Supported F) (m : Mask) (formed : WellFormed (F .f) m) where

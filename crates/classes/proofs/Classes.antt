@@ -34,10 +34,10 @@ use Rattle.pair.specs.Pair.{FiniteSide, significandsOf, gapOf, alignedOf, Large
 use Rattle.pair.proofs.Finites.{pair-finite}
 use Rattle.classes.specs.declared.Class.{Class}
 use Rattle.classes.specs.Class.{InOrder, farGap, classUnit, topField, lowField, fieldAt, mostField, leastField, atField, withExponent, asking, onlyField, anyField, ClassAdmits, NeverPast, Classed, smallerMask}
-use Rattle.classes.proofs.Order.{Sides, sideWith, signs-of, sides-of}
+use Rattle.classes.proofs.Order.{Sides, signs-of, sides-of}
 use Rattle.classes.proofs.ClassMasks.{past-never, asking-meets, own-meets, asking-less}
 use Rattle.classes.proofs.Moved.{Moved, moved}
-use Rattle.classes.proofs.Aligning.{low-le, low-two, low-same, gap-two, head-same, far, aligned-same, made-long}
+use Rattle.classes.proofs.Aligning.{low-le, low-two, low-same, gap-two, head-same, far, forward-row, aligned-same, made-long}
 
 pub only-formed : (F : Format) (i : Biased) → i .0 ≤ allOnes F → WellFormed (F .w) (onlyField F i)
 only-formed F i h = record { below = omega (arith, pow-pos (F .w)); inside = lib.Bits.and-mask (i .0) (F .w) ∙ native.Mathlib.Nat.mod-eq-of-lt (omega (arith, pow-pos (F .w))) }
@@ -239,10 +239,10 @@ module _ (j : Job) (valid : Valid j) (o : ℕ) (E e : Biased) (finite : E .0 < a
       S : Sides j o E e
       S = sides-of j valid E e finite (omega arith) o (own-signs o P)
 
-      r : FieldReached j E low (λ (i : Mask). Sums (asking j i) (sideWith (S .s) (S .m) (topField f)) (sideWith (S .t) (S .n) low))
+      r : FieldReached j E low (λ (i : Mask). Sums (asking j i) (atField (S .x) (topField f)) (atField (S .y) low))
       r =
-          sums-moved j valid (sideWith (S .s) (S .m) E) (sideWith (S .t) (S .n) e) (record { sign-lt = S .s-lt; finite = finite; formed = S .m-formed })
-          (record { sign-lt = S .t-lt; finite = omega arith; formed = S .n-formed }) classed under (S .sums)
+          sums-moved j valid (atField (S .x) E) (atField (S .y) e) (record { sign-lt = S .x-lt; finite = finite; formed = S .x-formed })
+          (record { sign-lt = S .y-lt; finite = omega arith; formed = S .y-formed }) classed under (S .sums)
 
       go : Dec (low .0 + 2 ≤ topField f .0) → cond (leb (low .0 + 2) (topField f .0)) (fieldIs (farGap f)) (fieldIs 0) .0 ≤ r .field .0
       go (yes l) = rw (le-leb (low .0 + 2) (topField f .0) l) (r .least l)
@@ -284,7 +284,7 @@ module _ (j : Job) (valid : Valid j) (x y : Side) (formed : WellFormed (j .setti
   far-sums (inr l) = absurd (omega (arith, l .0))
   far-sums (inl (order, a)) =
       inl
-      (omega arith, subst (λ (t : Mask). Admits F (j .setting .mode) (x .sign) (unitOf (x .exponent)) (record { like = eqb (x .sign) (y .sign); head = tailMask (precision F) (significandsOf F x) 0; tail = t; carries = j .carries }) (j .c .mask)) same a)
+      (omega arith, subst₂ (λ (r : Bool) (t : Mask). Admits F (j .setting .mode) (x .sign) (unitOf (x .exponent)) (record { like = eqb (x .sign) (y .sign); reversed = r; head = tailMask (precision F) (significandsOf F x) 0; tail = t; carries = j .carries }) (j .c .mask)) (forward-row x y (λ e. omega (arith, e)) ∙ sym (forward-row x (atField y g) (λ e. omega (arith, e)))) same a)
     where
       F : Format
       F = j .setting .format
@@ -300,7 +300,7 @@ module _ (j : Job) (valid : Valid j) (E e g : Biased) (finite : E .0 < allOnes (
   far-signs : (o : ℕ) → InOrder (SomeSigns j) o E e → InOrder (SomeSigns j) o E g
   far-signs o P =
       let S = sides-of j valid E e finite (omega arith) o P in
-      S .back (j .c) E g (far-sums j valid (sideWith (S .s) (S .m) E) (sideWith (S .t) (S .n) e) (S .n-formed) g other far-g some far-e (S .sums))
+      S .back (j .c) E g (far-sums j valid (atField (S .x) E) (atField (S .y) e) (S .y-formed) g other far-g some far-e (S .sums))
 
   pub far-pair : (o : ℕ) → Meets (g .0) (smallerMask j o) → InOrder (PairFits j) o E e → InOrder (PairFits j) o E g
   far-pair zero met P =

@@ -6,7 +6,6 @@ use native.Mathlib.Decide.{decLe}
 use native.Mathlib.Omega.{arith}
 use borrow.Author.Tests.{le-leb, lt-leb}
 use Rattle.format.specs.declared.Format.{Format}
-use Rattle.mask.specs.declared.Mask.{Mask}
 use Rattle.mask.specs.Mask.{WellFormed}
 use Rattle.job.specs.declared.Wanted.{Wanted}
 use Rattle.job.specs.declared.Job.{Job}
@@ -40,23 +39,17 @@ module _ (ea eb : Biased) where
 
 -- ---- the sides of a pair
 
--- what is asked of an operand but for its exponent field
-abbrev pub sideWith : ℕ → Mask → Biased → Side
-sideWith s m e = record { sign = s; exponent = e; fraction = m }
-
--- signs that pose a case whose larger field is E and whose other one is e, as the sides of these fields; the same signs pose a case with
--- other fields, or other conditions on c, wherever the sides sum so
+-- signs that pose a case whose larger field is E and whose other one is e, as the sides x and y of these fields; the same signs pose a case
+-- with other fields, or other conditions on c, wherever the sides sum so
 pub record Sides (j : Job) (o : ℕ) (E e : Biased) : Type 0 where
-  pub s : ℕ
-  pub t : ℕ
-  pub m : Mask
-  pub n : Mask
-  pub s-lt : s < 2
-  pub t-lt : t < 2
-  pub m-formed : WellFormed (j .setting .format .f) m
-  pub n-formed : WellFormed (j .setting .format .f) n
-  pub sums : Sums j (sideWith s m E) (sideWith t n e)
-  pub back : (c : Wanted) (G g : Biased) → Sums (withWanted C j c) (sideWith s m G) (sideWith t n g) → InOrder (SomeSigns (withWanted C j c)) o G g
+  pub x : Side
+  pub y : Side
+  pub x-lt : x .sign < 2
+  pub y-lt : y .sign < 2
+  pub x-formed : WellFormed (j .setting .format .f) (x .fraction)
+  pub y-formed : WellFormed (j .setting .format .f) (y .fraction)
+  pub sums : Sums j (atField x E) (atField y e)
+  pub back : (c : Wanted) (G g : Biased) → Sums (withWanted C j c) (atField x G) (atField y g) → InOrder (SomeSigns (withWanted C j c)) o G g
 
 -- the sum of exchanged sides
 exchanged : (j : Job) (x y : Side) → Sums j x y → Sums j y x
@@ -85,14 +78,12 @@ module _ (j : Job) (valid : Valid j) (E e : Biased) (E-lt : E .0 < allOnes (j .s
   sides : (o : ℕ) (x y : Side) → FiniteSide F x → FiniteSide F y → Sums j (atField x E) (atField y e)
       → ((c : Wanted) (G g : Biased) → Sums (withWanted C j c) (atField x G) (atField y g) → InOrder (SomeSigns (withWanted C j c)) o G g) → Sides j o E e
   sides o x y fx fy sums back = record {
-    s = x .sign;
-    t = y .sign;
-    m = x .fraction;
-    n = y .fraction;
-    s-lt = fx .sign-lt;
-    t-lt = fy .sign-lt;
-    m-formed = fx .formed;
-    n-formed = fy .formed;
+    x = x;
+    y = y;
+    x-lt = fx .sign-lt;
+    y-lt = fy .sign-lt;
+    x-formed = fx .formed;
+    y-formed = fy .formed;
     sums = sums;
     back = back;
   }

@@ -102,7 +102,7 @@ leastField f k = cond (leb (k .low .0 + 2) (topField f .0)) (fieldIs (farGap f))
 
 -- a side with another exponent field
 abbrev pub atField : Side → Biased → Side
-atField x e = record { sign = x .sign; exponent = e; fraction = x .fraction }
+atField x e = record { first = x .first; sign = x .sign; exponent = e; fraction = x .fraction }
 
 -- the mask c with another mask on its exponent field
 unfoldable pub withExponent : Format → Mask → Mask → Mask

@@ -1,12 +1,14 @@
--- The serial subtracter: a borrow is the carry of the sum that gives x back, (x - (y + b0)) + y + b0, so its laws are the adder's.
--- Assumes nothing.
+-- The serial subtracter: a borrow is the carry of the sum that gives x back, (x - (y + b0)) + y + b0, so its laws are the adder's. And the
+-- borrows of y - x, from those of x - y - 1. Assumes nothing.
 use mathlib.Core.Path.{_≡_, refl, sym, ap, ap₂, _∙_}
 use mathlib.Core.Bool.{Bool, cond}
 use Prim.Native.Nat.{ℕ, zero, suc, _+_, _-_, _*_, _/_, _%_, _^_, _≤_, _<_}
 use native.Mathlib.Nat.{mod-lt, mod-add-mod, div-add-mod'}
+use native.Mathlib.Decide.{decLt}
 use native.Mathlib.Omega.{arith}
 use package.borrow.Author.Tests.{lt-ltb, le-ltb}
-use lib.Pow.{pow-pos}
+use lib.Dec.{ltb}
+use lib.Pow.{pow-pos, mod-pow-add}
 use Rattle.bits.specs.Bit.{bit}
 use Rattle.bits.proofs.Laws.{bit-lt}
 use Rattle.columns.specs.Carry.{carry, borrow}
@@ -20,6 +22,30 @@ module _ (x y b0 i : ℕ) where
   pub borrow-none : y % 2 ^ i + b0 ≤ x % 2 ^ i → borrow x y b0 i ≡ 0
   unfolding borrow
   borrow-none h = ap (λ (t : Bool). cond t 1 0) (le-ltb (x % 2 ^ i) (y % 2 ^ i + b0) h)
+
+-- ---- the difference the other way round
+
+-- x - y with a borrow into position 0 has at each position the other one of the borrow of y - x
+pub borrow-reversed : (x y i : ℕ) → borrow y x 0 i + borrow x y 1 i ≡ 1
+borrow-reversed x y i = go (decLt (y % 2 ^ i) (x % 2 ^ i))
+  where
+    go : Dec (y % 2 ^ i < x % 2 ^ i) → borrow y x 0 i + borrow x y 1 i ≡ 1
+    go (yes l) = ap₂ _+_ (borrow-one y x 0 i (omega arith)) (borrow-none x y 1 i (omega arith))
+    go (no l) = ap₂ _+_ (borrow-none y x 0 i (omega arith)) (borrow-one x y 1 i (omega arith))
+
+-- where y is even, y + 1 has that borrow in its lowest bit
+pub borrow-even : (x y i : ℕ) → y % 2 ≡ 0 → borrow x (y + 1) 0 (i + 1) ≡ borrow x y 1 (i + 1)
+unfolding borrow
+borrow-even x y i even = ap (λ (n : ℕ). cond (ltb (x % 2 ^ (i + 1)) n) 1 0) (ap (λ (n : ℕ). n + 0) low ∙ omega arith)
+  where
+    half : (y + 1) / 2 ≡ y / 2
+    half = omega (arith, even)
+
+    low : (y + 1) % 2 ^ (i + 1) ≡ y % 2 ^ (i + 1) + 1
+    low =
+        mod-pow-add (y + 1) i 1
+        ∙ ap (λ (q : ℕ). q % 2 ^ i * 2 + (y + 1) % 2) half
+        ∙ omega (arith, even, mod-pow-add y i 1)
 
 -- ---- where nothing is borrowed from above
 

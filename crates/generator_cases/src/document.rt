@@ -1,5 +1,5 @@
-// The cases of document 01, "Cases, in hexadecimal", and its causes 1 to 6; of document 02 mode 4 (W-201), the widths of W-202, and which mask
-// is malformed (W-203).
+// The cases of document 01, "Cases, in hexadecimal", and its causes 1 to 6; of document 02 mode 4 (W-201), the widths of W-202, which mask is
+// malformed (W-203), and the borrows of equal exponents (W-205).
 use crate::line::ask;
 use crate::line::put_reply;
 use crate::same::same_reply;
@@ -171,6 +171,26 @@ pub(crate) fn double_tie(count: Count) -> Count {
         ),
     );
     asked(two, none, 0, 0, Reply::Refused(cause::NO_CASE))
+}
+
+// W-205. A difference of two numbers with the exponent 3 and any fractions: where every borrow is 1 b is the larger, and where none is and b is
+// fixed to a larger one there is no case. And of two with e = 0: 05 - 0A has row 1A.
+pub(crate) fn borrows(count: Count) -> Count {
+    let setting = numbers(3, 4, 1, 0);
+    let three = mask(0xF0, 0x30);
+    let all = masked_job(setting, three, three, free(), mask(0x1F, 0x1F));
+    let one = asked(count, all, 0, 0, found(0x30, 0x31, 0x84, 0x1F));
+    let none = masked_job(
+        setting,
+        mask(0xFF, 0x30),
+        mask(0xF1, 0x31),
+        free(),
+        mask(0x1F, 0x00),
+    );
+    let two = asked(one, none, 0, 0, Reply::Refused(cause::NO_CASE));
+    let zero = mask(0xF0, 0x00);
+    let some = masked_job(setting, zero, zero, free(), mask(0x1F, 0x1A));
+    asked(two, some, 0x05, 0x0A, found(0x05, 0x0A, 0x85, 0x1A))
 }
 
 fn numbers(w: u64, f: u64, operation: u64, mode: u64) -> Setting {

@@ -1,4 +1,5 @@
-// Cases 1 to 4, 12 and 13 of document 01, a tie in double precision and one job for each cause of bad input, through the case generator.
+// Cases 1 to 4, 12 and 13 of document 01, a tie in double precision, borrows of equal exponents and one job for each cause of bad input, through
+// the case generator.
 mod document;
 mod line;
 mod same;
@@ -11,5 +12,6 @@ fn main() {
     let limits = document::limits(masked);
     let signs = document::impossible_signs(limits);
     let double = document::double_tie(signs);
-    tally::put_count(document::bad_input(double));
+    let borrows = document::borrows(double);
+    tally::put_count(document::bad_input(borrows));
 }

@@ -29,6 +29,10 @@ inside-bits m = (
   λ none. all-bits (bitAnd (m .value) (m .care)) (m .value) (λ i. bit-case (m .care) i (λ e. and-free (m .value) (m .care) i e ∙ sym (none i e)) (λ e. and-fixed (m .value) (m .care) i e)),
 )
 
+-- a mask that some word meets has its value inside care
+pub meets-inside : (x : ℕ) (m : Mask) → Meets x m → Inside m
+meets-inside x m met = inside-bits m .1 (λ i e. sym (ap (λ (u : ℕ). bit u i) met) ∙ and-free x (m .care) i e)
+
 pub meets-bits : (x : ℕ) (m : Mask) → Inside m → Meets x m ↔ AgreesAt x m
 meets-bits x m h = (
   (λ met i e. sym (and-fixed x (m .care) i e) ∙ ap (λ (u : ℕ). bit u i) met),

@@ -1,4 +1,4 @@
--- The replies of joining: what the joined mask of a reply is met by, that a clash is refused only where no word meets both, and that
+-- The replies of joining: what the joined mask of a reply is met by, that masks are refused only where no word meets both, and that
 -- joining well-formed masks in any order or grouping comes to the same reply, and with itself changes nothing. Assumes nothing.
 use mathlib.Core.Logic.{_↔_}
 use mathlib.Core.Path.{_≡_, refl, sym, ap, ap₂, _∙_, subst, fun-ext}
@@ -13,6 +13,7 @@ use Rattle.mask.specs.declared.Joined.{Joined}
 use Rattle.mask.specs.declared.Joined.the-variants as reply
 use Rattle.mask.specs.Mask.{Inside, inside, Meets}
 use Rattle.mask.specs.Join.{Agree, agree, joined, pickJoined, join}
+use Rattle.mask.proofs.ByBits.{meets-inside}
 use Rattle.mask.proofs.Checks.{inside-true}
 use Rattle.mask.proofs.Joining.{or-assoc, agree-comm, joined-comm, joined-inside, joined-meets, meets-agree, agree-joined}
 
@@ -60,21 +61,19 @@ join-meets m n j x e =
     let h = join-mask m n j e in
     subst (λ (k : Mask). Meets x k ↔ (Meets x m × Meets x n)) (h .mask) (joined-meets m n (h .first) (h .second) (h .agrees) x)
 
--- a clash is refused only where no word meets both
+-- masks are refused only where no word meets both
+pub join-refused : (m n : Mask) (x k : ℕ) → join m n ≡ reply.Refused k → Meets x m → Meets x n → ⊥
+join-refused m n x k e p q =
+    let hm = meets-inside x m p in
+    let hn = meets-inside x n q in
+    let alike = agree-true m n .1 (meets-agree m n hm hn x p q) in
+    let is : join m n ≡ reply.Mask (joined m n) = join-inside m n hm hn ∙ simp alike in
+    let z : _≡_ {A = ℕ} 0 1 = cc in
+    omega arith
+
+-- a clash too
 pub join-clash : (m n : Mask) (x : ℕ) → join m n ≡ reply.Refused cause.clash → Meets x m → Meets x n → ⊥
-unfolding join
-join-clash m n x = go (inside m && inside n) (agree m n) refl refl
-  where
-    go : (s t : Bool) → inside m && inside n ≡ s → agree m n ≡ t
-        → pickJoined s (pickJoined t (reply.Mask (joined m n)) (reply.Refused cause.clash)) (reply.Refused cause.mask) ≡ reply.Refused cause.clash
-        → Meets x m → Meets x n → ⊥
-    go false t a b e p q = let z : cause.mask ≡ cause.clash = cc in omega arith
-    go true true a b e p q = let z : _≡_ {A = ℕ} 0 1 = cc in omega arith
-    go true false a b e p q =
-        let both = and-eq-true-iff (inside m) (inside n) .0 a in
-        let alike : agree m n ≡ true = agree-true m n .1 (meets-agree m n (inside-true m .0 (both .0)) (inside-true n .0 (both .1)) x p q) in
-        let z : _≡_ {A = ℕ} 0 1 = cc in
-        omega arith
+join-clash m n x = join-refused m n x cause.clash
 
 -- ---- order and grouping
 agree-swap : (m n : Mask) → agree m n ≡ agree n m

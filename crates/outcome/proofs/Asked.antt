@@ -1,13 +1,13 @@
--- The question to the chain: its wires carry two aligned significands, what they make, and that with a constant and a carry added.
--- Two significands that solve it make a number that meets both masks, and the other way round. Assumes nothing.
+-- The question to the chain, where the row is not reversed: its wires carry two aligned significands, what they make, and that with a constant
+-- and a carry added. Two significands that solve it make a number that meets both masks, and the other way round. Assumes nothing.
 use mathlib.Core.Logic.{_↔_}
 use mathlib.Core.Path.{_≡_, refl, sym, ap, ap₂, _∙_, subst}
-use mathlib.Core.Bool.{Bool, true, false, not}
+use mathlib.Core.Bool.{Bool, true, false, not, cond, false≢true}
 use Prim.Native.Nat.{ℕ, suc, _+_, _-_, _*_, _%_, _^_, _≤_, _<_}
-use native.Mathlib.Nat.{mul-mod-left, zero-div, lt-of-lt-of-le, lt-of-le-of-lt, sub-le}
+use native.Mathlib.Nat.{add-comm, mul-mod-left, zero-div, lt-of-lt-of-le, lt-of-le-of-lt, sub-le}
 use native.Mathlib.Decide.{decLt}
 use native.Mathlib.Omega.{arith}
-use borrow.Author.Tests.{not-true, eq-eqb}
+use package.borrow.Author.Tests.{not-true, eq-eqb}
 use lib.Bits.{bitAnd, and-zero-r}
 use lib.Dec.{eqb}
 use lib.Pow.{pow-pos, pow-mono, pow-add, add-lt-pow, shl-shr}
@@ -18,12 +18,12 @@ use Rattle.mask.specs.Mask.{WellFormed, Meets, raised}
 use Rattle.mask.proofs.ByBits.{value-below}
 use Rattle.columns.specs.Column.{allows}
 use Rattle.chain.specs.declared.Wires.{Wires}
-use Rattle.columns.specs.Carry.{combined, carryOf}
+use Rattle.columns.specs.Carry.{borrow, combined, carryOf}
 use Rattle.chain.specs.Chain.{Solved, Answered}
 use Rattle.outcome.specs.declared.Aligned as pair
 use Rattle.rounding.specs.Width.{guardBits, alignedBits, sumBits, columnsOf, mostRounded, shortBits, maskBits}
 use Rattle.rounding.proofs.Widths.{sum-width, columns-width, rounded-le}
-use Rattle.outcome.specs.Outcome.{mostAligned, Formed, Making}
+use Rattle.outcome.specs.Outcome.{rowCarry, mostAligned, Formed, Making}
 
 -- the wires of a question
 abbrev pub wiresOf : pair.Aligned → Mask → Mask → Mask → ℕ → ℕ → Wires
@@ -53,7 +53,7 @@ allows-raised : (m : Mask) (d i b : ℕ) → allows (m .care * 2 ^ d) (m .value 
 allows-raised m d i b = ap₂ (λ (c v : ℕ). eqb (bitAnd b c) v) (raised-high (m .care) d i) (raised-high (m .value) d i)
 
 -- where a mask on p bits allows a wire's bits from column e on, the mask moved up by e places allows all of them
-allows-moved : (p e : ℕ) (m : Mask) → WellFormed p m → (wire : ℕ → ℕ) → ((i : ℕ) → i < p → allows (m .care) (m .value) i (wire (i + e)) ≡ true)
+pub allows-moved : (p e : ℕ) (m : Mask) → WellFormed p m → (wire : ℕ → ℕ) → ((i : ℕ) → i < p → allows (m .care) (m .value) i (wire (i + e)) ≡ true)
     → (i : ℕ) → allows (m .care * 2 ^ e) (m .value * 2 ^ e) i (wire i) ≡ true
 allows-moved p e m formed wire allow i = go (decLt i e) (decLt (i - e) p)
   where
@@ -72,6 +72,13 @@ allows-moved p e m formed wire allow i = go (decLt i e) (decLt (i - e) p)
         at h (subst (λ (n : ℕ). allows (m .care) (m .value) (i - e) (wire n) ≡ true) back (allow (i - e) k))
     go (no h) (no k) = at h (allows-free (m .care) (m .value) (i - e) (wire i) (above (m .care) (formed .below) (omega arith)) (above (m .value) (value-below p m formed) (omega arith)))
 
+-- and back
+pub allows-back : (e : ℕ) (m : Mask) (wire : ℕ → ℕ) (i : ℕ) → allows (m .care * 2 ^ e) (m .value * 2 ^ e) (i + e) (wire (i + e)) ≡ true
+    → allows (m .care) (m .value) i (wire (i + e)) ≡ true
+allows-back e m wire i allow =
+    sym (allows-raised m e i (wire (i + e)))
+    ∙ subst (λ (k : ℕ). allows (m .care * 2 ^ e) (m .value * 2 ^ e) k (wire (i + e)) ≡ true) (add-comm i e) allow
+
 -- what is made has one bit more
 pub combined-lt : (subtract : Bool) (l t k : ℕ) → l < 2 ^ k → t < 2 ^ k → combined subtract l t < 2 ^ suc k
 combined-lt true l t k hl ht = lt-of-le-of-lt (sub-le l t) (lt-of-lt-of-le hl (pow-mono {i = k} {j = suc k} (omega arith)))
@@ -81,7 +88,15 @@ combined-lt false l t k hl ht = add-lt-pow k hl ht
 pub most-aligned-lt : (f : ℕ) → mostAligned f < 2 ^ alignedBits f
 most-aligned-lt f = omega (arith, pow-pos f, pow-add 2 f 1, pow-add 2 f (1 + guardBits))
 
-module _ (f : ℕ) (A : pair.Aligned) (formed : Formed f A) (most : columnsOf f < 64) (x z : Mask) (constant carry : ℕ) where
+module _ (f : ℕ) (A : pair.Aligned) (forward : A .reversed ≡ false) (formed : Formed f A) (most : columnsOf f < 64) (x z : Mask) (constant carry : ℕ) where
+  -- the carries of the row
+  row-allowed : (H T i : ℕ) → allows (A .carries .care) (A .carries .value) i (carryOf (not (A .like)) H T (i + (1 + guardBits))) ≡ true
+      ↔ (allows (A .carries .care) (A .carries .value) i (rowCarry A H T (i + (1 + guardBits))) ≡ true)
+  row-allowed H T i = (λ e. subst at (sym forward) e, λ e. subst at forward e)
+    where
+      at : Bool → Type 0
+      at t = allows (A .carries .care) (A .carries .value) i (cond t (borrow T H 0 (i + (1 + guardBits))) (carryOf (not (A .like)) H T (i + (1 + guardBits)))) ≡ true
+
   below : (n : ℕ) → n < 2 ^ columnsOf f → n < 2 ^ maskBits
   below n h = lt-of-lt-of-le h (pow-mono {i = columnsOf f} {j = maskBits} (omega arith))
 
@@ -96,9 +111,8 @@ module _ (f : ℕ) (A : pair.Aligned) (formed : Formed f A) (most : columnsOf f 
       head-meets = s .l-meets;
       tail-meets = s .t-meets;
       ordered = λ e. s .ordered (ap not e);
-      carries-allow = λ i h. sym (allows-raised (A .carries) (1 + guardBits) i (carryOf (not (A .like)) l t (i + (1 + guardBits))))
-          ∙ subst (λ (k : ℕ). allows (A .carries .care * 2 ^ (1 + guardBits)) (A .carries .value * 2 ^ (1 + guardBits)) k (carryOf (not (A .like)) l t (i + (1 + guardBits))) ≡ true) (native.Mathlib.Nat.add-comm i (1 + guardBits))
-          (s .carries-allow (i + (1 + guardBits)) (omega arith));
+      unequal = λ e. absurd (false≢true (sym forward ∙ e));
+      carries-allow = λ i h. row-allowed l t i .0 (allows-back (1 + guardBits) (A .carries) (carryOf (not (A .like)) l t) i (s .carries-allow (i + (1 + guardBits)) (omega arith)));
       makes = refl;
     };
     holds = (s .x-meets, s .z-meets);
@@ -122,22 +136,23 @@ module _ (f : ℕ) (A : pair.Aligned) (formed : Formed f A) (most : columnsOf f 
         t-meets = w .tail-meets;
         x-meets = rw (w .makes) (m .holds .0);
         z-meets = rw (w .makes) (m .holds .1);
-        carries-allow = λ i h. allows-moved (f + 1) (1 + guardBits) (A .carries) (formed .carries) (carryOf (not (A .like)) (w .H) (w .T)) (w .carries-allow) i;
+        carries-allow = λ i h. allows-moved (f + 1) (1 + guardBits) (A .carries) (formed .carries) (carryOf (not (A .like)) (w .H) (w .T))
+            (λ k l. row-allowed (w .H) (w .T) k .1 (w .carries-allow k l)) i;
       }
 
 -- an answer of the chain, where the carry mask is moved up above the guard bits unless that loses bits
 pub asked : (f : ℕ) (A : pair.Aligned) (carries x z : Mask) (constant carry : ℕ) (r : Bool) → (columnsOf f < 64) × (constant < 2 ^ mostRounded) × (carry < 2)
     → (A .carries .care < 2 ^ shortBits → A .carries .value < 2 ^ shortBits → carries ≡ raised (1 + guardBits) (A .carries))
     → (r ≡ true) ↔ Answered (wiresOf A carries x z constant carry) (columnsOf f)
-    → Formed f A → (r ≡ true) ↔ Making f A (λ (n : ℕ). Meets n x × Meets (n + constant + carry) z)
-asked f A carries x z constant carry r pre moved answer formed = (
-  (λ e. let s = answer .0 e in asked-sound f A formed (pre .0) x z constant carry (s .l) (s .t) (rw same at (s .solved))),
+    → A .reversed ≡ false → Formed f A → (r ≡ true) ↔ Making f A (λ (n : ℕ). Meets n x × Meets (n + constant + carry) z)
+asked f A carries x z constant carry r pre moved answer forward formed = (
+  (λ e. let s = answer .0 e in asked-sound f A forward formed (pre .0) x z constant carry (s .l) (s .t) (rw same at (s .solved))),
   λ m. answer .1 (record {
     columns-lt = pre .0;
     carry-lt = pre .2;
     l = m .made .H;
     t = m .made .T;
-    solved = rw same (asked-complete f A formed (pre .0) x z constant carry (pre .1) (pre .2) m);
+    solved = rw same (asked-complete f A forward formed (pre .0) x z constant carry (pre .1) (pre .2) m);
   }),
 )
   where

@@ -111,7 +111,7 @@ module _ (F : Format) (ok : Supported F) (s : ℕ) (u : exponent.Unit) where
         subnormal-asked x r able below asks =
             making-answer (F .f) A (λ (n : ℕ). Meets n x × Meets (keptPart TowardZero n (u .0) 0) (so .fraction)) (λ (n : ℕ). (n < 2 ^ small) × Meets (subnormalWord F s u n) c) r
             (λ n made.
-            let b = below .meets n (made-lt (F .f) A n made) in (
+            let b = below n (made-lt (F .f) A n made) in (
               (λ p. let l = b .0 (p .0) in (l, low-meets n l .1 (able, p .1))),
               λ p. (b .1 (p .0), low-meets n (p .0) .0 (p .1) .1),
             ))

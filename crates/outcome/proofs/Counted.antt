@@ -59,7 +59,7 @@ module _ (f : ℕ) (d : Direction) (u : exponent.Unit) (q : ℕ) (fraction : Mas
       making-answer f A (λ (n : ℕ). Meets n x × Meets (keptPart d n (u .0) (k .0)) m)
       (λ (n : ℕ). (size n ≡ count) × (keptOf f d n u / 2 ^ f ≡ q) × (possible ≡ true) × Meets (keptOf f d n u % 2 ^ f) fraction) r
       (λ n made.
-      let g = digits .meets n (made-lt f A n made) in (
+      let g = digits n (made-lt f A n made) in (
         (λ p. let s = g .0 (p .0) in let t = kept-meets n count some most s .1 (rw (ek, em) at (p .1)) in (s, t .0, able, t .1)),
         λ p. (g .1 (p .0), rw (ek, em) (kept-meets n count some most (p .0) .0 (p .1, p .3))),
       ))
@@ -140,7 +140,7 @@ module _ (F : Format) (mode : ℕ) (like : Bool) (s : ℕ) (u : exponent.Unit) w
     zero-asked word x r ew met digits asks =
         making-answer (F .f) A (λ (n : ℕ). Meets n x × Meets (n + 0 + 0) anything) (λ (n : ℕ). (size n ≡ 0) × Meets (outcome F mode like s u n) c) r
         (λ n made.
-        let g = digits .meets n (made-lt (F .f) A n made) in (
+        let g = digits n (made-lt (F .f) A n made) in (
           (λ p. let e = g .0 (p .0) in (e, rw (outcome-zero n e ∙ sym ew) (meets-true word c .0 met))),
           λ p. (g .1 (p .0), and-zero-r (n + 0 + 0)),
         ))

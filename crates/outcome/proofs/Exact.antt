@@ -51,10 +51,10 @@ made-zeros A j head tail f x made =
 
 -- then all directions keep the same part
 pub exact-alike : (f : ℕ) (d e : Direction) (u : exponent.Unit) (A : pair.Aligned) (N : ℕ) → 0 < N → N ≤ sumBits f
-    → ((x : ℕ) → Made f A x → x % 2 ^ roundedBits f N u ≡ 0) → KeepAlike f d e u A N
+    → ((x : ℕ) → Made f A x → size x ≡ N → x % 2 ^ roundedBits f N u ≡ 0) → KeepAlike f d e u A N
 exact-alike f d e u A zero some most zeros = absurd (omega arith)
 exact-alike f d e u A (suc n) some most zeros = λ x made digits.
-    let whole = zeros x made in
+    let whole = zeros x made digits in
     kept-shifted f d x u n digits most
     ∙ ap (λ (k : ℕ). k * 2 ^ addedZeros f (suc n) u) (round-off-exact d x (roundedBits f (suc n) u) whole ∙ sym (round-off-exact e x (roundedBits f (suc n) u) whole))
     ∙ sym (kept-shifted f e x u n digits most)

@@ -1,19 +1,17 @@
 -- The last kept bit as a mask of one bit, joined to another mask: a number meets the joined mask exactly when it meets the other and has
 -- that bit, and where the two clash no number does both. Assumes nothing.
 use mathlib.Core.Logic.{_↔_}
-use mathlib.Core.Path.{_≡_, ap, ap₂, _∙_, subst}
+use mathlib.Core.Path.{_≡_, ap, ap₂, subst}
 use Prim.Native.Nat.{ℕ, _*_, _%_, _^_, _<_}
 use native.Mathlib.Nat.{zero-div}
-use native.Mathlib.Omega.{arith}
 use lib.Bits.{and-zero-r, or-zero-l}
 use Rattle.bits.specs.Bit.{bit}
 use Rattle.mask.specs.declared.Mask.{Mask}
 use Rattle.mask.specs.declared.Joined.the-variants as reply
-use Rattle.mask.specs.Mask.{Inside, Meets, fixed}
-use Rattle.mask.specs.Join.{join, joined}
-use Rattle.mask.proofs.Fixing.{fixed-inside, fixed-meets}
-use Rattle.mask.proofs.Joining.{meets-agree}
-use Rattle.mask.proofs.Replies.{agree-true, join-inside, join-meets}
+use Rattle.mask.specs.Mask.{Meets, fixed}
+use Rattle.mask.specs.Join.{join}
+use Rattle.mask.proofs.Fixing.{fixed-meets}
+use Rattle.mask.proofs.Replies.{join-meets, join-refused}
 use Rattle.outcome.proofs.Topped.{anything}
 
 -- bit j fixed to b, and no other
@@ -26,9 +24,6 @@ module _ (j b : ℕ) (h : b < 2) where
 
   same : fixed anything j b ≡ oneBit j b
   same = ap₂ (λ (s t : ℕ). record { care = s; value = t }) (or-zero-l (2 ^ j)) (or-zero-l (b * 2 ^ j))
-
-  pub one-inside : Inside (oneBit j b)
-  one-inside = subst (λ (m : Mask). Inside m) same (fixed-inside anything j b (and-zero-r 0) none h)
 
   pub one-meets : (n : ℕ) → Meets n (oneBit j b) ↔ (bit n j ≡ b)
   one-meets n =
@@ -43,9 +38,5 @@ module _ (j b : ℕ) (h : b < 2) where
         λ q. p .1 (q .0, one-meets n .1 (q .1)),
       )
 
-  pub last-refused : (x : Mask) (k : ℕ) → Inside x → join x (oneBit j b) ≡ reply.Refused k → (n : ℕ) → Meets n x → bit n j ≡ b → ⊥
-  last-refused x k inside e n met last =
-      let a = agree-true x (oneBit j b) .1 (meets-agree x (oneBit j b) inside one-inside n met (one-meets n .1 last)) in
-      let w : join x (oneBit j b) ≡ reply.Mask (joined x (oneBit j b)) = join-inside x (oneBit j b) inside one-inside ∙ simp a in
-      let z : _≡_ {A = ℕ} 0 1 = cc in
-      omega arith
+  pub last-refused : (x : Mask) (k : ℕ) → join x (oneBit j b) ≡ reply.Refused k → (n : ℕ) → Meets n x → bit n j ≡ b → ⊥
+  last-refused x k e n met last = join-refused x (oneBit j b) n k e met (one-meets n .1 last)

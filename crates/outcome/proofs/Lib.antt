@@ -9,5 +9,6 @@ pub mod Asked
 pub mod Range
 pub mod Carried
 pub mod Exact
+pub mod Reversed
 pub mod Counted
 pub mod BelowNormal

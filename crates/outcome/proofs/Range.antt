@@ -70,7 +70,7 @@ module _ (f : ℕ) (A : pair.Aligned) (x : ℕ) (made : Made f A x) where
   pub made-difference : A .like ≡ false → made .H - made .T ≡ x
   made-difference e = sym (ap (λ (b : Bool). combined (not b) (made .H) (made .T)) e) ∙ made .makes
 
-  made-difference-most : A .like ≡ false → size x ≤ alignedBits f
+  pub made-difference-most : A .like ≡ false → size x ≤ alignedBits f
   made-difference-most e = size-le x (alignedBits f) (subst (λ (n : ℕ). n < 2 ^ alignedBits f) (made-difference e) (lt-of-le-of-lt (sub-le (made .H) (made .T)) (made .head-lt)))
 
   pub made-digits : size x ≤ mostDigits f (A .like)

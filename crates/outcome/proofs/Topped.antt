@@ -3,13 +3,13 @@
 -- the quotient 0 how many at most. Assumes nothing.
 use mathlib.Core.Logic.{_↔_}
 use mathlib.Core.Path.{_≡_, sym, ap, _∙_, subst}
-use Prim.Native.Nat.{ℕ, suc, _+_, _-_, _*_, _/_, _%_, _^_, _<_}
-use native.Mathlib.Nat.{mod-eq-of-lt, zero-mul, div-eq-of-lt, div-lt-iff-lt-mul, le-div-iff-mul-le, pow-suc}
+use Prim.Native.Nat.{ℕ, suc, _+_, _-_, _/_, _%_, _^_, _<_}
+use native.Mathlib.Nat.{mod-eq-of-lt, div-eq-of-lt, div-lt-iff-lt-mul, le-div-iff-mul-le, pow-suc}
 use native.Mathlib.Omega.{arith}
-use lib.Bits.{bitAnd, and-mask, and-zero-l, and-zero-r}
+use lib.Bits.{bitAnd, and-mask, and-zero-r}
 use lib.Ieee.{size}
 use lib.Ieee.Digits.{size-lt, size-reaches}
-use lib.Pow.{pow-pos, pow-add, pow-mono, high, low, shr-lt}
+use lib.Pow.{pow-pos, high, low, shr-lt}
 use Rattle.mask.specs.declared.Mask.{Mask}
 use Rattle.mask.specs.Mask.{Meets}
 use Rattle.mask.proofs.ByParts.{meets-parts}
@@ -65,29 +65,14 @@ anything = record { care = 0; value = 0 }
 
 -- the masks of no digit, and of k + 1 digits
 pub digits-none : (n : ℕ) → OfDigits n 0 (record { care = 2 ^ n - 1; value = 0 })
-digits-none n = record {
-  inside = and-zero-l (2 ^ n - 1);
-  meets = λ x h. ((λ met. size-none x .1 (sym (and-ones n x h) ∙ met)), λ e. and-ones n x h ∙ size-none x .0 e);
-}
+digits-none n x h = ((λ met. size-none x .1 (sym (and-ones n x h) ∙ met)), λ e. and-ones n x h ∙ size-none x .0 e)
 
 pub digits-some : (r k : ℕ) → OfDigits (suc r + k) (suc k) (topped (suc r) k 1 anything)
-digits-some r k = record { inside = inside; meets = meets }
-  where
-    quotient : (x : ℕ) → x < 2 ^ (suc r + k) → Meets x (topped (suc r) k 1 anything) ↔ ((x / 2 ^ k ≡ 1) × Meets (x % 2 ^ k) anything)
-    quotient x h = topped-meets (suc r) k 1 x anything (pow-pos k) (pow-pos k) h
-
-    meets : (x : ℕ) → x < 2 ^ (suc r + k) → Meets x (topped (suc r) k 1 anything) ↔ (size x ≡ suc k)
-    meets x h = (
-      (λ met. size-quotient x k .1 (quotient x h .0 met .0)),
-      λ e. quotient x h .1 (size-quotient x k .0 e, and-zero-r (x % 2 ^ k)),
+digits-some r k x h =
+    let top = topped-meets (suc r) k 1 x anything (pow-pos k) (pow-pos k) h in (
+      (λ met. size-quotient x k .1 (top .0 met .0)),
+      λ e. top .1 (size-quotient x k .0 e, and-zero-r (x % 2 ^ k)),
     )
-
-    inside : Meets (1 * 2 ^ k + 0) (topped (suc r) k 1 anything)
-    inside =
-        let p = pow-add 2 (suc r) k in
-        let o = native.Mathlib.Nat.mul-le-mul-right {m = 2} {n = 2 ^ suc r} (2 ^ k) (pow-mono {i = 1} {j = suc r} (omega arith)) in
-        let t = pow-pos k in
-        quotient (1 * 2 ^ k + 0) (omega arith) .1 (high 1 k (pow-pos k), and-zero-r ((1 * 2 ^ k + 0) % 2 ^ k))
 
 -- the same for numbers that the code forms
 pub digits-of : (n count r k : ℕ) → n ≡ suc r + k → count ≡ suc k → (a b : ℕ) → a ≡ suc r → b ≡ k → OfDigits n count (topped a b 1 anything)
@@ -95,11 +80,8 @@ digits-of n count r k en ec a b ea eb = rw (en, ec, ea, eb) (digits-some r k)
 
 -- the mask of the numbers below 2^k
 pub below-power : (n r k : ℕ) → n ≡ r + k → Below n k (topped r k 0 anything)
-below-power n r k e = rw e (record { inside = rw none (and-zero-l ((2 ^ r - 1) * 2 ^ k + 0)); meets = meets })
+below-power n r k e = rw e meets
   where
-    none : 0 * 2 ^ k + 0 ≡ 0
-    none = omega (arith, zero-mul (2 ^ k))
-
     meets : (x : ℕ) → x < 2 ^ (r + k) → Meets x (topped r k 0 anything) ↔ (x < 2 ^ k)
     meets x h =
         let top = topped-meets r k 0 x anything (pow-pos k) (pow-pos k) h in (

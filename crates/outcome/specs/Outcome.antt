@@ -1,13 +1,13 @@
 -- Whether some two aligned significands make a word c that meets a mask: what they make, and its word, is `Rattle.rounding.specs.Outcome`'s.
 -- Assumes nothing.
 use mathlib.Core.Path.{_≡_}
-use mathlib.Core.Bool.{true, false, not}
+use mathlib.Core.Bool.{true, false, not, cond}
 use Prim.Native.Nat.{ℕ, _+_, _-_, _^_, _≤_, _<_}
 use Rattle.format.specs.declared.Format.{Format}
 use Rattle.format.specs.Format.{Supported}
 use Rattle.mask.specs.declared.Mask.{Mask}
-use Rattle.mask.specs.Mask.{WellFormed, Meets}
-use Rattle.columns.specs.Carry.{combined, carryOf}
+use Rattle.mask.specs.Mask.{WellFormed, Meets, low}
+use Rattle.columns.specs.Carry.{borrow, combined, carryOf}
 use Rattle.columns.specs.Column.{allows}
 use Rattle.word.specs.declared.Unit as exponent
 use Rattle.rounding.specs.Width.{guardBits, alignedBits, maskBits}
@@ -15,8 +15,12 @@ use Rattle.rounding.specs.Sticky.{headAt}
 use Rattle.rounding.specs.Outcome.{outcome}
 use Rattle.outcome.specs.declared.Aligned as pair
 
+-- the carry into position i of H + T, the borrow at it of H - T, or where the row is reversed that of T - H (W-205)
+abbrev pub rowCarry : pair.Aligned → ℕ → ℕ → ℕ → ℕ
+rowCarry A H T i = cond (A .reversed) (borrow T H 0 i) (carryOf (not (A .like)) H T i)
+
 -- two aligned significands that meet their masks, with carries that agree with the carry mask, make x: the carry out of bit i of the larger
--- significand goes into bit i + 1 of it, below which the guard bits stand
+-- significand goes into bit i + 1 of it, below which the guard bits stand; where the row is reversed, x is not 0
 pub record Made (f : ℕ) (A : pair.Aligned) (x : ℕ) : Type 0 where
   pub H : ℕ
   pub T : ℕ
@@ -25,7 +29,8 @@ pub record Made (f : ℕ) (A : pair.Aligned) (x : ℕ) : Type 0 where
   pub head-meets : Meets H (A .head)
   pub tail-meets : Meets T (A .tail)
   pub ordered : A .like ≡ false → T ≤ H
-  pub carries-allow : (i : ℕ) → i < f + 1 → allows (A .carries .care) (A .carries .value) i (carryOf (not (A .like)) H T (i + (1 + guardBits))) ≡ true
+  pub unequal : A .reversed ≡ true → T < H
+  pub carries-allow : (i : ℕ) → i < f + 1 → allows (A .carries .care) (A .carries .value) i (rowCarry A H T (i + (1 + guardBits))) ≡ true
   pub makes : combined (not (A .like)) H T ≡ x
 
 -- some x that they make has the property P
@@ -52,8 +57,19 @@ mostAligned f = headAt guardBits (2 ^ (f + 1) - 1)
 abbrev pub Bounded : ℕ → Mask → Type 0
 Bounded f m = (x : ℕ) → x < 2 ^ maskBits → Meets x m → x ≤ mostAligned f
 
--- the masks of two aligned significands are such, and the carry mask has p bits
+-- a mask that fixes the guard bits to 0
+abbrev pub Unguarded : Mask → Type 0
+Unguarded m = (low guardBits m .care ≡ 2 ^ guardBits - 1) × (low guardBits m .value ≡ 0)
+
+-- unlike operands with one unit: nothing stands below their significands
+pub record OneUnit (A : pair.Aligned) : Type 0 where
+  pub unlike : A .like ≡ false
+  pub head : Unguarded (A .head)
+  pub tail : Unguarded (A .tail)
+
+-- the masks of two aligned significands are such, the carry mask has p bits, and only operands with one unit have a reversed row
 pub record Formed (f : ℕ) (A : pair.Aligned) : Type 0 where
   pub head : Bounded f (A .head)
   pub tail : Bounded f (A .tail)
   pub carries : WellFormed (f + 1) (A .carries)
+  pub reversed : A .reversed ≡ true → OneUnit A

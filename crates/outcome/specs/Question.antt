@@ -6,11 +6,12 @@ use mathlib.Core.Path.{_≡_}
 use mathlib.Core.Bool.{Bool, true, false, cond}
 use mathlib.Core.Logic.{_↔_}
 use Prim.Native.Nat.{ℕ, _+_, _-_, _*_, _/_, _^_, _≤_, _<_}
+use lib.Bits.{bitXor}
 use lib.Dec.{ltb}
 use lib.Ieee.{size}
 use Rattle.format.specs.declared.Format.{Format}
 use Rattle.mask.specs.declared.Mask.{Mask}
-use Rattle.mask.specs.Mask.{Inside, Meets}
+use Rattle.mask.specs.Mask.{Meets}
 use Rattle.word.specs.declared.Biased.{Biased}
 use Rattle.word.specs.declared.Unit as exponent
 use Rattle.rounding.specs.declared.Direction as way
@@ -30,6 +31,14 @@ use Rattle.outcome.specs.Outcome.{Made, Making, Admits}
 abbrev pub topped : ℕ → ℕ → ℕ → Mask → Mask
 topped r k h m = record { care = (2 ^ r - 1) * 2 ^ k + m .care; value = h * 2 ^ k + m .value }
 
+-- the mask with each fixed bit turned over
+abbrev pub opposite : Mask → Mask
+opposite m = record { care = m .care; value = bitXor (m .care) (m .value) }
+
+-- the mask of the numbers one above those that meet m, where m fixes the lowest bit to 0
+abbrev pub oneAbove : Mask → Mask
+oneAbove m = record { care = m .care; value = m .value + 1 }
+
 -- the most digits that a sum has, or else a difference
 abbrev pub mostDigits : ℕ → Bool → ℕ
 mostDigits f true = sumBits f
@@ -48,14 +57,12 @@ abbrev pub KeepAlike : ℕ → way.Direction → way.Direction → exponent.Unit
 KeepAlike f d e u A N = (x : ℕ) → Made f A x → size x ≡ N → keptOf f d x u ≡ keptOf f e x u
 
 -- m is met by exactly those numbers of n bits that have N binary digits
-pub record OfDigits (n N : ℕ) (m : Mask) : Type 0 where
-  pub inside : Inside m
-  pub meets : (x : ℕ) → x < 2 ^ n → Meets x m ↔ (size x ≡ N)
+abbrev pub OfDigits : ℕ → ℕ → Mask → Type 0
+OfDigits n N m = (x : ℕ) → x < 2 ^ n → Meets x m ↔ (size x ≡ N)
 
 -- m is met by exactly those numbers of n bits that are below 2^k
-pub record Below (n k : ℕ) (m : Mask) : Type 0 where
-  pub inside : Inside m
-  pub meets : (x : ℕ) → x < 2 ^ n → Meets x m ↔ (x < 2 ^ k)
+abbrev pub Below : ℕ → ℕ → Mask → Type 0
+Below n k m = (x : ℕ) → x < 2 ^ n → Meets x m ↔ (x < 2 ^ k)
 
 -- the word of the sign s, the exponent field e and the fraction t; past the largest finite number what the direction gives
 abbrev pub wordOrOverflow : Format → way.Direction → ℕ → Biased → ℕ → ℕ

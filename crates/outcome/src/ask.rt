@@ -1,5 +1,7 @@
 // Questions about what two aligned significands make, put to the chain of two adders.
 use crate::Aligned;
+use crate::masks::one_above;
+use crate::masks::opposite;
 use crate::masks::raised;
 use bits::minus;
 use chain::Wires;
@@ -11,22 +13,23 @@ use rounding::addend::constant;
 use rounding::width::COLUMNS;
 use rounding::width::GUARD_BITS;
 use word::Unit;
-ghost use mathlib.Core.Bool.{true};
+ghost use mathlib.Core.Bool.{true, false};
 ghost use mathlib.Core.Logic.{_↔_};
 ghost use mathlib.Core.Path.{_≡_};
 ghost use Prim.Native.Nat.{ℕ, _+_, _^_, _≤_, _<_};
 ghost use Rattle.bits.specs.Bit.{bit};
-ghost use Rattle.mask.specs.Mask.{Inside, Meets};
+ghost use Rattle.mask.specs.Mask.{Meets};
+ghost use Rattle.rounding.specs.declared.Direction.the-variants.{TowardZero};
 ghost use Rattle.rounding.specs.Rounding.{roundOff};
 ghost use Rattle.rounding.specs.Sticky.{keptPart};
 ghost use Rattle.rounding.specs.Width.{columnsOf, mostRounded, shortBits};
 ghost use Rattle.outcome.specs.Outcome.{Formed, Making};
 
-// Whether they make a number that meets x and, with a constant and a carry added, z. The carry out of bit i of the larger significand is the
-// one into column i + 1 above the guard bits.
-pub(crate) fn ask(aligned: Aligned, f: u64, x: Mask, z: Mask, constant: u64, carry: u64) -> bool
+// Whether they make a number that meets x and, with a constant and a carry added, z, where the row is not reversed. The carry out of bit i of
+// the larger significand is the one into column i + 1 above the guard bits.
+fn ask_forward(aligned: Aligned, f: u64, x: Mask, z: Mask, constant: u64, carry: u64) -> bool
     requires { ⌜ (columnsOf f < 64) × (constant < 2 ^ mostRounded) × (carry < 2) ⌝ }
-    ensures { λ r. ⌜ (Formed f aligned → (r ≡ true) ↔ Making f aligned (λ (n : ℕ). Meets n x × Meets (n + constant + carry) z)) ⌝ }
+    ensures { λ r. ⌜ (aligned .reversed ≡ false → Formed f aligned → (r ≡ true) ↔ Making f aligned (λ (n : ℕ). Meets n x × Meets (n + constant + carry) z)) ⌝ }
 {
     let head = aligned.head;
     let tail = aligned.tail;
@@ -44,6 +47,52 @@ pub(crate) fn ask(aligned: Aligned, f: u64, x: Mask, z: Mask, constant: u64, car
     chain::possible(wires, f + COLUMNS)
 }
 
+// Whether they make a number that meets z, where the row is reversed. With T + 1 in T's place the first adder gives one less than they make,
+// and its borrows are the other ones of the row's; the second adder adds the one again.
+fn ask_reversed(aligned: Aligned, f: u64, z: Mask) -> bool
+    requires { ⌜ columnsOf f < 64 ⌝ }
+    ensures { λ r. ⌜ (aligned .reversed ≡ true → Formed f aligned → (r ≡ true) ↔ Making f aligned (λ (n : ℕ). Meets n z)) ⌝ }
+{
+    let head = aligned.head;
+    let tail = one_above(aligned.tail);
+    let carries = raised(opposite(aligned.carries), 1 + GUARD_BITS);
+    let wires = Wires {
+        subtract: true,
+        l: head,
+        t: tail,
+        x: Mask { care: 0, value: 0 },
+        z,
+        carries,
+        constant: 0,
+        carry: 1,
+    };
+    chain::possible(wires, f + COLUMNS)
+}
+
+// Whether they make a number that meets both masks, where the row is reversed.
+fn ask_both(aligned: Aligned, f: u64, x: Mask, z: Mask) -> bool
+    requires { ⌜ columnsOf f < 64 ⌝ }
+    ensures { λ r. ⌜ (aligned .reversed ≡ true → Formed f aligned → (r ≡ true) ↔ Making f aligned (λ (n : ℕ). Meets n x × Meets n z)) ⌝ }
+{
+    let joined = mask::join(x, z);
+    match joined {
+        Joined::Mask(m) => ask_reversed(aligned, f, m),
+        Joined::Refused(_) => false,
+    }
+}
+
+// Whether they make a number that meets x and, with a constant and a carry added, z; where the row is reversed nothing is added.
+pub(crate) fn ask(aligned: Aligned, f: u64, x: Mask, z: Mask, constant: u64, carry: u64) -> bool
+    requires { ⌜ (columnsOf f < 64) × (constant < 2 ^ mostRounded) × (carry < 2) × (aligned .reversed ≡ true → constant + carry ≡ 0) ⌝ }
+    ensures { λ r. ⌜ (Formed f aligned → (r ≡ true) ↔ Making f aligned (λ (n : ℕ). Meets n x × Meets (n + constant + carry) z)) ⌝ }
+{
+    if aligned.reversed {
+        ask_both(aligned, f, x, z)
+    } else {
+        ask_forward(aligned, f, x, z, constant, carry)
+    }
+}
+
 // The same for a number whose bit j, the last one kept, is `last`.
 fn ask_last(
     aligned: Aligned,
@@ -55,7 +104,7 @@ fn ask_last(
     constant: u64,
     carry: u64,
 ) -> bool
-    requires { ⌜ (columnsOf f < 64) × (j ≤ mostRounded) × (last < 2) × Inside x × (constant < 2 ^ mostRounded) × (carry < 2) ⌝ }
+    requires { ⌜ (columnsOf f < 64) × (j ≤ mostRounded) × (last < 2) × (constant < 2 ^ mostRounded) × (carry < 2) × (aligned .reversed ≡ true → constant + carry ≡ 0) ⌝ }
     ensures { λ r. ⌜ (Formed f aligned → (r ≡ true) ↔ Making f aligned (λ (n : ℕ). (Meets n x × (bit n j ≡ last)) × Meets (n + constant + carry) z)) ⌝ }
 {
     let kept = Mask {
@@ -72,7 +121,7 @@ fn ask_last(
 // Whether they make a number that meets x and, with j bits rounded off, y. Rounding off adds a constant and a carry; where the carry depends
 // on the last kept bit, a question is put for each value of that.
 fn rounds(aligned: Aligned, f: u64, direction: Direction, j: u64, x: Mask, y: Mask) -> bool
-    requires { ⌜ (columnsOf f < 64) × (j ≤ mostRounded) × Inside x × (y .care < 2 ^ shortBits) × (y .value < 2 ^ shortBits) ⌝ }
+    requires { ⌜ (columnsOf f < 64) × (j ≤ mostRounded) × (y .care < 2 ^ shortBits) × (y .value < 2 ^ shortBits) × (aligned .reversed ≡ true → direction ≡ TowardZero) ⌝ }
     ensures { λ r. ⌜ (Formed f aligned → (r ≡ true) ↔ Making f aligned (λ (n : ℕ). Meets n x × Meets (roundOff direction n j) y)) ⌝ }
 {
     let z = raised(y, j);
@@ -99,7 +148,7 @@ pub(crate) fn rounds_at(
     x: Mask,
     kept: Mask,
 ) -> bool
-    requires { ⌜ (columnsOf f < 64) × (unit .0 < 2 ^ 63) × (rounded .0 ≤ unit .0 + 1) × Inside x × (kept .care < 2 ^ shortBits) × (kept .value < 2 ^ shortBits) ⌝ }
+    requires { ⌜ (columnsOf f < 64) × (unit .0 < 2 ^ 63) × (rounded .0 ≤ unit .0 + 1) × (kept .care < 2 ^ shortBits) × (kept .value < 2 ^ shortBits) × (aligned .reversed ≡ true → direction ≡ TowardZero) ⌝ }
     ensures { λ r. ⌜ (Formed f aligned → (r ≡ true) ↔ Making f aligned (λ (n : ℕ). Meets n x × Meets (keptPart direction n (unit .0) (rounded .0)) kept)) ⌝ }
 {
     let place = rounded.0 + GUARD_BITS;

@@ -27,6 +27,7 @@ ghost use Rattle.format.specs.Format.{Supported};
 ghost use Rattle.mask.specs.Mask.{Meets};
 ghost use Rattle.word.specs.declared.Unit.{Unit};
 ghost use Rattle.word.specs.Word.{signed};
+ghost use Rattle.rounding.specs.declared.Direction.the-variants.{TowardZero};
 ghost use Rattle.rounding.specs.Width.{sumBits, columnsOf, mostRounded};
 ghost use Rattle.rounding.specs.Outcome.{roundedUnit, keptOf, boundedHeld, outcome};
 ghost use Rattle.outcome.specs.Outcome.{Made, InFormat, Formed, Making};
@@ -60,7 +61,7 @@ pub(crate) fn exact(aligned: Aligned, j: u64) -> bool
 }
 
 // The direction in which numbers of so many digits are asked about: toward zero where only zeros are rounded off, since then all directions
-// keep the same part.
+// keep the same part. A reversed row is one of operands with one unit, whose difference has only zeros there.
 fn asked_direction(
     f: u64,
     direction: Direction,
@@ -69,8 +70,12 @@ fn asked_direction(
     count: u64,
 ) -> Direction
     requires { ⌜ (columnsOf f < 64) × (unit .0 < 2 ^ 63) × (0 < count) × (count ≤ sumBits f) ⌝ }
-    ensures { λ r. ⌜ KeepAlike f r direction unit aligned count ⌝ }
+    ensures alike { λ r. ⌜ (Formed f aligned → KeepAlike f r direction unit aligned count) ⌝ }
+    ensures reversed { λ r. ⌜ (aligned .reversed ≡ true → r ≡ TowardZero) ⌝ }
 {
+    if aligned.reversed {
+        return Direction::TowardZero;
+    }
     let j = minus(rounded_unit(f, count, unit).0 + GUARD_BITS, unit.0);
     if exact(aligned, j) {
         Direction::TowardZero
@@ -89,7 +94,7 @@ fn rounds_to(
     quotient: u64,
     fractions: Fractions,
 ) -> bool
-    requires { ⌜ (columnsOf f < 64) × (unit .0 < 2 ^ 63) × (0 < count) × (count ≤ sumBits f) × (quotient < 4) × (fractions .fraction .care < 2 ^ f) × (fractions .fraction .value < 2 ^ f) ⌝ }
+    requires { ⌜ (columnsOf f < 64) × (unit .0 < 2 ^ 63) × (0 < count) × (count ≤ sumBits f) × (quotient < 4) × (fractions .fraction .care < 2 ^ f) × (fractions .fraction .value < 2 ^ f) × (aligned .reversed ≡ true → direction ≡ TowardZero) ⌝ }
     ensures { λ r. ⌜ (Formed f aligned → (r ≡ true) ↔ Making f aligned (λ (x : ℕ). (size x ≡ count) × (keptOf f direction x unit / 2 ^ f ≡ quotient) × (fractions .possible ≡ true) × Meets (keptOf f direction x unit % 2 ^ f) (fractions .fraction))) ⌝ }
 {
     if !fractions.possible {
@@ -114,7 +119,7 @@ fn at_quotient(
     count: u64,
     quotient: u64,
 ) -> bool
-    requires { ⌜ InFormat format sign unit × (0 < count) × (count ≤ sumBits (format .f)) × (quotient < 4) × KeepAlike (format .f) way direction unit aligned count ⌝ }
+    requires { ⌜ InFormat format sign unit × (0 < count) × (count ≤ sumBits (format .f)) × (quotient < 4) × (Formed (format .f) aligned → KeepAlike (format .f) way direction unit aligned count) × (aligned .reversed ≡ true → way ≡ TowardZero) ⌝ }
     ensures { λ r. ⌜ (Formed (format .f) aligned → (r ≡ true) ↔ Making (format .f) aligned (λ (x : ℕ). (size x ≡ count) × (keptOf (format .f) direction x unit / 2 ^ format .f ≡ quotient) × Meets (signed format sign (boundedHeld format direction x unit)) c)) ⌝ }
 {
     let f = format.f;

@@ -5,7 +5,7 @@ ghost use mathlib.Core.Path.{_≡_};
 ghost use Prim.Native.Nat.{ℕ, _+_, _%_, _^_, _≤_, _<_};
 ghost use Rattle.mask.specs.Mask.{Meets, raised};
 ghost use Rattle.rounding.specs.Width.{mostRounded, shortBits};
-ghost use Rattle.outcome.specs.Question.{topped, OfDigits, Below};
+ghost use Rattle.outcome.specs.Question.{opposite, oneAbove, topped, OfDigits, Below};
 
 // The mask moved up by d places.
 pub(crate) fn raised(m: Mask, d: u64) -> Mask
@@ -15,6 +15,26 @@ pub(crate) fn raised(m: Mask, d: u64) -> Mask
     Mask {
         care: m.care << d,
         value: m.value << d,
+    }
+}
+
+// The mask with each fixed bit turned over.
+pub(crate) fn opposite(m: Mask) -> Mask
+    ensures { λ r. ⌜ r ≡ opposite m ⌝ }
+{
+    Mask {
+        care: m.care,
+        value: m.care ^ m.value,
+    }
+}
+
+// The mask of the numbers one above those that meet m, where m fixes the lowest bit to 0.
+pub(crate) fn one_above(m: Mask) -> Mask
+    ensures { λ r. ⌜ (m .value % 2 ≡ 0 → r ≡ oneAbove m) ⌝ }
+{
+    Mask {
+        care: m.care,
+        value: m.value | 1,
     }
 }
 

@@ -26,7 +26,8 @@ use Rattle.fit.specs.Fit.{RowMeets}
 use Rattle.word.specs.Masks.{signMask, exponentMask, fractionMask}
 use Rattle.special.specs.Asked.{fieldIs, PairFits}
 use Rattle.pair.specs.Pair.{FiniteSide, sideA, sideB, SomeSigns, FinitePair}
-use Rattle.pair.proofs.Numbers.{number, Numbers, sums-numbers}
+use Rattle.pair.proofs.Rows.{number}
+use Rattle.pair.proofs.Numbers.{Numbers, sums-numbers}
 
 module _ (j : Job) (valid : Valid j) (ea eb : Biased) (fin : FinitePair (j .setting .format) ea eb) where
   F : Format
@@ -57,7 +58,7 @@ module _ (j : Job) (valid : Valid j) (ea eb : Biased) (fin : FinitePair (j .sett
       posed = record {
         a-sign = ma .0;
         b-sign = mb .0;
-        sums = sums-numbers j valid (sideA j (sign F a) ea) (sideB j (sign F b) eb) (finite-a (sign F a) sa-lt) (finite-b (sign F b)) .1 (record {
+        sums = sums-numbers j valid (sideA j (sign F a) ea) (sideB j (sign F b) eb) (finite-a (sign F a) sa-lt) (finite-b (sign F b)) refl refl .1 (record {
           p = fraction F a;
           q = fraction F b;
           p-lt = mod-lt a (pow-pos (F .f));
@@ -174,5 +175,5 @@ module _ (j : Job) (valid : Valid j) (ea eb : Biased) (fin : FinitePair (j .sett
     λ p.
         let S = p .2 in
         numbers-case (p .0) (p .1) (S .sa) (S .sb) (S .sa-lt) (S .sb-lt) (S .posed .a-sign) (S .posed .b-sign)
-        (sums-numbers j valid (sideA j (S .sa) ea) (sideB j (S .sb) eb) (finite-a (S .sa) (S .sa-lt)) (finite-b (S .sb)) .0 (S .posed .sums)),
+        (sums-numbers j valid (sideA j (S .sa) ea) (sideB j (S .sb) eb) (finite-a (S .sa) (S .sa-lt)) (finite-b (S .sb)) refl refl .0 (S .posed .sums)),
   )

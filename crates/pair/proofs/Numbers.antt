@@ -1,7 +1,7 @@
 -- Two finite numbers with the signs and the exponent fields of two sides, whose fractions meet the sides' masks, have a sum and a row that
 -- meet the job's masks exactly when aligned significands make such, with the one or the other side as the larger. Assumes nothing.
 use mathlib.Core.Path.{_≡_, refl, sym, ap, ap₂, _∙_, subst}
-use mathlib.Core.Bool.{true, false, not}
+use mathlib.Core.Bool.{Bool, true, false, not, cond, false≢true}
 use mathlib.Core.Logic.{_↔_, inl, inr, ⊎-elim}
 use Prim.Native.Nat.{ℕ, _+_, _^_, _≤_, _<_}
 use native.Mathlib.Nat.{le-of-lt, lt-of-lt-of-le}
@@ -21,25 +21,23 @@ use Rattle.job.specs.Job.{Valid}
 use Rattle.columns.specs.Column.{allows}
 use Rattle.columns.proofs.Agree.{met-bits, met-whole}
 use Rattle.word.specs.declared.Finite as record-of
-use Rattle.word.specs.Word.{significand, unitOf}
+use Rattle.word.specs.Word.{unitOf}
 use Rattle.word.specs.Operand.{magnitude, Canonical}
 use Rattle.rounding.specs.Sticky.{headAt, tailAt}
 use Rattle.rounding.specs.Width.{guardBits, alignedBits, shortBits, maskBits}
 use Rattle.rounding.proofs.Widths.{guards, aligned-width}
 use Rattle.adder.specs.Result.{finiteSum}
 use Rattle.adder.specs.Row.{finiteRow}
-use Rattle.word.proofs.Canonical.{significand-bounds, unit-le}
+use Rattle.word.proofs.Canonical.{significand-bounds, exponent-le}
 use Rattle.significand.proofs.Significand.{significand-formed, significand-meets}
 use Rattle.significand.proofs.Tail.{aligned-zero, tail-sound, tail-complete}
-use Rattle.columns.specs.Carry.{combined, carryOf}
+use Rattle.columns.specs.Carry.{combined}
 use Rattle.rounding.specs.Outcome.{outcome}
 use Rattle.pair.specs.declared.Side.{Side}
-use Rattle.pair.specs.Pair.{FiniteSide, significandsOf, gapOf, Larger, Sums}
-use Rattle.adder.proofs.Aligned.{sum-exchanged, row-exchanged, row-lt, tail-ordered, sum-outcome, row-columns}
-
--- the finite number of a side and a fraction
-abbrev pub number : Format → Side → ℕ → record-of.Finite
-number F x t = record { sign = x .sign; exponent = x .exponent; significand = significand (F .f) (x .exponent .0) t }
+use Rattle.pair.specs.Pair.{FiniteSide, significandsOf, gapOf, reversedOf, alignedOf, Larger, Sums}
+use Rattle.outcome.specs.Outcome.{rowCarry}
+use Rattle.adder.proofs.Aligned.{sum-exchanged, row-lt, tail-ordered, tail-below, sum-outcome}
+use Rattle.pair.proofs.Rows.{number, rowFrom, reversed-parts, made-row}
 
 -- a number of n bits meets a mask of n bits exactly when each of its bits is allowed
 meets-allowed : (n x : ℕ) (m : Mask) → WellFormed n m → x < 2 ^ n → Meets x m ↔ ((i : ℕ) → i < n → allows (m .care) (m .value) i (bit x i) ≡ true)
@@ -56,7 +54,7 @@ pub record Numbers (j : Job) (x y : Side) : Type 0 where
   pub q-lt : q < 2 ^ j .setting .format .f
   pub p-meets : Meets p (x .fraction)
   pub q-meets : Meets q (y .fraction)
-  pub row-meets : Meets (finiteRow (j .setting .format) (number (j .setting .format) x p) (number (j .setting .format) y q)) (j .carries)
+  pub row-meets : Meets (rowFrom (j .setting .format) y (number (j .setting .format) x p) (number (j .setting .format) y q)) (j .carries)
   pub sum-meets : Meets (finiteSum (j .setting .format) (j .setting .mode) (number (j .setting .format) x p) (number (j .setting .format) y q)) (j .c .mask)
 
 pub number-canonical : (F : Format) (x : Side) → FiniteSide F x → (t : ℕ) → t < 2 ^ F .f → Canonical F (number F x t)
@@ -64,9 +62,14 @@ number-canonical F x fx t ht =
     let b = significand-bounds (F .f) (x .exponent .0) t ht in
     record { sign-lt = fx .sign-lt; exponent-lt = fx .finite; significand-lt = b .0; subnormal = b .1; normal = b .2 }
 
+-- a comes first in either order of the sides
+first-same : (s t : Bool) → s ≡ not t → (m n : ℕ) → cond t n m ≡ cond s m n
+first-same s true e m n = ap (λ (b : Bool). cond b m n) (sym e)
+first-same s false e m n = ap (λ (b : Bool). cond b m n) (sym e)
+
 -- the sum and the row are those of the exchanged numbers
-exchange : (j : Job) (x y : Side) → FiniteSide (j .setting .format) x → FiniteSide (j .setting .format) y → Numbers j x y → Numbers j y x
-exchange j x y fx fy N =
+exchange : (j : Job) (x y : Side) → x .first ≡ not (y .first) → Numbers j x y → Numbers j y x
+exchange j x y other N =
     let F = j .setting .format in
     let X = number F x (N .p) in
     let Y = number F y (N .q) in
@@ -77,7 +80,7 @@ exchange j x y fx fy N =
       q-lt = N .p-lt;
       p-meets = N .q-meets;
       q-meets = N .p-meets;
-      row-meets = subst (λ (n : ℕ). Meets n (j .carries)) (row-exchanged F X Y (number-canonical F x fx (N .p) (N .p-lt)) (number-canonical F y fy (N .q) (N .q-lt))) (N .row-meets);
+      row-meets = subst (λ (n : ℕ). Meets n (j .carries)) (first-same (x .first) (y .first) other (finiteRow F X Y) (finiteRow F Y X)) (N .row-meets);
       sum-meets = subst (λ (n : ℕ). Meets n (j .c .mask)) (sum-exchanged F (j .setting .mode) X Y) (N .sum-meets);
     }
 
@@ -97,22 +100,32 @@ module _ (j : Job) (valid : Valid j) (x y : Side) (fx : FiniteSide (j .setting .
   gap : ℕ
   gap = gapOf x y
 
-  -- numbers of which y's is not the larger
-  larger-of : (N : Numbers j x y) → magnitude (number (j .setting .format) y (N .q)) ≤ magnitude (number (j .setting .format) x (N .p)) → Larger j x y
+  -- the row of two numbers has p bits
+  row-short : (X Y : record-of.Finite) → rowFrom (j .setting .format) y X Y < 2 ^ precision (j .setting .format)
+  row-short X Y = go (y .first)
+    where
+      go : (t : Bool) → cond t (finiteRow (j .setting .format) Y X) (finiteRow (j .setting .format) X Y) < 2 ^ precision (j .setting .format)
+      go true = row-lt (j .setting .format) Y X
+      go false = row-lt (j .setting .format) X Y
+
+  -- numbers of which y's is not the larger, and the smaller where the row is reversed
+  larger-of : (N : Numbers j x y) → magnitude (number (j .setting .format) y (N .q)) ≤ magnitude (number (j .setting .format) x (N .p))
+      → (reversedOf x y ≡ true → magnitude (number (j .setting .format) y (N .q)) < magnitude (number (j .setting .format) x (N .p))) → Larger j x y
   unfolding F ok gap
-  larger-of N le =
+  larger-of N le less =
       let X = number F x (N .p) in
       let Y = number F y (N .q) in
       let cx = number-canonical F x fx (N .p) (N .p-lt) in
       let cy = number-canonical F y fy (N .q) (N .q-lt) in
-      let units = unit-le F X Y cx cy le in
+      let order : y .exponent .0 ≤ x .exponent .0 = exponent-le F X Y cx cy le in
+      let units : unitOf (y .exponent) .0 ≤ unitOf (x .exponent) .0 = omega (arith, order) in
       let hm = significand-meets (F .f) (x .fraction) f-most (fx .formed) (x .exponent) (X .significand) .1 (N .p, N .p-lt, N .p-meets, refl) in
       let tm = significand-meets (F .f) (y .fraction) f-most (fy .formed) (y .exponent) (Y .significand) .1 (N .q, N .q-lt, N .q-meets, refl) in
       let hs = tail-sound (precision F) (significandsOf F x) 0 p-most (significand-formed (F .f) (x .fraction) f-most (fx .formed) (x .exponent)) (X .significand) (hm .1) (hm .0) in
       let ts = tail-sound (precision F) (significandsOf F y) gap p-most (significand-formed (F .f) (y .fraction) f-most (fy .formed) (y .exponent)) (Y .significand) (tm .1) (tm .0) in
       let zero = aligned-zero (X .significand) in
-      let row = meets-allowed (precision F) (finiteRow F X Y) (j .carries) (valid .carries) (row-lt F X Y) .0 (N .row-meets) in (
-        units,
+      let row = meets-allowed (precision F) (rowFrom F y X Y) (j .carries) (valid .carries) (row-short X Y) .0 (N .row-meets) in (
+        order,
         record {
           x = combined (not (eqb (x .sign) (y .sign))) (headAt guardBits (X .significand)) (tailAt guardBits (Y .significand) gap);
           made = record {
@@ -123,8 +136,9 @@ module _ (j : Job) (valid : Valid j) (x y : Side) (fx : FiniteSide (j .setting .
             head-meets = rw zero at (hs .0);
             tail-meets = ts .0;
             ordered = λ u. tail-ordered F ok X Y cx cy units guardBits guards .1 le;
+            unequal = λ r. tail-below F ok X Y cx cy units guardBits guards (less r);
             carries-allow = λ i h.
-                subst (λ (b : ℕ). allows (j .carries .care) (j .carries .value) i b ≡ true) (row-columns F ok X Y cx cy units guardBits guards (λ u. le) i h) (row i h);
+                subst (λ (b : ℕ). allows (j .carries .care) (j .carries .value) i b ≡ true) (made-row F ok (j .carries) x y (N .p) (N .q) cx cy order i h) (row i h);
             makes = refl;
           };
           holds = subst (λ (w : ℕ). Meets w (j .c .mask)) (sum-outcome F ok X Y cx cy units (j .setting .mode) (λ u. le)) (N .sum-meets);
@@ -133,8 +147,9 @@ module _ (j : Job) (valid : Valid j) (x y : Side) (fx : FiniteSide (j .setting .
 
   pub larger-numbers : Larger j x y → Numbers j x y
   unfolding F ok gap
-  larger-numbers (units, admitted) =
+  larger-numbers (order, admitted) =
       let A = admitted .made in
+      let units : unitOf (y .exponent) .0 ≤ unitOf (x .exponent) .0 = omega (arith, order) in
       let wide : (v : ℕ) → v < 2 ^ alignedBits (F .f) → v < 2 ^ maskBits = λ v h. lt-of-lt-of-le h (pow-mono {i = alignedBits (F .f)} {j = maskBits} (omega (arith, significand-room F ok))) in
       let hc = tail-complete (precision F) (significandsOf F x) 0 p-most (significand-formed (F .f) (x .fraction) f-most (fx .formed) (x .exponent)) (A .H) (wide (A .H) (A .head-lt)) (A .head-meets) in
       let tc = tail-complete (precision F) (significandsOf F y) gap p-most (significand-formed (F .f) (y .fraction) f-most (fy .formed) (y .exponent)) (A .T) (wide (A .T) (A .tail-lt)) (A .tail-meets) in
@@ -155,10 +170,10 @@ module _ (j : Job) (valid : Valid j) (x y : Side) (fx : FiniteSide (j .setting .
         q-lt = tm .1;
         p-meets = hm .2;
         q-meets = tm .2;
-        row-meets = meets-allowed (precision F) (finiteRow F X Y) (j .carries) (valid .carries) (row-lt F X Y) .1
+        row-meets = meets-allowed (precision F) (rowFrom F y X Y) (j .carries) (valid .carries) (row-short X Y) .1
             (λ i h.
             subst (λ (b : ℕ). allows (j .carries .care) (j .carries .value) i b ≡ true)
-            (sym (row-columns F ok X Y cx cy units guardBits guards ordered i h ∙ ap₂ (λ (a b : ℕ). carryOf (not like) a b (i + (1 + guardBits))) H T)) (A .carries-allow i h));
+            (sym (made-row F ok (j .carries) x y (hm .0) (tm .0) cx cy order i h ∙ ap₂ (λ (a b : ℕ). rowCarry (alignedOf F (j .carries) x y) a b (i + (1 + guardBits))) H T)) (A .carries-allow i h));
         sum-meets = subst (λ (w : ℕ). Meets w (j .c .mask))
             (sym
             (sum-outcome F ok X Y cx cy units (j .setting .mode) ordered
@@ -166,11 +181,12 @@ module _ (j : Job) (valid : Valid j) (x y : Side) (fx : FiniteSide (j .setting .
             (admitted .holds);
       }
 
--- in either order
-pub sums-numbers : (j : Job) → Valid j → (x y : Side) → FiniteSide (j .setting .format) x → FiniteSide (j .setting .format) y → Sums j x y ↔ Numbers j x y
+-- in either order: x is a's side, and y is b's
+pub sums-numbers : (j : Job) → Valid j → (x y : Side) → FiniteSide (j .setting .format) x → FiniteSide (j .setting .format) y → x .first ≡ true → y .first ≡ false
+    → Sums j x y ↔ Numbers j x y
 unfolding exchange
-sums-numbers j valid x y fx fy = (
-  ⊎-elim (larger-numbers j valid x y fx fy) (λ l. exchange j y x fy fx (larger-numbers j valid y x fy fx l)),
+sums-numbers j valid x y fx fy is-a is-b = (
+  ⊎-elim (larger-numbers j valid x y fx fy) (λ l. exchange j y x (is-b ∙ ap not (sym is-a)) (larger-numbers j valid y x fy fx l)),
   λ N.
       let X = number (j .setting .format) x (N .p) in
       let Y = number (j .setting .format) y (N .q) in
@@ -178,5 +194,5 @@ sums-numbers j valid x y fx fy = (
 )
   where
     go : (N : Numbers j x y) → Dec (magnitude (number (j .setting .format) x (N .p)) < magnitude (number (j .setting .format) y (N .q))) → Sums j x y
-    go N (yes l) = inr (larger-of j valid y x fy fx (exchange j x y fx fy N) (le-of-lt l))
-    go N (no l) = inl (larger-of j valid x y fx fy N (omega arith))
+    go N (yes l) = inr (larger-of j valid y x fy fx (exchange j x y (is-a ∙ ap not (sym is-b)) N) (le-of-lt l) (λ r. l))
+    go N (no l) = inl (larger-of j valid x y fx fy N (omega arith) (λ r. absurd (false≢true (sym is-b ∙ reversed-parts x y r .0))))

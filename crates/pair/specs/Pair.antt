@@ -1,5 +1,6 @@
 -- The significand question of two finite operands, posed by a side for each: what is asked of an operand whose sign, in the effective
 -- addition, and exponent field are known. Assumes nothing.
+use mathlib.Core.Bool.{Bool, true, false, not, _&&_}
 use mathlib.Core.Logic.{_⊎_}
 use Prim.Native.Nat.{ℕ, _+_, _-_, _%_, _≤_, _<_}
 use lib.Dec.{eqb}
@@ -31,19 +32,24 @@ significandsOf F x = significandMask (F .f) (x .fraction) (x .exponent)
 abbrev pub gapOf : Side → Side → ℕ
 gapOf x y = unitOf (x .exponent) .0 - unitOf (y .exponent) .0
 
+-- the row is that of y less x, the larger: y is a, the exponents are equal and the signs unlike (W-205)
+abbrev pub reversedOf : Side → Side → Bool
+reversedOf x y = y .first && (eqb (x .exponent .0) (y .exponent .0) && not (eqb (x .sign) (y .sign)))
+
 -- the masks of two aligned significands, x's the larger
 abbrev pub alignedOf : Format → Mask → Side → Side → pair.Aligned
 alignedOf F carries x y = record {
   like = eqb (x .sign) (y .sign);
+  reversed = reversedOf x y;
   head = tailMask (precision F) (significandsOf F x) 0;
   tail = tailMask (precision F) (significandsOf F y) (gapOf x y);
   carries = carries;
 }
 
--- x is the larger operand: its unit is not the smaller one, and aligned significands make a word and carries that meet the job's masks
+-- x is the larger operand: its exponent is not the smaller one, and aligned significands make a word and carries that meet the job's masks
 abbrev pub Larger : Job → Side → Side → Type 0
 Larger j x y =
-    (unitOf (y .exponent) .0 ≤ unitOf (x .exponent) .0)
+    (y .exponent .0 ≤ x .exponent .0)
     × Admits (j .setting .format) (j .setting .mode) (x .sign) (unitOf (x .exponent)) (alignedOf (j .setting .format) (j .carries) x y) (j .c .mask)
 
 -- the one or the other is
@@ -56,10 +62,10 @@ turned operation s = (s + operation) % 2
 
 -- the sides of a and of b, by the sign and the exponent field of the word
 abbrev pub sideA : Job → ℕ → Biased → Side
-sideA j s e = record { sign = s; exponent = e; fraction = fractionMask (j .setting .format) (j .a .mask) }
+sideA j s e = record { first = true; sign = s; exponent = e; fraction = fractionMask (j .setting .format) (j .a .mask) }
 
 abbrev pub sideB : Job → ℕ → Biased → Side
-sideB j s e = record { sign = turned (j .setting .operation) s; exponent = e; fraction = fractionMask (j .setting .format) (j .b .mask) }
+sideB j s e = record { first = false; sign = turned (j .setting .operation) s; exponent = e; fraction = fractionMask (j .setting .format) (j .b .mask) }
 
 -- the signs meet their masks, and the two sides sum as the job asks
 pub record Posed (j : Job) (ea eb : Biased) (sa sb : ℕ) : Type 0 where

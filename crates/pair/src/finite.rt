@@ -21,18 +21,25 @@ ghost use Prim.Native.Nat.{_<_};
 ghost use Rattle.format.specs.Format.{Supported};
 ghost use Rattle.job.specs.Job.{Valid};
 ghost use Rattle.special.specs.Asked.{PairFits};
-ghost use Rattle.pair.specs.Pair.{FiniteSide, Larger, sideA, sideB, Posed, SomeSigns, FinitePair};
+ghost use Rattle.pair.specs.Pair.{FiniteSide, reversedOf, Larger, sideA, sideB, Posed, SomeSigns, FinitePair};
+
+// Whether the carry row of two operands, x the larger, is that of y less x: y is a, the exponents are equal and the signs unlike.
+fn reversed(x: Side, y: Side) -> bool
+    ensures { λ r. ⌜ r ≡ reversedOf x y ⌝ }
+{
+    y.first & ((x.exponent.0 == y.exponent.0) & (x.sign != y.sign))
+}
 
 // Whether two operands, x the larger, sum as the job asks.
 fn larger(job: Job, x: Side, y: Side) -> bool
     requires { ⌜ Supported (job .setting .format) ⌝ }
     ensures { λ r. ⌜ (Valid job → FiniteSide (job .setting .format) x → FiniteSide (job .setting .format) y → (r ≡ true) ↔ Larger job x y) ⌝ }
 {
-    let u = unit_of(x.exponent);
-    let v = unit_of(y.exponent);
-    if u.0 < v.0 {
+    if x.exponent.0 < y.exponent.0 {
         return false;
     }
+    let u = unit_of(x.exponent);
+    let v = unit_of(y.exponent);
     let f = job.setting.format.f;
     let head = tail_mask(f + 1, significand_mask(f, x.fraction, x.exponent), 0);
     let tail = tail_mask(
@@ -43,6 +50,7 @@ fn larger(job: Job, x: Side, y: Side) -> bool
     let carries = job.carries;
     let aligned = Aligned {
         like: x.sign == y.sign,
+        reversed: reversed(x, y),
         head,
         tail,
         carries,
@@ -63,6 +71,7 @@ fn side_a(job: Job, sign: u64, exponent: Biased) -> Side
 {
     let fraction = fraction_mask(job.setting.format, job.a.mask);
     Side {
+        first: true,
         sign,
         exponent,
         fraction,
@@ -76,6 +85,7 @@ fn side_b(job: Job, sign: u64, exponent: Biased) -> Side
 {
     let fraction = fraction_mask(job.setting.format, job.b.mask);
     Side {
+        first: false,
         sign: (sign + job.setting.operation % 2) % 2,
         exponent,
         fraction,

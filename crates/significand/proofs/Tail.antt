@@ -9,9 +9,10 @@ use native.Mathlib.Decide.{ℕ-discrete}
 use native.Mathlib.Omega.{arith}
 use borrow.Author.Tests.{le-leb}
 use lib.Bits.{and-self}
-use lib.Pow.{pow-pos, pow-mono, pow-add, split, high, low}
+use lib.Pow.{pow-pos, pow-mono, pow-add, split, high}
+use lib.Pow as pow
 use Rattle.mask.specs.declared.Mask.{Mask}
-use Rattle.mask.specs.Mask.{WellFormed, Meets}
+use Rattle.mask.specs.Mask.{WellFormed, Meets, low}
 use Rattle.mask.proofs.ByBits.{value-below}
 use Rattle.mask.proofs.Checks.{wellFormed-true}
 use Rattle.rounding.specs.Sticky.{sticky, withSticky, guardedAt, headAt, tailAt}
@@ -32,7 +33,7 @@ module _ (l g d t : ℕ) (lg : Part l g) (above : Part (withSticky l d) t) (unde
 
   lower : (x : ℕ) → withSticky x d % 2 ^ 1 ≡ sticky (x % 2 ^ d)
   unfolding withSticky
-  lower x = low (x / 2 ^ d) 1 (sticky-lt (x % 2 ^ d))
+  lower x = pow.low (x / 2 ^ d) 1 (sticky-lt (x % 2 ^ d))
 
   -- what may stand below t's upper part: between what l and g have there, with t's sticky bit
   record Dropped : Type 0 where
@@ -69,7 +70,7 @@ module _ (l g d t : ℕ) (lg : Part l g) (above : Part (withSticky l d) t) (unde
         x,
         subst (λ (n : ℕ). Part n x) (split l d) (part-block d (l / 2 ^ d) (t / 2) (l % 2 ^ d) (s .rest) (mod-lt l (pow-pos d)) (s .rest-lt) a (s .over)),
         subst (λ (n : ℕ). Part x n) (split g d) (part-block d (t / 2) (g / 2 ^ d) (s .rest) (g % 2 ^ d) (s .rest-lt) (mod-lt g (pow-pos d)) u (s .within)),
-        ap₂ (λ (q b : ℕ). q * 2 + sticky b) (high (t / 2) d (s .rest-lt)) (low (t / 2) d (s .rest-lt)) ∙ ap (λ (b : ℕ). t / 2 * 2 + b) (s .told) ∙ omega arith,
+        ap₂ (λ (q b : ℕ). q * 2 + sticky b) (high (t / 2) d (s .rest-lt)) (pow.low (t / 2) d (s .rest-lt)) ∙ ap (λ (b : ℕ). t / 2 * 2 + b) (s .told) ∙ omega arith,
       )
 
 -- ---- the mask on n bits of the aligned forms of the significands of p bits that meet m, with q bits below the larger operand's last one
@@ -153,6 +154,14 @@ module _ (p : ℕ) (m : Mask) (d : ℕ) (hp : p ≤ shortBits) (w : WellFormed p
 
   pub tail-most : (t : ℕ) → t < 2 ^ maskBits → Meets t (tailMask p m d) → t ≤ headAt guardBits (2 ^ p - 1)
   tail-most t h met = forms-most maskBits guardBits p m d guards (short-room p hp) w t h (rw tail-aligned at met)
+
+-- with no gap the guard bits are fixed to 0
+pub tail-whole : (p : ℕ) (m : Mask) → p ≤ shortBits → WellFormed p m → (low guardBits (tailMask p m 0) .care ≡ 2 ^ guardBits - 1) × (low guardBits (tailMask p m 0) .value ≡ 0)
+tail-whole p m hp w =
+    let l = aligned-zero (least m) in
+    let g = aligned-zero (greatest p m) in
+    let h = ends-lt maskBits guardBits p m 0 guards (short-room p hp) w in
+    rw (tail-aligned p m 0 hp w) (omega (arith, l, g, h), omega (arith, l))
 
 pub tail-far : (p : ℕ) (m : Mask) (d e : ℕ) → p ≤ shortBits → WellFormed p m → p + (guardBits - 1) ≤ d → p + (guardBits - 1) ≤ e → tailMask p m d ≡ tailMask p m e
 tail-far p m d e hp w hd he = tail-aligned p m d hp w ∙ forms-far maskBits guardBits p m d e w hd he ∙ sym (tail-aligned p m e hp w)

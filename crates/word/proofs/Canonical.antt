@@ -81,13 +81,17 @@ module _ (F : Format) (x y : record-of.Finite) (cx : Canonical F x) (cy : Canoni
       ap (λ (n : ℕ). ltb (x .significand * 2 ^ (n - 1)) (magnitude y)) e
       ∙ ltb-scale (2 ^ unitOf (y .exponent) .0) (pow-pos (unitOf (y .exponent) .0)) (x .significand) (y .significand)
 
--- a number that is not the larger has not the larger unit
-pub unit-le : (F : Format) (l r : record-of.Finite) → Canonical F l → Canonical F r → magnitude r ≤ magnitude l → unitOf (r .exponent) .0 ≤ unitOf (l .exponent) .0
-unit-le F l r cl cr h = go (decLt (l .exponent .0) (r .exponent .0))
+-- a number that is not the larger has not the larger exponent
+pub exponent-le : (F : Format) (l r : record-of.Finite) → Canonical F l → Canonical F r → magnitude r ≤ magnitude l → r .exponent .0 ≤ l .exponent .0
+exponent-le F l r cl cr h = go (decLt (l .exponent .0) (r .exponent .0))
   where
-    go : Dec (l .exponent .0 < r .exponent .0) → unitOf (r .exponent) .0 ≤ unitOf (l .exponent) .0
+    go : Dec (l .exponent .0 < r .exponent .0) → r .exponent .0 ≤ l .exponent .0
     go (yes e) = absurd (native.Mathlib.Nat.not-le-of-lt (magnitude-lt F l r cl cr e) h)
     go (no e) = omega arith
+
+-- nor the larger unit
+pub unit-le : (F : Format) (l r : record-of.Finite) → Canonical F l → Canonical F r → magnitude r ≤ magnitude l → unitOf (r .exponent) .0 ≤ unitOf (l .exponent) .0
+unit-le F l r cl cr h = omega (arith, exponent-le F l r cl cr h)
 
 -- the same of the units that the code holds
 pub gap-le : (F : Format) (l r : record-of.Finite) → Canonical F l → Canonical F r → magnitude r ≤ magnitude l

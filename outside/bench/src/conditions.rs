@@ -5,7 +5,7 @@ use second::fits::{Case, Conditions};
 use second::format::{ones, Format};
 use second::mask::Mask;
 use second::random::Random;
-use second::sample::pair;
+use second::sample::{opposed_pair, pair};
 
 use crate::kinds::{Kind, CANCELLED};
 
@@ -27,6 +27,7 @@ pub fn conditions(random: &mut Random, adder: &Adder, kind: Kind) -> Conditions 
         Kind::Signs => signs(adder.format),
         Kind::ExponentOfC => other_exponent(random, adder),
         Kind::Carries => other_carry(random, adder),
+        Kind::Opposed => opposed(random, adder),
         Kind::Mixed => mixed(random, adder),
     };
     Conditions {
@@ -220,6 +221,17 @@ fn other_carry(random: &mut Random, adder: &Adder) -> Masks {
     let carries = mask(row, care(random, precision, HALF));
     let turned = 1 << random.below(u64::from(precision));
     [a, b, c, with(carries, !row, turned)]
+}
+
+fn opposed(random: &mut Random, adder: &Adder) -> Masks {
+    let (a, b) = opposed_pair(random, adder);
+    let case = Case::of(adder, a, b);
+    let row = case.row.expect("finite operands");
+    let [a, b, c, _] = around(random, adder, &case, HALF);
+    let field = exponent_field(adder.format);
+    let [a, b] = [(a, case.a), (b, case.b)].map(|(mask, word)| with(mask, word, field));
+    let carries = mask(row, care(random, adder.format.precision(), HALF));
+    [a, b, c, carries]
 }
 
 /// A mask with any share of the bits fixed, three times of four to those of a word.

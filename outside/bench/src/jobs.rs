@@ -148,6 +148,7 @@ mod tests {
             Kind::Cancelled => c + CANCELLED <= a.min(b),
             Kind::Subnormal => c == 0 && size != 0,
             Kind::Overflow => case.row.is_some() && size == infinity,
+            Kind::Opposed => a == b && case.row.is_some(),
             _ => true,
         }
     }

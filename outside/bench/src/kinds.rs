@@ -29,6 +29,9 @@ pub enum Kind {
     /// Half fixed around a true case, the carries too, but one of them to the other value, and no
     /// case: with the carries free there would be one.
     Carries,
+    /// Half fixed around a true case of equal exponents and unlike effective signs, the carries
+    /// too. The exponents are fixed, so they are equal in every case left.
+    Opposed,
     /// Each mask, the carries' too, with its own share of fixed bits, from none to all, and around
     /// a true case or not.
     Mixed,
@@ -41,7 +44,7 @@ pub const HALF_FIXED: (&str, Kind) = ("half fixed", fixed(8));
 pub const IMPOSSIBLE: (&str, Kind) = ("impossible (all fractions fixed)", Kind::Fractions);
 /// Those of which z3 is asked for the smallest case, those of which it is asked whether there is
 /// one, and those with carry masks, of which it is not asked.
-pub const KINDS: [(&str, Kind); 13] = [
+pub const KINDS: [(&str, Kind); 14] = [
     ("sparse (1/16 of the bits fixed)", fixed(1)),
     HALF_FIXED,
     ("dense (7/8 fixed)", fixed(14)),
@@ -59,6 +62,7 @@ pub const KINDS: [(&str, Kind); 13] = [
             carries: true,
         },
     ),
+    ("equal exponents, carries too", Kind::Opposed),
     ("impossible only by the carries", Kind::Carries),
     ("any share of each mask fixed", Kind::Mixed),
 ];
@@ -75,7 +79,7 @@ impl Kind {
     pub fn has_carries(self) -> bool {
         matches!(
             self,
-            Kind::Fixed { carries: true, .. } | Kind::Carries | Kind::Mixed
+            Kind::Fixed { carries: true, .. } | Kind::Opposed | Kind::Carries | Kind::Mixed
         )
     }
 

@@ -6,7 +6,7 @@ use second::fits::{confirm, Case, Conditions};
 use second::format::{Refusal, CUT_SHORT};
 use second::random::Random;
 use second::record::{encode, read, Reply};
-use second::sample::{all_but_few, job, numbers, pair, unrelated_job};
+use second::sample::{all_but_few, job, numbers, opposed_job, pair, unrelated_job};
 use second::signs::refusal;
 use second::table::Table;
 use vindacsor::buffer;
@@ -192,9 +192,12 @@ fn generation(
     })
 }
 
+/// What makes a job of a format, operation and mode.
+type Make = fn(&mut Random, [u64; 4], u64) -> Job;
+
 /// The generator in every format of at most `WIDTH` bits, each operation and mode, with `each`
-/// jobs for each of them. Every fifth has masks that are made around no case.
-pub fn small_generations(random: &mut Random, each: u64) -> Result<Tally, String> {
+/// jobs for each of them.
+fn small(random: &mut Random, each: u64, make: Make) -> Result<Tally, String> {
     const WIDTH: u64 = 8;
     let mut tally = Tally::default();
     for (w, f) in (2..WIDTH).flat_map(|w| (2..WIDTH).map(move |f| (w, f))) {
@@ -205,19 +208,31 @@ pub fn small_generations(random: &mut Random, each: u64) -> Result<Tally, String
             let adder = Adder::new(w, f, operation, mode).expect("within the limits");
             let table = Table::new(adder).expect("a small format");
             for n in 0..each {
-                let numbers = [w, f, operation, mode];
-                let job = match n % 5 {
-                    0 => unrelated_job(random, numbers),
-                    _ => {
-                        let care = 8 * random.below(6);
-                        job(random, numbers, care)
-                    }
-                };
+                let job = make(random, [w, f, operation, mode], n);
                 generation(random, &mut tally, &record(&job), table.generate(&job))?;
             }
         }
     }
     Ok(tally)
+}
+
+/// Jobs of which every fifth has masks that are made around no case.
+pub fn small_generations(random: &mut Random, each: u64) -> Result<Tally, String> {
+    small(random, each, |random, numbers, n| match n % 5 {
+        0 => unrelated_job(random, numbers),
+        _ => {
+            let care = 8 * random.below(6);
+            job(random, numbers, care)
+        }
+    })
+}
+
+/// Jobs with equal exponents and unlike effective signs.
+pub fn small_opposed_generations(random: &mut Random, each: u64) -> Result<Tally, String> {
+    small(random, each, |random, numbers, _| {
+        let care = 8 * random.below(6);
+        opposed_job(random, numbers, care)
+    })
 }
 
 /// A job that fixes the effective signs of a and b to + and that of c to −, and other bits too
@@ -258,12 +273,12 @@ pub fn sign_generations(random: &mut Random, each: u64) -> Result<Tally, String>
 
 /// The generator on `count` jobs of any format whose masks leave few bits free, and on damaged
 /// files.
-pub fn wide_generations(random: &mut Random, count: u64) -> Result<Tally, String> {
+fn wide(random: &mut Random, count: u64, make: Make) -> Result<Tally, String> {
     const FREE: u32 = 10;
     let mut tally = Tally::default();
     while tally.calls() < count {
         let numbers = numbers(random);
-        let job = job(random, numbers, all_but_few(numbers));
+        let job = make(random, numbers, all_but_few(numbers));
         let file = perhaps_damaged(random, &job);
         let wanted = match job_in(&file) {
             Err(number) => Err(number),
@@ -278,4 +293,14 @@ pub fn wide_generations(random: &mut Random, count: u64) -> Result<Tally, String
         generation(random, &mut tally, &file, wanted)?;
     }
     Ok(tally)
+}
+
+/// Any jobs.
+pub fn wide_generations(random: &mut Random, count: u64) -> Result<Tally, String> {
+    wide(random, count, job)
+}
+
+/// Jobs with equal exponents and unlike effective signs.
+pub fn wide_opposed_generations(random: &mut Random, count: u64) -> Result<Tally, String> {
+    wide(random, count, opposed_job)
 }

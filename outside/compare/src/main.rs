@@ -12,9 +12,10 @@ use second::random::{seed, Random};
 const SEED: u64 = 0x5EED;
 
 /// Each part with how many calls, files or jobs it makes.
-const PARTS: [(&str, Part, u64); 10] = [
+const PARTS: [(&str, Part, u64); 13] = [
     ("rounded result", numbers::results, 4_000_000),
     ("carry row", numbers::rows, 4_000_000),
+    ("row, equal exponents", numbers::opposed_rows, 500_000),
     ("joining", numbers::joinings, 200_000),
     ("reading", files::readings, 200_000),
     ("confirmation", files::confirmations, 200_000),
@@ -23,6 +24,17 @@ const PARTS: [(&str, Part, u64); 10] = [
     (
         "generator, any format, few bits free",
         files::wide_generations,
+        20_000,
+    ),
+    // Equal exponents and unlike effective signs: 20,000 jobs, and as many of any format.
+    (
+        "small formats, equal exponents",
+        files::small_opposed_generations,
+        200,
+    ),
+    (
+        "few bits free, equal exponents",
+        files::wide_opposed_generations,
         20_000,
     ),
     // 5,100 adders of every format, so 10,200 jobs.

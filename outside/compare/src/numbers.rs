@@ -1,11 +1,11 @@
 //! The rounded result, the carry row and joining.
 
-use second::arith::{every_setting, rounded};
+use second::arith::{every_setting, rounded, Adder};
 use second::format::{every_format, Format, LARGEST_F, LARGEST_MODE, LARGEST_W};
 use second::mask::Mask;
 use second::random::Random;
 use second::row::carry_row;
-use second::sample::pair;
+use second::sample::{opposed_pair, pair};
 use vindacsor::buffer;
 
 use crate::call::{compare, Tally};
@@ -36,9 +36,15 @@ fn adders() -> impl Iterator<Item = [u64; 4]> {
 
 /// A sum of the given format, operation and mode; one in six has a number or two that are not
 /// as they should be.
-fn sum(random: &mut Random, [w, f, operation, mode]: [u64; 4]) -> Sum {
+fn sum(random: &mut Random, numbers: [u64; 4]) -> Sum {
+    let [w, f, ..] = numbers;
     let format = Format::new(w, f).expect("within the limits");
-    let (a, b) = pair(random, format);
+    let operands = pair(random, format);
+    damaged_sum(random, numbers, operands)
+}
+
+fn damaged_sum(random: &mut Random, [w, f, operation, mode]: [u64; 4], (a, b): (u64, u64)) -> Sum {
+    let format = Format::new(w, f).expect("within the limits");
     let mut sum = Sum {
         w,
         f,
@@ -78,9 +84,27 @@ pub fn results(random: &mut Random, count: u64) -> Result<Tally, String> {
 
 /// The carry row, on `count` calls.
 pub fn rows(random: &mut Random, count: u64) -> Result<Tally, String> {
+    each_row(random, count, sum)
+}
+
+/// The carry row of operands with equal exponents and unlike effective signs, on `count` calls.
+pub fn opposed_rows(random: &mut Random, count: u64) -> Result<Tally, String> {
+    each_row(random, count, |random, numbers| {
+        let [w, f, operation, mode] = numbers;
+        let adder = Adder::new(w, f, operation, mode).expect("within the limits");
+        let operands = opposed_pair(random, &adder);
+        damaged_sum(random, numbers, operands)
+    })
+}
+
+fn each_row(
+    random: &mut Random,
+    count: u64,
+    make: fn(&mut Random, [u64; 4]) -> Sum,
+) -> Result<Tally, String> {
     let mut tally = Tally::default();
     for adder in adders().take(count as usize) {
-        let s = sum(random, adder);
+        let s = make(random, adder);
         let reply = carry_row(s.w, s.f, s.operation, s.a, s.b)
             .map(|row| row.map_or(vec![0, 0], |row| vec![1, row]));
         let call = |out: &mut [u8]| buffer::row(s.w, s.f, s.operation, s.a, s.b, out);

@@ -12,10 +12,12 @@ pub enum Operand {
     Finite(Finite),
 }
 
-/// A finite number: its sign, the exponent of its unit, and its magnitude in smallest steps.
+/// A finite number: its sign, its biased exponent, the exponent of its unit, and its magnitude in
+/// smallest steps.
 #[derive(Clone, Copy, Debug, PartialEq, Eq)]
 pub struct Finite {
     pub negative: bool,
+    pub biased_exponent: u32,
     pub unit_exponent: u32,
     pub magnitude: Wide,
 }
@@ -32,6 +34,7 @@ impl Operand {
         } else {
             Operand::Finite(Finite {
                 negative,
+                biased_exponent: biased_exponent(format, index),
                 unit_exponent: unit_exponent(format, index),
                 magnitude: magnitude(format, index),
             })
@@ -39,10 +42,16 @@ impl Operand {
     }
 }
 
-/// The exponent of the unit of the number whose exponent and fraction fields, read as one
-/// whole number, are `index`. The fields 0 and 1 have the same unit, one smallest step.
+/// The exponent field of the number whose exponent and fraction fields, read as one whole
+/// number, are `index`.
+fn biased_exponent(format: Format, index: u64) -> u32 {
+    (index >> format.fraction_bits()) as u32
+}
+
+/// The exponent of the unit of that number. The fields 0 and 1 have the same unit, one smallest
+/// step.
 pub fn unit_exponent(format: Format, index: u64) -> u32 {
-    match (index >> format.fraction_bits()) as u32 {
+    match biased_exponent(format, index) {
         0 => 0,
         e => e - 1,
     }

@@ -1,6 +1,6 @@
-//! The carry row (document 01, "The carry row"), bit by bit from the remainders that the
-//! document names. Both operands are counted in the larger one's unit, in which that is whole;
-//! of the smaller one's fractional part only whether there is one can matter.
+//! The carry row (document 01, "The carry row"; document 02, W-205), bit by bit from the
+//! remainders that the document names. Both operands are counted in L's unit, in which that is
+//! whole; of R's fractional part only whether there is one can matter.
 
 use crate::arith::Operation;
 use crate::format::{ones, Format, Refusal};
@@ -25,27 +25,28 @@ pub fn row(format: Format, operation: Operation, a: u64, b: u64) -> Option<u64> 
     }
 }
 
+/// The row of x, which is a, and y. L is the one with the larger biased exponent, and a where
+/// they are equal.
 fn finite_row(format: Format, x: &Finite, y: &Finite) -> u64 {
-    // Equal magnitudes have equal units and equal remainders, so either may be the larger.
-    let (larger, smaller) = if x.magnitude >= y.magnitude {
+    let (l, r) = if x.biased_exponent >= y.biased_exponent {
         (x, y)
     } else {
         (y, x)
     };
     let like = x.negative == y.negative;
-    let unit = larger.unit_exponent;
-    let l = larger.magnitude.quotient_by_power(unit);
-    let r = Counted {
-        whole: smaller.magnitude.quotient_by_power(unit),
-        has_part: smaller.magnitude.modulo_power(unit) != Wide::ZERO,
+    let unit = l.unit_exponent;
+    let left = l.magnitude.quotient_by_power(unit);
+    let right = Counted {
+        whole: r.magnitude.quotient_by_power(unit),
+        has_part: r.magnitude.modulo_power(unit) != Wide::ZERO,
     };
     (0..format.precision())
-        .filter(|&i| carries(l, &r, like, ones(i + 1)))
+        .filter(|&i| carries(left, &right, like, ones(i + 1)))
         .map(|i| 1 << i)
         .sum()
 }
 
-/// The smaller operand in the larger one's unit.
+/// R in L's unit.
 struct Counted {
     whole: u64,
     has_part: bool,
@@ -53,7 +54,7 @@ struct Counted {
 
 /// Whether position i holds a carry, or a borrow where the signs are unlike; `low` has ones in
 /// positions 0 to i. A fractional part takes no sum of whole numbers to the next one, and lets
-/// the smaller operand's remainder exceed one that is as large without it.
+/// R's remainder exceed one that is as large without it.
 fn carries(l: u64, r: &Counted, like: bool, low: u64) -> bool {
     let [left, right] = [l, r.whole].map(|number| number & low);
     if like {

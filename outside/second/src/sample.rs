@@ -42,6 +42,23 @@ pub fn pair(random: &mut Random, format: Format) -> (u64, u64) {
     }
 }
 
+/// A pair of finite words with equal exponents and unlike effective signs: the row goes by which of
+/// them is a.
+pub fn opposed_pair(random: &mut Random, adder: &Adder) -> (u64, u64) {
+    let format = adder.format;
+    let finite = (1 << format.exponent_bits()) - 1;
+    let exponent = match random.below(4) {
+        0 => 0,
+        _ => random.below(finite),
+    };
+    let negative = random.one_in(2);
+    let [a, b] = [negative, !negative].map(|negative| {
+        let fraction = fraction(random, format);
+        format.signed(negative, (exponent << format.fraction_bits()) + fraction)
+    });
+    (a, adder.operation.effective(format, b))
+}
+
 /// A fraction: random, empty, full, one bit, few bits, or ones at one end.
 fn fraction(random: &mut Random, format: Format) -> u64 {
     let f = format.fraction_bits();
@@ -123,19 +140,45 @@ pub fn all_but_few([w, f, _, _]: [u64; 4]) -> u64 {
 /// and in one of two jobs one fixed bit is turned, so that both answers are frequent. In
 /// each of the masks of a and b about `care_a_b` of 64 bits are fixed.
 pub fn job(random: &mut Random, numbers: [u64; 4], care_a_b: u64) -> Job {
-    let [w, f, operation, mode] = numbers;
-    let adder = Adder::new(w, f, operation, mode).expect("numbers within their limits");
-    let width = adder.format.width();
+    let adder = adder(numbers);
     let (a, b) = pair(random, adder.format);
-    let case = Case::of(&adder, a, b);
+    job_around(random, &adder, Case::of(&adder, a, b), care_a_b)
+}
+
+/// The same around a case of opposed operands, whose exponents are fixed.
+pub fn opposed_job(random: &mut Random, numbers: [u64; 4], care_a_b: u64) -> Job {
+    let adder = adder(numbers);
+    let (a, b) = opposed_pair(random, &adder);
+    let mut job = job_around(random, &adder, Case::of(&adder, a, b), care_a_b);
+    let field = adder.format.infinity();
+    let masks = &mut job.conditions;
+    for (mask, word) in [(&mut masks.a, a), (&mut masks.b, b)] {
+        mask.care |= field;
+        mask.value = mask.value & !field | word & field;
+    }
+    job
+}
+
+fn adder([w, f, operation, mode]: [u64; 4]) -> Adder {
+    Adder::new(w, f, operation, mode).expect("numbers within their limits")
+}
+
+fn job_around(random: &mut Random, adder: &Adder, case: Case, care_a_b: u64) -> Job {
+    let format = adder.format;
+    let width = format.width();
     let care_c = 8 * (2 + random.below(7));
     let care_row = 8 * random.below(5);
-    let mut conditions = Conditions::free(w, f, operation, mode);
+    let mut conditions = Conditions::free(
+        u64::from(format.exponent_bits()),
+        u64::from(format.fraction_bits()),
+        adder.operation as u64,
+        adder.mode as u64,
+    );
     conditions.a = mask_around(random, case.a, width, care_a_b);
     conditions.b = mask_around(random, case.b, width, care_a_b);
     conditions.c = mask_around(random, case.c, width, care_c);
     if let Some(row) = case.row {
-        conditions.carries = mask_around(random, row, adder.format.precision(), care_row);
+        conditions.carries = mask_around(random, row, format.precision(), care_row);
     }
     if random.one_in(2) {
         turn(random, &mut conditions);

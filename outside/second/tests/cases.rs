@@ -165,6 +165,21 @@ fn case_10_borrows() {
     assert_eq!(sum(1, 3, 0x30, 0x01), 0x2F);
 }
 
+/// Document 02, W-205: with equal exponents a is L, e = 0 among them; 0 and 1 are unlike ones.
+#[test]
+fn borrows_by_the_exponent() {
+    let row = |a, b| carry_row(3, 4, 1, a, b);
+    assert_eq!(
+        [row(0x30, 0x31), row(0x31, 0x30)],
+        [Ok(Some(0x1F)), Ok(Some(0x00))]
+    );
+    assert_eq!(
+        [row(0x05, 0x0A), row(0x0A, 0x05)],
+        [Ok(Some(0x1A)), Ok(Some(0x05))]
+    );
+    assert_eq!([row(0x05, 0x10), row(0x10, 0x05)], [Ok(Some(0x0F)); 2]);
+}
+
 #[test]
 fn case_11_whole_numbers() {
     let fixed = |care, value| Mask { care, value };

@@ -2,7 +2,7 @@
 
 use second::arith::{rounded, Adder};
 use second::format::{every_format, LARGEST_MODE};
-use second::operand::Operand;
+use second::operand::{Finite, Operand};
 use second::random::Random;
 use second::row::{carry_row, row};
 use second::sample::pair;
@@ -133,23 +133,28 @@ fn rippled(adder: &Adder, a: u64, b: u64) -> Option<u64> {
     let [Operand::Finite(x), Operand::Finite(y)] = operands else {
         return None;
     };
-    let (l, r) = if x.magnitude < y.magnitude {
+    let (l, r) = if x.biased_exponent < y.biased_exponent {
         (y, x)
     } else {
         (x, y)
     };
+    Some(passed_on(adder, l, r))
+}
+
+/// The carries or borrows of L and R.
+fn passed_on(adder: &Adder, l: Finite, r: Finite) -> u64 {
     let mut passed = false;
     let mut row = 0;
     for position in 0..l.unit_exponent + adder.format.precision() {
         let (left, right) = (l.magnitude.bit(position), r.magnitude.bit(position));
         // A borrow arises where a carry would if the upper number's bit were turned.
-        let left = left == (x.negative == y.negative);
+        let left = left == (l.negative == r.negative);
         passed = (left && right) || (passed && (left || right));
         if position >= l.unit_exponent {
             row |= u64::from(passed) << (position - l.unit_exponent);
         }
     }
-    Some(row)
+    row
 }
 
 #[test]
@@ -177,6 +182,37 @@ fn rows_of_all_formats_ripple() {
                 let expected = rippled(&adder, a, b);
                 assert_eq!(row(adder.format, adder.operation, a, b), expected);
             }
+        }
+    }
+}
+
+/// What W-205 changed. With the operand of larger magnitude for L the row is another one exactly
+/// where the exponents are equal, the effective signs unlike and a's magnitude the smaller. And it
+/// matters which operand is a exactly where two such magnitudes are unequal.
+#[test]
+fn rows_go_by_the_exponent_alone() {
+    for (w, f) in SMALL {
+        let adder = Adder::new(w, f, 0, 0).unwrap();
+        let row = |a, b| row(adder.format, adder.operation, a, b).expect("finite operands");
+        let words = 0..2u64 << (w + f);
+        let pairs = words
+            .clone()
+            .flat_map(|a| words.clone().map(move |b| (a, b)));
+        for (a, b) in pairs {
+            let operands = [a, b].map(|word| Operand::of(adder.format, word));
+            let [Operand::Finite(x), Operand::Finite(y)] = operands else {
+                continue;
+            };
+            let by_magnitude = if x.magnitude < y.magnitude {
+                passed_on(&adder, y, x)
+            } else {
+                passed_on(&adder, x, y)
+            };
+            let apart = x.biased_exponent != y.biased_exponent || x.negative == y.negative;
+            let unchanged = row(a, b) == by_magnitude;
+            assert_eq!(unchanged, apart || x.magnitude >= y.magnitude);
+            let exchanged = row(a, b) == row(b, a);
+            assert_eq!(exchanged, apart || x.magnitude == y.magnitude);
         }
     }
 }

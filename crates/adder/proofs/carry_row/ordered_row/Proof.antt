@@ -11,7 +11,6 @@ use Rattle.word.specs.declared.Unit as exponent
 use Rattle.word.specs.Word.{unitOf}
 use Rattle.adder.specs.Row.{gather, carryIn}
 use Rattle.rounding.specs.Sticky.{sticky}
-use Rattle.word.proofs.Canonical.{gap-le, unit-le}
 use Rattle.rounding.proofs.Sticky.{sticky-lt}
 use Rattle.adder.proofs.RowBit.{row-bit}
 use borrow.Author.Needs.{needs}
@@ -24,10 +23,15 @@ unit-of-requires c κs = search needs
 unit-of-requires-2 : tie.Need-unit-of-requires-2
 unit-of-requires-2 c κs = search needs
 
+-- the exponent that a unit holds
+at : exponent.Unit → ℕ
+at u = u .0
+
 sub-gap : tie.Need-sub-gap
+unfolding at
 sub-gap c =
     let s = c .before .before .before .before in
-    gap-le (s .args .format) (s .args .l) (s .args .r) (s .pre .1) (s .pre .2) (s .pre .3) (c .before .before .before .unit-of .result) (c .before .before .unit-of2 .result) (c .before .before .before .unit-of .ensures) (c .before .before .unit-of2 .ensures)
+    omega (arith, s .pre .3, ap at (c .before .before .before .unit-of .ensures), ap at (c .before .before .unit-of2 .ensures))
 
 high-requires : tie.Need-high-requires
 high-requires c κs = search needs
@@ -49,6 +53,7 @@ gathered-requires c κs =
     (omega arith, lt-of-lt-of-le (s .pre .1 .significand-lt) b, rw (c .before .before .before .before .before .high .ensures) (lt-of-le-of-lt (shr-le (s .args .r .significand) (c .before .before .before .before .before .before .before .before .before .unit-of .result .0 - c .before .before .before .before .before .before .before .before .unit-of2 .result .0)) (lt-of-lt-of-le (s .pre .2 .significand-lt) b)), rw (c .before .before .before .sticky .ensures) (sticky-lt (c .before .before .before .before .low .result)))
 
 returns : tie.Need-returns
+unfolding at
 returns c =
     let s = c .before .before .before .before .before .before .before .before .before .before .before in
     let F = s .args .format in
@@ -58,9 +63,9 @@ returns c =
     let q = c .before .before .before .before .before .before .before .before .before .unit-of2 in
     let d = p .result .0 - q .result .0 in
     let like = eqb (l .sign) (r .sign) in
-    let up : p .result .0 ≡ unitOf (l .exponent) .0 = ap (λ (n : exponent.Unit). n .0) (p .ensures) in
-    let vq : q .result .0 ≡ unitOf (r .exponent) .0 = ap (λ (n : exponent.Unit). n .0) (q .ensures) in
-    let units : d + unitOf (r .exponent) .0 ≡ unitOf (l .exponent) .0 = omega (arith, unit-le F l r (s .pre .1) (s .pre .2) (s .pre .3)) in
+    let up : p .result .0 ≡ unitOf (l .exponent) .0 = ap at (p .ensures) in
+    let vq : q .result .0 ≡ unitOf (r .exponent) .0 = ap at (q .ensures) in
+    let units : d + unitOf (r .exponent) .0 ≡ unitOf (l .exponent) .0 = omega (arith, s .pre .3) in
     c .gathered .ensures
     ∙ ap₂ (λ (w t : ℕ). gather (precision F) (carryIn like (l .significand) w t)) (c .before .before .before .before .before .before .high .ensures) (c .before .before .before .before .sticky .ensures ∙ ap sticky (c .before .before .before .before .before .low .ensures))
     ∙ ap (gather (precision F))

@@ -10,7 +10,7 @@ use Rattle.bits.specs.Bit.{bit}
 use Rattle.bits.proofs.Laws.{one-shl}
 use Rattle.mask.specs.declared.Mask.{Mask}
 use Rattle.mask.specs.declared.Joined.the-variants as reply
-use Rattle.mask.specs.Mask.{Inside, Meets}
+use Rattle.mask.specs.Mask.{Meets}
 use Rattle.mask.specs.Join.{join}
 use Rattle.rounding.specs.Width.{mostRounded}
 use Rattle.outcome.specs.declared.Aligned as pair
@@ -34,10 +34,10 @@ module _ (f : ℕ) (A : pair.Aligned) (x z : Mask) (j b constant carry : ℕ) (h
       making-answer f A (λ (n : ℕ). Meets n m × Meets (n + constant + carry) z) (λ (n : ℕ). (Meets n x × (bit n j ≡ b)) × Meets (n + constant + carry) z) r
       (λ n made. let p = last-joined j b h x m e n in ((λ q. (p .0 (q .0), q .1)), λ q. (p .1 (q .0), q .1))) asks
 
-  clash : (k : ℕ) → Inside x → join x (oneBit j b) ≡ reply.Refused k → (false ≡ true) ↔ Making f A (λ (n : ℕ). (Meets n x × (bit n j ≡ b)) × Meets (n + constant + carry) z)
-  clash k inside e =
+  clash : (k : ℕ) → join x (oneBit j b) ≡ reply.Refused k → (false ≡ true) ↔ Making f A (λ (n : ℕ). (Meets n x × (bit n j ≡ b)) × Meets (n + constant + carry) z)
+  clash k e =
       none-made f A (λ (n : ℕ). (Meets n x × (bit n j ≡ b)) × Meets (n + constant + carry) z)
-      (λ m. last-refused j b h x k inside e (m .x) (m .holds .0 .0) (m .holds .0 .1))
+      (λ m. last-refused j b h x k e (m .x) (m .holds .0 .0) (m .holds .0 .1))
 
 shl-t12 : tie.Need-shl-t12
 shl-t12 c = search needs
@@ -52,7 +52,7 @@ enum-known-joined : tie.Need-enum-known-joined
 enum-known-joined c = search needs
 
 ask-requires : tie.Need-ask-requires
-ask-requires c κs = search needs
+ask-requires c κs = let s = c .before .before .before .before in (s .pre .0, s .pre .3, s .pre .4, s .pre .5)
 
 enum-told : tie.Need-enum-told
 enum-told c = search needs
@@ -71,7 +71,7 @@ returns-2 c =
     let s = c .before .before .before in
     let a = s .args in
     let j = c .enum-told .given in
-    λ formed. clash (a .f) (a .aligned) (a .x) (a .z) (a .j) (a .last) (a .constant) (a .carry) (s .pre .2) (j .0 .0) (s .pre .3)
+    λ formed. clash (a .f) (a .aligned) (a .x) (a .z) (a .j) (a .last) (a .constant) (a .carry) (s .pre .2) (j .0 .0)
     (sym (kept (a .j) (a .last) (s .pre .1) (s .pre .2) (a .x)) ∙ sym (c .before .before .join .ensures) ∙ j .1)
 
 pub ask-last-spec : {M : Type 1} → statement M

@@ -1,9 +1,9 @@
 -- `outcome::ask::rounds` meets its contract: rounding off adds a constant and a carry, and where the carry depends on the last kept bit,
 -- that is 0 or 1, and each is asked. Assumes nothing.
 use mathlib.Core.Logic.{_↔_}
-use mathlib.Core.Path.{_≡_, sym, ap, ap₂, _∙_}
+use mathlib.Core.Path.{_≡_, refl, sym, ap, ap₂, _∙_}
 use mathlib.Core.Bool.{Bool, true, false, false≢true}
-use Prim.Native.Nat.{ℕ, _+_, _/_, _^_, _≤_, _<_}
+use Prim.Native.Nat.{ℕ, zero, suc, _+_, _/_, _^_, _≤_, _<_}
 use native.Mathlib.Nat.{lt-of-lt-of-le}
 use native.Mathlib.Omega.{arith}
 use lib.Pow.{pow-mono}
@@ -12,6 +12,7 @@ use Rattle.mask.proofs.Bitwise.{bit-case}
 use Rattle.mask.specs.declared.Mask.{Mask}
 use Rattle.mask.specs.Mask.{Meets, raised}
 use Rattle.rounding.specs.declared.Direction.{Direction}
+use Rattle.rounding.specs.declared.Direction.the-variants.{TowardZero}
 use Rattle.rounding.specs.Rounding.{roundOff, roundingConstant, roundingCarry}
 use Rattle.rounding.specs.Width.{mostRounded}
 use Rattle.rounding.proofs.AddConstant.{round-off-adds, round-off-adds-fixed, rounding-constant-lt, rounding-carry-lt}
@@ -30,6 +31,21 @@ module _ (d : Direction) (j : ℕ) (l : j ≤ mostRounded) where
 
   carry-small : (c last : ℕ) → last < 2 → c ≡ roundingCarry d j last → c < 2
   carry-small c last h e = rw e (rounding-carry-lt d j last h)
+
+-- toward zero both are 0
+none-added : (j : ℕ) → roundingConstant TowardZero j ≡ 0
+unfolding roundingConstant
+none-added zero = refl
+none-added (suc j) = refl
+
+none-carried : (j last : ℕ) → roundingCarry TowardZero j last ≡ 0
+unfolding roundingCarry
+none-carried zero last = refl
+none-carried (suc j) last = refl
+
+nothing-added : (d : Direction) (j : ℕ) → j ≤ mostRounded → (k c last : ℕ) → (j < 64 → k ≡ roundingConstant d j) → c ≡ roundingCarry d j last → d ≡ TowardZero → k + c ≡ 0
+nothing-added d j l k c last ek ec e =
+    ap₂ _+_ (ek (omega arith) ∙ ap (λ (w : Direction). roundingConstant w j) e ∙ none-added j) (ec ∙ ap (λ (w : Direction). roundingCarry w j last) e ∙ none-carried j last)
 
 module _ (f : ℕ) (A : pair.Aligned) (x y z : Mask) (d : Direction) (j k even odd : ℕ) (moved : z ≡ raised j y) (ek : k ≡ roundingConstant d j)
     (e0 : even ≡ roundingCarry d j 0) (e1 : odd ≡ roundingCarry d j 1) where
@@ -92,7 +108,7 @@ ask-requires : tie.Need-ask-requires
 ask-requires c κs =
     let s = c .before .before .before .before .before in
     let a = s .args in
-    (s .pre .0, constant-small (a .direction) (a .j) (s .pre .1) (c .before .before .before .constant .result) (c .before .before .before .constant .ensures .0), carry-small (a .direction) (a .j) (s .pre .1) (c .before .before .carry .result) 0 (omega arith) (c .before .before .carry .ensures))
+    (s .pre .0, constant-small (a .direction) (a .j) (s .pre .1) (c .before .before .before .constant .result) (c .before .before .before .constant .ensures .0), carry-small (a .direction) (a .j) (s .pre .1) (c .before .before .carry .result) 0 (omega arith) (c .before .before .carry .ensures), λ r. nothing-added (a .direction) (a .j) (s .pre .1) (c .before .before .before .constant .result) (c .before .before .carry .result) 0 (c .before .before .before .constant .ensures .0) (c .before .before .carry .ensures) (s .pre .4 r))
 
 returns : tie.Need-returns
 returns c =
@@ -100,7 +116,7 @@ returns c =
     let a = s .args in
     let k = c .before .before .before .before .constant in
     λ formed. fixed (a .f) (a .aligned) (a .x) (a .y) (c .before .before .before .before .before .raised .result) (a .direction) (a .j) (k .result) (c .before .before .before .carry .result) (c .before .before .carry2 .result)
-    (c .before .before .before .before .before .raised .ensures (s .pre .3) (s .pre .4)) (k .ensures .0 (omega arith)) (c .before .before .before .carry .ensures) (c .before .before .carry2 .ensures)
+    (c .before .before .before .before .before .raised .ensures (s .pre .2) (s .pre .3)) (k .ensures .0 (omega arith)) (c .before .before .before .carry .ensures) (c .before .before .carry2 .ensures)
     (c .before .if1 .taken) (c .ask .result) (c .ask .ensures formed)
 
 ask-last-requires : tie.Need-ask-last-requires
@@ -110,9 +126,9 @@ ask-last-requires c κs =
       s .pre .0,
       s .pre .1,
       omega arith,
-      s .pre .2,
       constant-small (a .direction) (a .j) (s .pre .1) (c .before .before .before .constant .result) (c .before .before .before .constant .ensures .0),
       carry-small (a .direction) (a .j) (s .pre .1) (c .before .before .carry .result) 0 (omega arith) (c .before .before .carry .ensures),
+      λ r. nothing-added (a .direction) (a .j) (s .pre .1) (c .before .before .before .constant .result) (c .before .before .carry .result) 0 (c .before .before .before .constant .ensures .0) (c .before .before .carry .ensures) (s .pre .4 r),
     )
 
 returns-2 : tie.Need-returns-2
@@ -121,7 +137,7 @@ returns-2 c =
     let a = s .args in
     let k = c .before .before .before .before .before .constant in
     λ formed. first (a .f) (a .aligned) (a .x) (a .y) (c .before .before .before .before .before .before .raised .result) (a .direction) (a .j) (k .result) (c .before .before .before .before .carry .result) (c .before .before .before .carry2 .result)
-    (c .before .before .before .before .before .before .raised .ensures (s .pre .3) (s .pre .4)) (k .ensures .0 (omega arith)) (c .before .before .before .before .carry .ensures) (c .before .before .before .carry2 .ensures)
+    (c .before .before .before .before .before .before .raised .ensures (s .pre .2) (s .pre .3)) (k .ensures .0 (omega arith)) (c .before .before .before .before .carry .ensures) (c .before .before .before .carry2 .ensures)
     (c .before .ask-last .result) (c .if2 .taken) (c .before .ask-last .ensures formed)
 
 ask-last-requires-2 : tie.Need-ask-last-requires-2
@@ -131,9 +147,9 @@ ask-last-requires-2 c κs =
       s .pre .0,
       s .pre .1,
       omega arith,
-      s .pre .2,
       constant-small (a .direction) (a .j) (s .pre .1) (c .before .before .before .before .before .constant .result) (c .before .before .before .before .before .constant .ensures .0),
       carry-small (a .direction) (a .j) (s .pre .1) (c .before .before .before .carry2 .result) 1 (omega arith) (c .before .before .before .carry2 .ensures),
+      λ r. nothing-added (a .direction) (a .j) (s .pre .1) (c .before .before .before .before .before .constant .result) (c .before .before .before .carry2 .result) 1 (c .before .before .before .before .before .constant .ensures .0) (c .before .before .before .carry2 .ensures) (s .pre .4 r),
     )
 
 returns-3 : tie.Need-returns-3
@@ -142,7 +158,7 @@ returns-3 c =
     let a = s .args in
     let k = c .before .before .before .before .before .before .constant in
     λ formed. second (a .f) (a .aligned) (a .x) (a .y) (c .before .before .before .before .before .before .before .raised .result) (a .direction) (a .j) (k .result) (c .before .before .before .before .before .carry .result) (c .before .before .before .before .carry2 .result)
-    (c .before .before .before .before .before .before .before .raised .ensures (s .pre .3) (s .pre .4)) (k .ensures .0 (omega arith)) (c .before .before .before .before .before .carry .ensures) (c .before .before .before .before .carry2 .ensures)
+    (c .before .before .before .before .before .before .before .raised .ensures (s .pre .2) (s .pre .3)) (k .ensures .0 (omega arith)) (c .before .before .before .before .before .carry .ensures) (c .before .before .before .before .carry2 .ensures)
     (c .before .before .ask-last .result) (c .ask-last2 .result) (c .before .if2 .left) (c .before .before .ask-last .ensures formed) (c .ask-last2 .ensures formed)
 
 pub rounds-spec : {M : Type 1} → statement M

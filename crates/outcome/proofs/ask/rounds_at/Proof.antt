@@ -74,8 +74,8 @@ rounds-requires c κs =
     let s = c .before .before .before .before .before .before in
     let a = s .args in
     let up = c .before .before .before .before .minus in
-    let m = moved (a .kept) (c .high .result) (up .result) (s .pre .4) (s .pre .5) (c .high .ensures) in
-    (s .pre .0, omega (arith, c .before .minus2 .ensures, s .pre .2), s .pre .3, m .0, m .1)
+    let m = moved (a .kept) (c .high .result) (up .result) (s .pre .3) (s .pre .4) (c .high .ensures) in
+    (s .pre .0, omega (arith, c .before .minus2 .ensures, s .pre .2), m .0, m .1, s .pre .5)
 
 returns-2 : tie.Need-returns-2
 returns-2 c =

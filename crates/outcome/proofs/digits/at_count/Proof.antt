@@ -31,7 +31,7 @@ at-quotient-requires c κs =
     let s = c .before .before in
     let a = s .args in
     let q = c .before .least-quotient in
-    (s .pre .0, s .pre .1, s .pre .2, omega (arith, least-le (a .format .f) (a .count) (a .unit), q .ensures), c .asked-direction .ensures)
+    (s .pre .0, s .pre .1, s .pre .2, omega (arith, least-le (a .format .f) (a .count) (a .unit), q .ensures), c .asked-direction .ensures .0, c .asked-direction .ensures .1)
 
 returns : tie.Need-returns
 returns c =
@@ -55,7 +55,7 @@ returns-2 c =
     let m = c .before .may-carry in
     λ formed. only-quotient (a .format .f) (a .direction) (a .unit) (q .result) (a .aligned) (a .count) (λ (n : ℕ). Meets (signed (a .format) (a .sign) (boundedHeld (a .format) (a .direction) n (a .unit))) (a .c))
     (s .pre .1) (s .pre .2) (q .ensures) (c .before .before .before .at-quotient .result) (c .before .before .before .at-quotient .ensures formed) (c .before .before .if1 .left)
-    (never-alike (a .format .f) (way .result) (a .direction) (a .unit) (a .aligned) (a .count) (way .ensures) (m .ensures (not-true (m .result) (c .if2 .taken)) formed (a .unit)))
+    (never-alike (a .format .f) (way .result) (a .direction) (a .unit) (a .aligned) (a .count) (way .ensures .0 formed) (m .ensures (not-true (m .result) (c .if2 .taken)) formed (a .unit)))
 
 add-at-quotient : tie.Need-add-at-quotient
 add-at-quotient c =
@@ -68,7 +68,7 @@ at-quotient-requires-2 c κs =
     let s = c .before .before .before .before .before .before in
     let a = s .args in
     let q = c .before .before .before .before .before .least-quotient in
-    (s .pre .0, s .pre .1, s .pre .2, omega (arith, least-le (a .format .f) (a .count) (a .unit), q .ensures), c .before .before .before .before .asked-direction .ensures)
+    (s .pre .0, s .pre .1, s .pre .2, omega (arith, least-le (a .format .f) (a .count) (a .unit), q .ensures), c .before .before .before .before .asked-direction .ensures .0, c .before .before .before .before .asked-direction .ensures .1)
 
 returns-3 : tie.Need-returns-3
 returns-3 c =

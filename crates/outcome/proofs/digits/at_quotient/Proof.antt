@@ -45,7 +45,7 @@ rounds-to-requires c κs =
     let s = c .before .before .before in
     let a = s .args in
     let given = s .pre .0 in
-    (columns-lt (a .format) (given .supported), unit-short (a .format) (a .sign) (a .unit) given, s .pre .1, s .pre .2, s .pre .3, c .sought .ensures .care-lt, c .sought .ensures .value-lt)
+    (columns-lt (a .format) (given .supported), unit-short (a .format) (a .sign) (a .unit) given, s .pre .1, s .pre .2, s .pre .3, c .sought .ensures .care-lt, c .sought .ensures .value-lt, s .pre .5)
 
 returns : tie.Need-returns
 returns c =
@@ -56,7 +56,7 @@ returns c =
     let k = c .before .before .before .rounded-unit in
     λ formed. quotient-asked (a .format) (a .direction) (a .sign) (a .unit) (a .aligned) (a .c) (a .count) (a .quotient) (e .result) (so .result) (c .rounds-to .result)
     (field (a .format) (a .sign) (a .unit) (s .pre .0) (a .count) (a .quotient) (s .pre .2) (s .pre .3) (k .result) (e .result) (k .ensures) (e .ensures)) (so .ensures)
-    (alike-asked (a .format .f) (a .way) (a .direction) (a .unit) (a .aligned) (a .count) (s .pre .4)
+    (alike-asked (a .format .f) (a .way) (a .direction) (a .unit) (a .aligned) (a .count) (s .pre .4 formed)
     (a .quotient) (so .result .possible) (so .result .fraction) (c .rounds-to .result) (c .rounds-to .ensures formed))
 
 pub at-quotient-spec : {M : Type 1} → statement M

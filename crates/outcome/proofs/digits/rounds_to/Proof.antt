@@ -51,7 +51,7 @@ rounds-at-requires c κs =
     let a = s .args in
     let k = c .before .rounded-unit in
     let m = short (a .f) (a .quotient) (a .fractions .fraction) (s .pre .0) (c .topped .result) (s .pre .4) (s .pre .5) (s .pre .6) (c .topped .ensures) in
-    (s .pre .0, s .pre .1, omega (arith, ap (λ (n : exponent.Unit). n .0) (k .ensures), s .pre .3), c .before .before .digits .ensures .inside, m .0, m .1)
+    (s .pre .0, s .pre .1, omega (arith, ap (λ (n : exponent.Unit). n .0) (k .ensures), s .pre .3), m .0, m .1, s .pre .7)
 
 returns-2 : tie.Need-returns-2
 returns-2 c =

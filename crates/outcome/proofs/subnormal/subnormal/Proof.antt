@@ -1,5 +1,6 @@
 -- `outcome::subnormal::subnormal` meets its contract: the kept part of a number of few digits is asked, by the mask of the fraction, which is
 -- all of it. Assumes nothing.
+use mathlib.Core.Path.{refl}
 use native.Mathlib.Nat.{lt-of-lt-of-le}
 use native.Mathlib.Omega.{arith}
 use borrow.Author.Tests.{not-true, not-false}
@@ -36,7 +37,7 @@ rounds-at-requires c κs =
     let so = c .before .before .before .sought .ensures in
     let room = columns-lt (a .format) (s .pre .0 .supported) in
     let short = pow-mono {i = a .format .f} {j = shortBits} (omega (arith, room)) in
-    (room, unit-short (a .format) (a .sign) (a .unit) (s .pre .0), omega arith, c .below .ensures .inside, lt-of-lt-of-le (so .care-lt) short, lt-of-lt-of-le (so .value-lt) short)
+    (room, unit-short (a .format) (a .sign) (a .unit) (s .pre .0), omega arith, lt-of-lt-of-le (so .care-lt) short, lt-of-lt-of-le (so .value-lt) short, λ r. refl)
 
 returns-2 : tie.Need-returns-2
 returns-2 c =

@@ -15,17 +15,18 @@ use Rattle.word.specs.declared.Unit as exponent
 use Rattle.word.specs.Word.{unitOf}
 use Rattle.significand.specs.Tail.{tailMask}
 use Rattle.significand.proofs.Significand.{significand-formed}
-use Rattle.significand.proofs.Tail.{tail-most}
+use Rattle.significand.proofs.Tail.{tail-most, tail-whole}
 use Rattle.outcome.specs.declared.Aligned as pair
-use Rattle.outcome.specs.Outcome.{Bounded, Admits, InFormat, Formed}
+use Rattle.outcome.specs.Outcome.{Bounded, Unguarded, Admits, InFormat, Formed}
 use Rattle.pair.specs.declared.Side.{Side}
-use Rattle.pair.specs.Pair.{FiniteSide, significandsOf, gapOf, alignedOf}
+use Rattle.pair.specs.Pair.{FiniteSide, significandsOf, gapOf, reversedOf, alignedOf}
+use Rattle.pair.proofs.Rows.{reversed-parts}
 use borrow.Author.Needs.{needs}
 use Rattle.pair.proofs.finite.larger.Statement.{statement}
 use Rattle.pair.proofs.finite.larger.Tie as tie
 
-pair-of : Bool → Mask → Mask → Mask → pair.Aligned
-pair-of like head tail carries = record { like = like; head = head; tail = tail; carries = carries }
+pair-of : Bool → Bool → Mask → Mask → Mask → pair.Aligned
+pair-of like reversed head tail carries = record { like = like; reversed = reversed; head = head; tail = tail; carries = carries }
 
 -- what `admits` tells of the unit and the masks that it is handed, it tells of those that they equal
 decided : (F : Format) (mode s : ℕ) (c : Mask) (r : Bool) {u v : exponent.Unit} {A B : pair.Aligned} → u ≡ v → A ≡ B
@@ -39,26 +40,32 @@ in-format : (F : Format) → Supported F → (x : Side) → FiniteSide F x → I
 in-format F ok x fx = record { supported = ok; sign-lt = fx .sign-lt; unit-lt = omega (arith, fx .finite) }
 
 formed : (F : Format) → Supported F → (carries : Mask) → WellFormed (precision F) carries → (x y : Side) → FiniteSide F x → FiniteSide F y → Formed (F .f) (alignedOf F carries x y)
-formed F ok carries fr x y fx fy = record { head = bounded x fx 0; tail = bounded y fy (gapOf x y); carries = fr }
+formed F ok carries fr x y fx fy = record {
+  head = bounded x fx 0;
+  tail = bounded y fy (gapOf x y);
+  carries = fr;
+  reversed = λ r.
+      let parts = reversed-parts x y r in
+      let none : 0 ≡ gapOf x y = omega (arith, parts .1) in
+      record { unlike = parts .2; head = unguarded x fx; tail = subst (λ (d : ℕ). Unguarded (tailMask (precision F) (significandsOf F y) d)) none (unguarded y fy) };
+}
   where
+    unguarded : (z : Side) → FiniteSide F z → Unguarded (tailMask (precision F) (significandsOf F z) 0)
+    unguarded z fz =
+        tail-whole (precision F) (significandsOf F z) (omega (arith, significand-room F ok)) (significand-formed (F .f) (z .fraction) (omega (arith, significand-room F ok)) (fz .formed) (z .exponent))
+
     bounded : (z : Side) → FiniteSide F z → (d : ℕ) → Bounded (F .f) (tailMask (precision F) (significandsOf F z) d)
     bounded z fz d =
         tail-most (precision F) (significandsOf F z) d (omega (arith, significand-room F ok)) (significand-formed (F .f) (z .fraction) (omega (arith, significand-room F ok)) (fz .formed) (z .exponent))
 
--- the exponent that a unit holds
-at : exponent.Unit → ℕ
-at u = u .0
+returns : tie.Need-returns
+returns c valid fx fy = (λ e. absurd (false≢true e), λ l. absurd (not-le-of-lt (c .if1 .taken) (l .0)))
 
 unit-of-requires : tie.Need-unit-of-requires
 unit-of-requires c κs = search needs
 
 unit-of-requires-2 : tie.Need-unit-of-requires-2
 unit-of-requires-2 c κs = search needs
-
-returns : tie.Need-returns
-unfolding at
-returns c valid fx fy =
-    (λ e. absurd (false≢true e), λ l. absurd (not-le-of-lt (omega (arith, c .if1 .taken, ap at (c .before .before .before .unit-of2 .ensures), ap at (c .before .before .before .before .unit-of .ensures))) (l .0)))
 
 add-tail-mask : tie.Need-add-tail-mask
 add-tail-mask c = search needs
@@ -75,46 +82,65 @@ add-tail-mask-2 c = search needs
 significand-mask-requires-2 : tie.Need-significand-mask-requires-2
 significand-mask-requires-2 c κs = search needs
 
+-- the exponent that a unit holds
+at : exponent.Unit → ℕ
+at u = u .0
+
+sub-tail-mask : tie.Need-sub-tail-mask
+unfolding at
+sub-tail-mask c =
+    let u = c .before .before .before .before .before .before .unit-of in
+    let v = c .before .before .before .before .before .unit-of2 in
+    omega (arith, c .before .before .before .before .before .before .before .if1 .left, ap at (u .ensures), ap at (v .ensures))
+
 tail-mask-requires-2 : tie.Need-tail-mask-requires-2
 tail-mask-requires-2 c κs = search needs
+
+reversed-requires : tie.Need-reversed-requires
+reversed-requires c κs = search needs
 
 admits-requires : tie.Need-admits-requires
 admits-requires c κs = search needs
 
 returns-2 : tie.Need-returns-2
-unfolding pair-of at
+unfolding pair-of
 returns-2 c valid fx fy =
-    let s = c .before .before .before .before .before .before .before .before .before .before .before .before .before .before .before in
+    let s = c .before .before .before .before .before .before .before .before .before .before .before .before .before .before .before .before in
     let j = s .args .job in
     let F = j .setting .format in
     let x = s .args .x in
     let y = s .args .y in
-    let hm = c .before .before .before .before .before .before .before .before .before .significand-mask in
-    let head = c .before .before .before .before .before .before .before .before .tail-mask in
-    let tm = c .before .before .before .before .before .before .before .significand-mask2 in
-    let tail = c .before .before .before .before .tail-mask2 in
-    let u = c .before .before .before .before .before .before .before .before .before .before .before .before .before .before .unit-of in
-    let v = c .before .before .before .before .before .before .before .before .before .before .before .before .before .unit-of2 in
+    let hm = c .before .before .before .before .before .before .before .before .before .before .significand-mask in
+    let head = c .before .before .before .before .before .before .before .before .before .tail-mask in
+    let tm = c .before .before .before .before .before .before .before .before .significand-mask2 in
+    let tail = c .before .before .before .before .before .tail-mask2 in
+    let u = c .before .before .before .before .before .before .before .before .before .before .before .before .unit-of in
+    let v = c .before .before .before .before .before .before .before .before .before .before .before .unit-of2 in
+    let rev = c .before .reversed in
+    let like = eqb (x .sign) (y .sign) in
     let eh = head .ensures ∙ ap (λ (m : Mask). tailMask (precision F) m 0) (hm .ensures) in
     let et = tail .ensures ∙ ap₂ (tailMask (precision F)) (tm .ensures) (ap₂ (λ (k n : exponent.Unit). k .0 - n .0) (u .ensures) (v .ensures)) in
-    let same : pair-of (eqb (x .sign) (y .sign)) (head .result) (tail .result) (j .carries) ≡ alignedOf F (j .carries) x y =
-    ap₂ (λ (h t : Mask). pair-of (eqb (x .sign) (y .sign)) h t (j .carries)) eh et in
+    let same : pair-of like (rev .result) (head .result) (tail .result) (j .carries) ≡ alignedOf F (j .carries) x y =
+    ap (λ (r : Bool). pair-of like r (head .result) (tail .result) (j .carries)) (rev .ensures)
+    ∙ ap₂ (λ (h t : Mask). pair-of like (reversedOf x y) h t (j .carries)) eh et in
     let d = decided F (j .setting .mode) (x .sign) (j .c .mask) (c .admits .result) (u .ensures) same (c .admits .ensures .1)
     (in-format F (s .pre) x fx) (formed F (s .pre) (j .carries) (valid .carries) x y fx fy) in
-    (λ e. (omega (arith, c .before .before .before .before .before .before .before .before .before .before .if1 .left, ap at (u .ensures), ap at (v .ensures)), d .0 e), λ l. d .1 (l .1))
+    (λ e. (c .before .before .before .before .before .before .before .before .before .before .before .before .before .if1 .left, d .0 e), λ l. d .1 (l .1))
 
 pub larger-spec : {M : Type 1} → statement M
 larger-spec =
     tie.close
     (tie.spec
+    returns
     unit-of-requires
     unit-of-requires-2
-    returns
     add-tail-mask
     significand-mask-requires
     tail-mask-requires
     add-tail-mask-2
     significand-mask-requires-2
+    sub-tail-mask
     tail-mask-requires-2
+    reversed-requires
     admits-requires
     returns-2)

@@ -1,4 +1,5 @@
 -- `pair::finite::side_a` meets its contract. Assumes nothing.
+use mathlib.Core.Bool.{true}
 use mathlib.Core.Path.{ap}
 use Rattle.mask.specs.declared.Mask.{Mask}
 use Rattle.pair.specs.declared.Side.{Side}
@@ -15,7 +16,7 @@ returns c =
     ap of (c .fraction-mask .ensures)
   where
     of : Mask → Side
-    of m = record { sign = c .before .args .sign; exponent = c .before .args .exponent; fraction = m }
+    of m = record { first = true; sign = c .before .args .sign; exponent = c .before .args .exponent; fraction = m }
 
 pub side-a-spec : {M : Type 1} → statement M
 side-a-spec =

@@ -1,4 +1,5 @@
 -- `pair::finite::side_b` meets its contract: only the last bit of the operation counts. Assumes nothing.
+use mathlib.Core.Bool.{false}
 use mathlib.Core.Path.{_≡_, ap₂}
 use Prim.Native.Nat.{ℕ, _+_, _%_}
 use native.Mathlib.Omega.{arith}
@@ -22,7 +23,7 @@ returns c =
     ap₂ of turn (c .before .fraction-mask .ensures)
   where
     of : ℕ → Mask → Side
-    of s m = record { sign = s; exponent = c .before .before .args .exponent; fraction = m }
+    of s m = record { first = false; sign = s; exponent = c .before .before .args .exponent; fraction = m }
 
 pub side-b-spec : {M : Type 1} → statement M
 side-b-spec =

@@ -1,0 +1,268 @@
+-- The question of a reversed row (document 02, W-205). The row is that of T - H, and T is even; so the chain is asked about H - (T + 1), whose
+-- borrows are the other ones of the row's, and adds 1 to what that gives. Assumes nothing.
+use mathlib.Core.Logic.{_↔_}
+use mathlib.Core.Path.{_≡_, refl, sym, ap, ap₂, _∙_, subst}
+use mathlib.Core.Bool.{Bool, true, not, cond}
+use Prim.Native.Nat.{ℕ, zero, suc, _+_, _-_, _/_, _%_, _^_, _≤_, _<_}
+use native.Mathlib.Nat.{lt-of-lt-of-le, lt-of-le-of-lt}
+use native.Mathlib.Omega.{arith}
+use lib.Bits.{bitAnd, bitXor, and-zero-r, and-mask}
+use lib.Dec.{eqb}
+use lib.Ieee.{size}
+use lib.Pow.{pow-mono, mod-mod-pow}
+use Rattle.bits.specs.Bit.{bit}
+use Rattle.bits.proofs.Laws.{bit-lt}
+use Rattle.bits.proofs.Logic.{bit-xor}
+use Rattle.mask.specs.declared.Mask.{Mask}
+use Rattle.mask.specs.Mask.{Inside, WellFormed, Meets, low, high, raised}
+use Rattle.mask.proofs.ByBits.{inside-bits, value-below}
+use Rattle.mask.proofs.ByParts.{meets-parts}
+use Rattle.columns.specs.Carry.{borrow, carryOf}
+use Rattle.columns.specs.Column.{allows}
+use Rattle.columns.proofs.Borrow.{borrow-reversed, borrow-even}
+use Rattle.chain.specs.declared.Wires.{Wires}
+use Rattle.chain.specs.Chain.{Solved, Answered}
+use Rattle.word.specs.declared.Unit as exponent
+use Rattle.rounding.specs.Width.{guardBits, alignedBits, columnsOf, shortBits, maskBits}
+use Rattle.outcome.specs.declared.Aligned as pair
+use Rattle.outcome.specs.Outcome.{rowCarry, Made, Making, Unguarded, Formed}
+use Rattle.outcome.specs.Question.{opposite, oneAbove}
+use Rattle.outcome.proofs.Topped.{anything}
+use Rattle.outcome.proofs.Kept.{roundedBits}
+use Rattle.outcome.proofs.Asked.{allows-moved, allows-back, most-aligned-lt}
+use Rattle.outcome.proofs.Range.{made-difference, made-difference-most}
+use Rattle.outcome.proofs.Exact.{zeros-meets-low, made-zeros}
+
+-- ---- the fixed bits turned over
+
+-- a care bit k with the value bit v
+turned-bit : (k v b c : ℕ) → k < 2 → v < 2 → (k ≡ 0 → v ≡ 0) → b + c ≡ 1 → eqb (bitAnd b k) (bitXor k v) ≡ eqb (bitAnd c k) v
+turned-bit zero zero b c hk hv none s = rw (and-zero-r b, and-zero-r c)
+turned-bit zero (suc v) b c hk hv none s = absurd (omega (arith, none refl))
+turned-bit (suc zero) zero zero c hk hv none s = let q : c ≡ 1 = omega arith in rw q
+turned-bit (suc zero) zero (suc zero) c hk hv none s = let q : c ≡ 0 = omega arith in rw q
+turned-bit (suc zero) zero (suc (suc b)) c hk hv none s = absurd (omega arith)
+turned-bit (suc zero) (suc zero) zero c hk hv none s = let q : c ≡ 1 = omega arith in rw q
+turned-bit (suc zero) (suc zero) (suc zero) c hk hv none s = let q : c ≡ 0 = omega arith in rw q
+turned-bit (suc zero) (suc zero) (suc (suc b)) c hk hv none s = absurd (omega arith)
+turned-bit (suc zero) (suc (suc v)) b c hk hv none s = absurd (omega arith)
+turned-bit (suc (suc k)) v b c hk hv none s = absurd (omega arith)
+
+module _ (m : Mask) (inside : Inside m) where
+  -- what allows a bit allows the other one, turned over
+  allows-opposite : (i b c : ℕ) → b + c ≡ 1 → allows (opposite m .care) (opposite m .value) i b ≡ allows (m .care) (m .value) i c
+  allows-opposite i b c s =
+      ap (eqb (bitAnd b (bit (m .care) i))) (bit-xor (m .care) (m .value) i)
+      ∙ turned-bit (bit (m .care) i) (bit (m .value) i) b c (bit-lt (m .care) i) (bit-lt (m .value) i) (inside-bits m .0 inside i) s
+
+  opposite-inside : Inside (opposite m)
+  opposite-inside = inside-bits (opposite m) .1 (λ i e. bit-xor (m .care) (m .value) i ∙ ap₂ bitXor e (inside-bits m .0 inside i e))
+
+opposite-formed : (p : ℕ) (m : Mask) → WellFormed p m → WellFormed p (opposite m)
+opposite-formed p m w = record { below = w .below; inside = opposite-inside m (w .inside) }
+
+-- ---- the numbers one above those of a mask that fixes the lowest bit to 0
+module _ (m : Mask) (care : m .care % 2 ≡ 1) (value : m .value % 2 ≡ 0) where
+  above-odd : (t : ℕ) → Meets t (oneAbove m) → t % 2 ≡ 1
+  above-odd t met =
+      let low-met : bitAnd (t % 2) (m .care % 2) ≡ (m .value + 1) % 2 = meets-parts 1 t (oneAbove m) .0 met .0 in
+      let kept : bitAnd (t % 2) 1 ≡ t % 2 % 2 = and-mask (t % 2) 1 in
+      omega (arith, sym kept ∙ ap (bitAnd (t % 2)) (sym care) ∙ low-met)
+
+  above-meets : (n : ℕ) → n % 2 ≡ 0 → Meets (n + 1) (oneAbove m) ↔ Meets n m
+  above-meets n even = (
+    (λ met. meets-parts 1 n m .1 (lowest n even, high-down (meets-parts 1 (n + 1) (oneAbove m) .0 met .1))),
+    λ met. meets-parts 1 (n + 1) (oneAbove m) .1 (lowest-above, high-back (meets-parts 1 n m .0 met .1)),
+  )
+    where
+      half : (n + 1) / 2 ≡ n / 2
+      half = omega (arith, even)
+
+      half-value : (m .value + 1) / 2 ≡ m .value / 2
+      half-value = omega (arith, value)
+
+      lowest : (k : ℕ) → k % 2 ≡ 0 → bitAnd (k % 2) (m .care % 2) ≡ m .value % 2
+      lowest k e = ap₂ bitAnd e care ∙ sym value
+
+      lowest-above : bitAnd ((n + 1) % 2) (m .care % 2) ≡ (m .value + 1) % 2
+      lowest-above =
+          let a : (n + 1) % 2 ≡ 1 = omega (arith, even) in
+          let b : (m .value + 1) % 2 ≡ 1 = omega (arith, value) in
+          ap₂ bitAnd a care ∙ sym b
+
+      high-down : Meets ((n + 1) / 2) (high 1 (oneAbove m)) → Meets (n / 2) (high 1 m)
+      high-down e = ap (λ (k : ℕ). bitAnd k (m .care / 2)) (sym half) ∙ e ∙ half-value
+
+      high-back : Meets (n / 2) (high 1 m) → Meets ((n + 1) / 2) (high 1 (oneAbove m))
+      high-back e = ap (λ (k : ℕ). bitAnd k (m .care / 2)) half ∙ e ∙ sym half-value
+
+-- a mask that fixes the guard bits to 0 fixes the lowest one
+unguarded-care : (m : Mask) → Unguarded m → m .care % 2 ≡ 1
+unguarded-care m u = let e : m .care % 8 ≡ 7 = u .0 in omega (arith, e)
+
+unguarded-value : (m : Mask) → Unguarded m → m .value % 2 ≡ 0
+unguarded-value m u = let e : m .value % 8 ≡ 0 = u .1 in omega (arith, e)
+
+unguarded-zeros : (m : Mask) → Unguarded m → (n : ℕ) → Meets n m → n % 2 ^ guardBits ≡ 0
+unguarded-zeros m u = zeros-meets-low guardBits m (low guardBits m) refl (u .1) (u .0)
+
+-- ---- the question
+
+-- its wires, where `tail` is T + 1's mask and `carries` the mask of the borrows
+abbrev pub reversedWires : pair.Aligned → Mask → Mask → Mask → Wires
+reversedWires A tail carries z = record {
+  subtract = true;
+  l = A .head;
+  t = tail;
+  x = anything;
+  z = z;
+  carries = carries;
+  constant = 0;
+  carry = 1;
+}
+
+-- H - (T + 1) and the row of T - H
+other-borrow : (H T i : ℕ) → T % 2 ≡ 0 → borrow H (T + 1) 0 (i + (1 + guardBits)) + borrow T H 0 (i + (1 + guardBits)) ≡ 1
+other-borrow H T i even =
+    let up : i + guardBits + 1 ≡ i + (1 + guardBits) = omega arith in
+    let e : borrow H (T + 1) 0 (i + (1 + guardBits)) ≡ borrow H T 1 (i + (1 + guardBits)) =
+    subst (λ (k : ℕ). borrow H (T + 1) 0 k ≡ borrow H T 1 k) up (borrow-even H T (i + guardBits) even) in
+    omega (arith, e, borrow-reversed H T (i + (1 + guardBits)))
+
+module _ (f : ℕ) (A : pair.Aligned) (formed : Formed f A) (most : columnsOf f < 64) (reversed : A .reversed ≡ true) (z : Mask) where
+  below : (n : ℕ) → n < 2 ^ columnsOf f → n < 2 ^ maskBits
+  below n h = lt-of-lt-of-le h (pow-mono {i = columnsOf f} {j = maskBits} (omega arith))
+
+  even-tail : (T : ℕ) → Meets T (A .tail) → T % 2 ≡ 0
+  even-tail T met = let e : T % 8 ≡ 0 = unguarded-zeros (A .tail) (formed .reversed reversed .tail) T met in omega (arith, e)
+
+  tail-above : (T : ℕ) → T % 2 ≡ 0 → Meets (T + 1) (oneAbove (A .tail)) ↔ Meets T (A .tail)
+  tail-above =
+      above-meets (A .tail) (unguarded-care (A .tail) (formed .reversed reversed .tail)) (unguarded-value (A .tail) (formed .reversed reversed .tail))
+
+  -- the carries of the row
+  row-allowed : (H T i : ℕ) → allows (A .carries .care) (A .carries .value) i (borrow T H 0 (i + (1 + guardBits))) ≡ true
+      ↔ (allows (A .carries .care) (A .carries .value) i (rowCarry A H T (i + (1 + guardBits))) ≡ true)
+  row-allowed H T i = (λ e. subst at (sym reversed) e, λ e. subst at reversed e)
+    where
+      at : Bool → Type 0
+      at t = allows (A .carries .care) (A .carries .value) i (cond t (borrow T H 0 (i + (1 + guardBits))) (carryOf (not (A .like)) H T (i + (1 + guardBits)))) ≡ true
+
+  pub reversed-sound : (l t : ℕ) → Solved (reversedWires A (oneAbove (A .tail)) (raised (1 + guardBits) (opposite (A .carries))) z) (columnsOf f) l t → Making f A (λ (n : ℕ). Meets n z)
+  reversed-sound l t s = record {
+    x = l - T;
+    made = record {
+      H = l;
+      T = T;
+      head-lt = lt-of-le-of-lt (formed .head l (below l (s .l-lt)) (s .l-meets)) (most-aligned-lt f);
+      tail-lt = lt-of-le-of-lt (formed .tail T (below T (omega (arith, s .t-lt))) T-meets) (most-aligned-lt f);
+      head-meets = s .l-meets;
+      tail-meets = T-meets;
+      ordered = λ e. omega (arith, s .ordered refl);
+      unequal = λ e. omega (arith, s .ordered refl, is);
+      carries-allow = λ i h. row-allowed l T i .0
+          (sym (allows-opposite (A .carries) (formed .carries .inside) i (borrow l t 0 (i + (1 + guardBits))) (borrow T l 0 (i + (1 + guardBits))) (one i))
+          ∙ allows-back (1 + guardBits) (opposite (A .carries)) (carryOf true l t) i (s .carries-allow (i + (1 + guardBits)) (omega (arith, h))));
+      makes = ap (λ (b : Bool). Rattle.columns.specs.Carry.combined (not b) l T) (formed .reversed reversed .unlike);
+    };
+    holds = subst (λ (n : ℕ). Meets n z) again (s .z-meets);
+  }
+    where
+      T : ℕ
+      T = t - 1
+
+      odd : t % 2 ≡ 1
+      odd = above-odd (A .tail) (unguarded-care (A .tail) (formed .reversed reversed .tail)) (unguarded-value (A .tail) (formed .reversed reversed .tail)) t (s .t-meets)
+
+      is : t - 1 + 1 ≡ t
+      is = omega (arith, odd)
+
+      even : (t - 1) % 2 ≡ 0
+      even = omega (arith, odd)
+
+      again : l - t + 0 + 1 ≡ l - (t - 1)
+      again = omega (arith, s .ordered refl, is)
+
+      T-meets : Meets (t - 1) (A .tail)
+      T-meets = tail-above (t - 1) even .0 (subst (λ (n : ℕ). Meets n (oneAbove (A .tail))) (sym is) (s .t-meets))
+
+      one : (i : ℕ) → borrow l t 0 (i + (1 + guardBits)) + borrow (t - 1) l 0 (i + (1 + guardBits)) ≡ 1
+      one i = subst (λ (n : ℕ). borrow l n 0 (i + (1 + guardBits)) + borrow (t - 1) l 0 (i + (1 + guardBits)) ≡ 1) is (other-borrow l (t - 1) i even)
+
+  pub reversed-complete : (m : Making f A (λ (n : ℕ). Meets n z))
+      → Solved (reversedWires A (oneAbove (A .tail)) (raised (1 + guardBits) (opposite (A .carries))) z) (columnsOf f) (m .made .H) (m .made .T + 1)
+  reversed-complete m = record {
+    l-lt = omega (arith, w .head-lt, wide);
+    t-lt = omega (arith, w .head-lt, wide, strict);
+    ordered = λ e. strict;
+    x-lt = omega (arith, w .head-lt, wide);
+    z-lt = omega (arith, w .head-lt, wide, strict);
+    l-meets = w .head-meets;
+    t-meets = tail-above (w .T) even .1 (w .tail-meets);
+    x-meets = and-zero-r (w .H - (w .T + 1));
+    z-meets = subst (λ (n : ℕ). Meets n z) (sym (made-difference f A (m .x) (m .made) (formed .reversed reversed .unlike)) ∙ again) (m .holds);
+    carries-allow = λ i h. allows-moved (f + 1) (1 + guardBits) (opposite (A .carries)) (opposite-formed (f + 1) (A .carries) (formed .carries)) (carryOf true (w .H) (w .T + 1))
+        (λ k l.
+        allows-opposite (A .carries) (formed .carries .inside) k (borrow (w .H) (w .T + 1) 0 (k + (1 + guardBits))) (borrow (w .T) (w .H) 0 (k + (1 + guardBits))) (other-borrow (w .H) (w .T) k even)
+        ∙ row-allowed (w .H) (w .T) k .1 (w .carries-allow k l))
+        i;
+  }
+    where
+      w : Made f A (m .x)
+      w = m .made
+
+      strict : m .made .T + 1 ≤ m .made .H
+      strict = omega (arith, m .made .unequal reversed)
+
+      again : m .made .H - m .made .T ≡ m .made .H - (m .made .T + 1) + 0 + 1
+      again = omega (arith, strict)
+
+      even : m .made .T % 2 ≡ 0
+      even = even-tail (m .made .T) (m .made .tail-meets)
+
+      wide : 2 ^ alignedBits f ≤ 2 ^ columnsOf f
+      wide = pow-mono {i = alignedBits f} {j = columnsOf f} (omega arith)
+
+-- an answer of the chain, where the carry mask is moved up above the guard bits unless that loses bits
+pub reversed-asked : (f : ℕ) (A : pair.Aligned) (tail over carries z : Mask) (r : Bool) → columnsOf f < 64
+    → (A .tail .value % 2 ≡ 0 → tail ≡ oneAbove (A .tail)) → over ≡ opposite (A .carries)
+    → (over .care < 2 ^ shortBits → over .value < 2 ^ shortBits → carries ≡ raised (1 + guardBits) over)
+    → (r ≡ true) ↔ Answered (reversedWires A tail carries z) (columnsOf f)
+    → A .reversed ≡ true → Formed f A → (r ≡ true) ↔ Making f A (λ (n : ℕ). Meets n z)
+reversed-asked f A tail over carries z r most above turned moved answer reversed formed = (
+  (λ e. let s = answer .0 e in reversed-sound f A formed most reversed z (s .l) (s .t) (rw (tail-is, carries-are) at (s .solved))),
+  λ m. answer .1 (record {
+    columns-lt = most;
+    carry-lt = omega arith;
+    l = m .made .H;
+    t = m .made .T + 1;
+    solved = rw (tail-is, carries-are) (reversed-complete f A formed most reversed z m);
+  }),
+)
+  where
+    short : 2 ^ (f + 1) ≤ 2 ^ shortBits
+    short = pow-mono {i = f + 1} {j = shortBits} (omega arith)
+
+    tail-is : tail ≡ oneAbove (A .tail)
+    tail-is = above (unguarded-value (A .tail) (formed .reversed reversed .tail))
+
+    own : WellFormed (f + 1) (opposite (A .carries))
+    own = opposite-formed (f + 1) (A .carries) (formed .carries)
+
+    carries-are : carries ≡ raised (1 + guardBits) (opposite (A .carries))
+    carries-are =
+        moved (rw turned (lt-of-lt-of-le (own .below) short)) (rw turned (lt-of-lt-of-le (value-below (f + 1) (opposite (A .carries)) own) short))
+        ∙ ap (raised (1 + guardBits)) turned
+
+-- ---- such a difference is exact: it has only zeros where bits are rounded off
+pub reversed-zeros : (f : ℕ) (u : exponent.Unit) (A : pair.Aligned) (N : ℕ) → Formed f A → A .reversed ≡ true → (x : ℕ) → Made f A x → size x ≡ N → x % 2 ^ roundedBits f N u ≡ 0
+reversed-zeros f u A N formed reversed x made digits =
+    let one = formed .reversed reversed in
+    let most = made-difference-most f A x made (one .unlike) in
+    let few : roundedBits f N u ≤ guardBits = omega (arith, most, digits) in
+    let back : guardBits - roundedBits f N u + roundedBits f N u ≡ guardBits = omega (arith, few) in
+    let all : x % 2 ^ guardBits ≡ 0 = made-zeros A guardBits (unguarded-zeros (A .head) (one .head)) (unguarded-zeros (A .tail) (one .tail)) f x made in
+    sym (mod-mod-pow x (guardBits - roundedBits f N u) (roundedBits f N u))
+    ∙ ap (λ (k : ℕ). x % 2 ^ k % 2 ^ roundedBits f N u) back
+    ∙ ap (λ (k : ℕ). k % 2 ^ roundedBits f N u) all
+    ∙ native.Mathlib.Nat.zero-mod (2 ^ roundedBits f N u)
