@@ -67,9 +67,9 @@ enum {
 uint64_t vindacsor_result(uint64_t w, uint64_t f, uint64_t operation, uint64_t mode,
                           uint64_t a, uint64_t b, uint8_t *out, size_t out_length);
 
-/* The carry row of the words a and b, f + 1 bits: the carries, or where the effective signs are
- * unlike the borrows, of the operand with the larger exponent field, a where they are equal, and
- * the other one. With equal exponents the borrow out of the top bit may be 1.
+/* The carry row of the words a and b, f + 1 bits: the carries of L plus R, or where the effective
+ * signs are unlike the borrows of L less R. L is the operand with the larger exponent field, and a
+ * where they are equal; then the borrow out of the top bit may be 1.
  * Answer: 1 and the row, or 0 and 0 where an operand is infinite or a NaN.
  * Refusals: 1, 2, 3, 6, 11. */
 uint64_t vindacsor_row(uint64_t w, uint64_t f, uint64_t operation,

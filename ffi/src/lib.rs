@@ -75,8 +75,8 @@ pub fn result(w: u64, f: u64, operation: u64, mode: u64, a: u64, b: u64) -> Resu
     Ok(answer(|out| buffer::result(w, f, operation, mode, a, b, out))?[0])
 }
 
-/// The carry row of two words; none where one is infinite or a NaN. With equal exponents it is that
-/// of a first and then b. Refuses with 1, 2, 3, 6.
+/// The carry row of two words; none where one is infinite or a NaN. Where the exponents are equal
+/// and the effective signs unlike it has the borrows of a less b. Refuses with 1, 2, 3, 6.
 pub fn row(w: u64, f: u64, operation: u64, a: u64, b: u64) -> Result<Option<u64>, Refusal> {
     let numbers = answer(|out| buffer::row(w, f, operation, a, b, out))?;
     Ok(row_in(numbers[0], numbers[1]))

@@ -1,7 +1,7 @@
 -- What the adder publishes beside its contracts: c and the carry row of two finite words, from their fields and from their aligned
 -- significands. Of operands x and y, y's unit not above x's, H is x's significand with some bits below it, and T is y's aligned to it: c
--- comes from them with the guard bits, where y is not the larger or the signs are like; the row with any number of bits, where x is a and y
--- has not the larger exponent. The search cites these laws and no other of the adder. Assumes nothing.
+-- comes from them with the guard bits, where y is not the larger or the signs are like; the row with any number of bits, where x is a and
+-- y has not the larger exponent. The search cites these laws and no other of the adder. Assumes nothing.
 use mathlib.Core.Path.{_≡_, refl, sym, ap, ap₂, _∙_}
 use mathlib.Core.Bool.{Bool, true, false, not}
 use mathlib.Core.Logic.{_⊎_, inl, inr, _↔_}
@@ -73,8 +73,7 @@ row-lt F x y = finite-row-lt F x y
 
 -- ---- from aligned significands
 
-module _ (F : Format) (ok : Supported F) (x y : record-of.Finite) (cx : Canonical F x) (cy : Canonical F y)
-    (units : unitOf (y .exponent) .0 ≤ unitOf (x .exponent) .0) where
+module _ (F : Format) (x y : record-of.Finite) (units : unitOf (y .exponent) .0 ≤ unitOf (x .exponent) .0) where
   u : ℕ
   u = unitOf (x .exponent) .0
 
@@ -95,51 +94,18 @@ module _ (F : Format) (ok : Supported F) (x y : record-of.Finite) (cx : Canonica
   unfolding u v d
   gap = omega arith
 
-  normal : 0 < u → 2 ^ F .f ≤ x .significand
-  unfolding u
-  normal h = cx .normal (omega arith)
-
   -- the two are ordered as the magnitudes are
   pub tail-ordered : (q : ℕ) → 0 < q → tailOf q ≤ headOf q ↔ (magnitude y ≤ magnitude x)
   unfolding u v d
   tail-ordered q some = align.tail-ordered q some (x .significand) (y .significand) u v d gap
 
+  -- and unequal where these are
   pub tail-below : (q : ℕ) → 0 < q → magnitude y < magnitude x → tailOf q < headOf q
   unfolding u v d
   tail-below q some l =
       let o = tail-ordered q some .1 (le-of-lt l) in
       let ne : (headOf q ≡ tailOf q → ⊥) = λ e. let m = align.equal-tail q some (x .significand) (y .significand) u v d gap .1 e in omega (arith, l) in
       omega (arith, ne)
-
-  -- c, from what they make with the guard bits
-
-  pub sum-outcome : (mode : ℕ) → (eqb (x .sign) (y .sign) ≡ false → magnitude y ≤ magnitude x)
-      → finiteSum F mode x y ≡ outcome F mode (eqb (x .sign) (y .sign)) (x .sign) (unitOf (x .exponent)) (combined (not (eqb (x .sign) (y .sign))) (headOf guardBits) (tailOf guardBits))
-  unfolding u v d outcome
-  sum-outcome mode le = go (ℕ-discrete (x .sign) (y .sign)) (ℕ-discrete (magnitude x) (magnitude y))
-    where
-      go : Dec (x .sign ≡ y .sign) → Dec (magnitude x ≡ magnitude y)
-          → finiteSum F mode x y ≡ outcome F mode (eqb (x .sign) (y .sign)) (x .sign) (unitOf (x .exponent)) (combined (not (eqb (x .sign) (y .sign))) (headOf guardBits) (tailOf guardBits))
-      go (yes e) m =
-          rw (eq-eqb _ _ e)
-          (sum-like F mode x y e
-          ∙ outcome-held F ok mode (x .sign) (magnitude x + magnitude y) (headOf guardBits + tailOf guardBits) (unitOf (x .exponent)) true
-          (align.sum-held F (x .significand) (y .significand) u v d gap (cx .significand-lt) (cy .significand-lt) normal)
-          (align.sum-lt F (x .significand) (y .significand) u v d gap (cx .significand-lt) (cy .significand-lt) normal) (inl refl))
-      go (no e) (yes m) =
-          let t = align.equal-tail guardBits guards (x .significand) (y .significand) u v d gap .0 m in
-          let z : headOf guardBits - tailOf guardBits ≡ 0 = omega arith in
-          rw (ne-eqb _ _ e, z) (sum-cancelled F mode x y e m)
-      go (no e) (no m) =
-          let l = le (ne-eqb _ _ e) in
-          let lt = align.sum-lt F (x .significand) (y .significand) u v d gap (cx .significand-lt) (cy .significand-lt) normal in
-          let o = tail-ordered guardBits guards .1 l in
-          let ne : (headOf guardBits - tailOf guardBits ≡ 0 → ⊥) = λ z. m (align.equal-tail guardBits guards (x .significand) (y .significand) u v d gap .1 (omega arith)) in
-          rw (ne-eqb _ _ e)
-          (sum-unlike F mode x y e (omega (arith, m))
-          ∙ outcome-held F ok mode (x .sign) (magnitude x - magnitude y) (headOf guardBits - tailOf guardBits) (unitOf (x .exponent)) false
-          (align.difference-held F (x .significand) (y .significand) u v d gap (cx .significand-lt) (cy .significand-lt) normal l)
-          (omega arith) (inr ne))
 
   -- the row, from what they make with any number of bits below
   module _ (q : ℕ) (some : 0 < q) where
@@ -157,3 +123,37 @@ module _ (F : Format) (ok : Supported F) (x y : record-of.Finite) (cx : Canonica
     row-columns le i h =
         rw (le-ltb (x .exponent .0) (y .exponent .0) le)
         (gather-bit (precision F) (carryAt (eqb (x .sign) (y .sign)) (magnitude x) (magnitude y) u) i h ∙ row-test i (eqb (x .sign) (y .sign)))
+
+  -- c, from what they make with the guard bits
+  module _ (ok : Supported F) (cx : Canonical F x) (cy : Canonical F y) where
+    normal : 0 < u → 2 ^ F .f ≤ x .significand
+    unfolding u
+    normal h = cx .normal (omega arith)
+
+    pub sum-outcome : (mode : ℕ) → (eqb (x .sign) (y .sign) ≡ false → magnitude y ≤ magnitude x)
+        → finiteSum F mode x y ≡ outcome F mode (eqb (x .sign) (y .sign)) (x .sign) (unitOf (x .exponent)) (combined (not (eqb (x .sign) (y .sign))) (headOf guardBits) (tailOf guardBits))
+    unfolding u v d outcome
+    sum-outcome mode le = go (ℕ-discrete (x .sign) (y .sign)) (ℕ-discrete (magnitude x) (magnitude y))
+      where
+        go : Dec (x .sign ≡ y .sign) → Dec (magnitude x ≡ magnitude y)
+            → finiteSum F mode x y ≡ outcome F mode (eqb (x .sign) (y .sign)) (x .sign) (unitOf (x .exponent)) (combined (not (eqb (x .sign) (y .sign))) (headOf guardBits) (tailOf guardBits))
+        go (yes e) m =
+            rw (eq-eqb _ _ e)
+            (sum-like F mode x y e
+            ∙ outcome-held F ok mode (x .sign) (magnitude x + magnitude y) (headOf guardBits + tailOf guardBits) (unitOf (x .exponent)) true
+            (align.sum-held F (x .significand) (y .significand) u v d gap (cx .significand-lt) (cy .significand-lt) normal)
+            (align.sum-lt F (x .significand) (y .significand) u v d gap (cx .significand-lt) (cy .significand-lt) normal) (inl refl))
+        go (no e) (yes m) =
+            let t = align.equal-tail guardBits guards (x .significand) (y .significand) u v d gap .0 m in
+            let z : headOf guardBits - tailOf guardBits ≡ 0 = omega arith in
+            rw (ne-eqb _ _ e, z) (sum-cancelled F mode x y e m)
+        go (no e) (no m) =
+            let l = le (ne-eqb _ _ e) in
+            let lt = align.sum-lt F (x .significand) (y .significand) u v d gap (cx .significand-lt) (cy .significand-lt) normal in
+            let o = tail-ordered guardBits guards .1 l in
+            let ne : (headOf guardBits - tailOf guardBits ≡ 0 → ⊥) = λ z. m (align.equal-tail guardBits guards (x .significand) (y .significand) u v d gap .1 (omega arith)) in
+            rw (ne-eqb _ _ e)
+            (sum-unlike F mode x y e (omega (arith, m))
+            ∙ outcome-held F ok mode (x .sign) (magnitude x - magnitude y) (headOf guardBits - tailOf guardBits) (unitOf (x .exponent)) false
+            (align.difference-held F (x .significand) (y .significand) u v d gap (cx .significand-lt) (cy .significand-lt) normal l)
+            (omega arith) (inr ne))

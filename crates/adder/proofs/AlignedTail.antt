@@ -1,5 +1,5 @@
--- A significand R aligned to the larger operand's with q bits below that one's last bit, for any q: above these bits stands R's whole part in
--- L's unit, and they are sticky for what R has below it. Assumes nothing.
+-- A significand R aligned to L's with q bits below that one's last bit, for any q: above these bits stands R's whole part in L's unit, and
+-- they are sticky for what R has below it. Assumes nothing.
 use mathlib.Core.Path.{_≡_, ap, ap₂, _∙_}
 use mathlib.Core.Bool.{Bool, cond}
 use Prim.Native.Nat.{ℕ, _+_, _-_, _*_, _/_, _%_, _^_, _<_}

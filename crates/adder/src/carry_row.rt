@@ -51,7 +51,7 @@ fn gathered(n: u64, like: bool, l: u64, r: u64, s: u64) -> u64
     row
 }
 
-// The row of two finite numbers, the second without the larger exponent: both are counted in the first one's unit.
+// The row of two finite numbers, l being L: r's exponent is not the larger. Both are counted in l's unit.
 fn ordered_row(format: Format, l: Finite, r: Finite) -> u64
     requires { ⌜ Supported format × Canonical format l × Canonical format r × (r .exponent .0 ≤ l .exponent .0) ⌝ }
     ensures { λ t. ⌜ t ≡ orderedRow format l r ⌝ }

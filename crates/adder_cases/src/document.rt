@@ -64,8 +64,8 @@ fn ties_away(count: Count) -> Count {
     eight_difference(five, 4, 0x30, 0x30, 0x00)
 }
 
-// W-205. With equal exponents a is L: 30 - 31 has row 1F, 31 - 30 row 00; with e = 0, 05 - 0A row 1A and 0A - 05 row 05. Of e = 0 and e = 1 the
-// latter is L: 05 - 10 and 10 - 05 have row 0F.
+// W-205. With equal exponents a is L: 30 - 31 has row 1F, 31 - 30 row 00; with e = 0, 05 - 0A row 1A and 0A - 05 row 05. Of e = 0 and e = 1
+// the latter is L: 05 - 10 and 10 - 05 have row 0F.
 fn by_exponent(count: Count) -> Count {
     let one = eight_difference_row(count, 0x30, 0x31, 0x1F);
     let two = eight_difference_row(one, 0x31, 0x30, 0x00);

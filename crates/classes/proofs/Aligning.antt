@@ -39,7 +39,7 @@ pub low-le : (f gap e : ℕ) → lowerField f gap e .0 ≤ topField f .0
 low-le f gap zero = omega arith
 low-le f gap (suc e) = omega arith
 
--- and below that where the smaller field of the pair is
+-- and below it where the pair's smaller field is below its larger one
 low-lt : (f E e : ℕ) → e < E → lowerField f (E - 1 - (e - 1)) e .0 < topField f .0
 low-lt f E zero l = omega arith
 low-lt f E (suc e) l = omega arith
@@ -110,9 +110,9 @@ module _ (F : Format) (ok : Supported F) (m : Mask) (formed : WellFormed (F .f) 
           far (fieldIs (suc e)) (E - 1 - (suc e - 1)) lower (omega arith) (past-gap (farGap (F .f)) (E - 1 - (suc e - 1)) (omega arith))
           ∙ ap (λ (n : Mask). tailMask (precision F) n lower) same
 
--- its fields are equal exactly where those of the pair are, so its row is reversed where that of the pair is
+-- the fields of the pair that stands for a class are equal exactly where those of the pair are, so its row is reversed where theirs is
 reversed-same : (f : ℕ) (x y : Side) → 1 ≤ x .exponent .0 → y .exponent .0 ≤ x .exponent .0 → reversedOf x y ≡ reversedOf (atField x (topField f)) (atField y (lowField f (x .exponent) (y .exponent)))
-reversed-same f x y some l = ap (λ (t : Bool). y .first && (t && not (eqb (x .sign) (y .sign)))) (go (ℕ-discrete (x .exponent .0) (y .exponent .0)))
+reversed-same f x y some l = ap (λ (t : Bool). y .lhs && (t && not (eqb (x .sign) (y .sign)))) (go (ℕ-discrete (x .exponent .0) (y .exponent .0)))
   where
     go : Dec (x .exponent .0 ≡ y .exponent .0) → eqb (x .exponent .0) (y .exponent .0) ≡ eqb (topField f .0) (lowField f (x .exponent) (y .exponent) .0)
     go (yes e) =
@@ -121,14 +121,6 @@ reversed-same f x y some l = ap (λ (t : Bool). y .first && (t && not (eqb (x .s
     go (no n) =
         ne-eqb (x .exponent .0) (y .exponent .0) n
         ∙ sym (ne-eqb (topField f .0) (lowField f (x .exponent) (y .exponent) .0) (λ e. let b = low-lt f (x .exponent .0) (y .exponent .0) (omega (arith, l, n)) in omega (arith, b, e)))
-
--- with unlike fields no row is reversed
-pub forward-row : (x y : Side) → (x .exponent .0 ≡ y .exponent .0 → ⊥) → reversedOf x y ≡ false
-forward-row x y n = go (y .first)
-  where
-    go : (t : Bool) → t && (eqb (x .exponent .0) (y .exponent .0) && not (eqb (x .sign) (y .sign))) ≡ false
-    go true = rw (ne-eqb (x .exponent .0) (y .exponent .0) n)
-    go false = refl
 
 -- the sides of a pair, and those of the pair that stands for its class
 pub aligned-same : (F : Format) → Supported F → (carries : Mask) (x y : Side) → WellFormed (F .f) (x .fraction) → WellFormed (F .f) (y .fraction)

@@ -31,13 +31,14 @@ use Rattle.outcome.proofs.Range.{made-most}
 use Rattle.special.specs.Asked.{fieldIs, PairFits}
 use Rattle.pair.specs.declared.Side.{Side}
 use Rattle.pair.specs.Pair.{FiniteSide, significandsOf, gapOf, alignedOf, Larger, Sums, sideA, sideB, SomeSigns}
+use Rattle.pair.proofs.Rows.{forward-row}
 use Rattle.pair.proofs.Finites.{pair-finite}
 use Rattle.classes.specs.declared.Class.{Class}
 use Rattle.classes.specs.Class.{InOrder, farGap, classUnit, topField, lowField, fieldAt, mostField, leastField, atField, withExponent, asking, onlyField, anyField, ClassAdmits, NeverPast, Classed, smallerMask}
 use Rattle.classes.proofs.Order.{Sides, signs-of, sides-of}
 use Rattle.classes.proofs.ClassMasks.{past-never, asking-meets, own-meets, asking-less}
 use Rattle.classes.proofs.Moved.{Moved, moved}
-use Rattle.classes.proofs.Aligning.{low-le, low-two, low-same, gap-two, head-same, far, forward-row, aligned-same, made-long}
+use Rattle.classes.proofs.Aligning.{low-le, low-two, low-same, gap-two, head-same, far, aligned-same, made-long}
 
 pub only-formed : (F : Format) (i : Biased) → i .0 ≤ allOnes F → WellFormed (F .w) (onlyField F i)
 only-formed F i h = record { below = omega (arith, pow-pos (F .w)); inside = lib.Bits.and-mask (i .0) (F .w) ∙ native.Mathlib.Nat.mod-eq-of-lt (omega (arith, pow-pos (F .w))) }

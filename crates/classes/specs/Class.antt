@@ -26,7 +26,7 @@ use Rattle.classes.specs.declared.Class.{Class}
 
 -- ---- two exponent fields by size
 
--- the order is 0 where a has the larger field, else 1
+-- the order is 1 where b has the larger field, else 0
 unfoldable pub fieldsOf : Biased → Biased → Fields
 fieldsOf ea eb = cond (leb (eb .0) (ea .0)) (record { order = 0; larger = ea; smaller = eb }) (record { order = 1; larger = eb; smaller = ea })
 
@@ -102,7 +102,7 @@ leastField f k = cond (leb (k .low .0 + 2) (topField f .0)) (fieldIs (farGap f))
 
 -- a side with another exponent field
 abbrev pub atField : Side → Biased → Side
-atField x e = record { first = x .first; sign = x .sign; exponent = e; fraction = x .fraction }
+atField x e = record { lhs = x .lhs; sign = x .sign; exponent = e; fraction = x .fraction }
 
 -- the mask c with another mask on its exponent field
 unfoldable pub withExponent : Format → Mask → Mask → Mask

@@ -31,7 +31,7 @@ pub const TOP_FIELD: u64 = FAR_GAP + 1;
 // c's greatest exponent field there.
 pub const MOST_FIELD: u64 = TOP_FIELD + 2;
 
-// Two exponent fields by size; the order is 0 where a has the larger one, else 1.
+// Two exponent fields by size; the order is 1 where b has the larger one, else 0.
 pub struct Fields {
     pub order: u64,
     pub larger: Biased,

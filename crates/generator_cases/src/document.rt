@@ -1,5 +1,5 @@
-// The cases of document 01, "Cases, in hexadecimal", and its causes 1 to 6; of document 02 mode 4 (W-201), the widths of W-202, which mask is
-// malformed (W-203), and the borrows of equal exponents (W-205).
+// The cases of document 01, "Cases, in hexadecimal", and its causes 1 to 6; of document 02 mode 4 (W-201), the widths of W-202, which mask
+// is malformed (W-203), and the borrows of equal exponents (W-205).
 use crate::line::ask;
 use crate::line::put_reply;
 use crate::same::same_reply;
@@ -173,8 +173,8 @@ pub(crate) fn double_tie(count: Count) -> Count {
     asked(two, none, 0, 0, Reply::Refused(cause::NO_CASE))
 }
 
-// W-205. A difference of two numbers with the exponent 3 and any fractions: where every borrow is 1 b is the larger, and where none is and b is
-// fixed to a larger one there is no case. And of two with e = 0: 05 - 0A has row 1A.
+// W-205. A difference of two numbers with the exponent 3 and any fractions: where every borrow is 1 b is the larger, and where none is and
+// b is fixed to a larger one there is no case. And of two with e = 0: 05 - 0A has row 1A.
 pub(crate) fn borrows(count: Count) -> Count {
     let setting = numbers(3, 4, 1, 0);
     let three = mask(0xF0, 0x30);

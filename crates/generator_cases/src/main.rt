@@ -1,5 +1,5 @@
-// Cases 1 to 4, 12 and 13 of document 01, a tie in double precision, borrows of equal exponents and one job for each cause of bad input, through
-// the case generator.
+// Cases 1 to 4, 12 and 13 of document 01, a tie in double precision, borrows of equal exponents and one job for each cause of bad input,
+// through the case generator.
 mod document;
 mod line;
 mod same;

@@ -17,7 +17,8 @@ fn lengths() {
     list(b"65,537 bytes\n", &long);
 }
 
-// Jobs that are listed: positive operands with a negative sum, and then any case; infinite operands, which have no row; and a tie in mode 4.
+// Jobs that are listed: positive operands with a negative sum, and then any case; infinite operands, which have no row; a tie in mode 4; and
+// the borrows of equal exponents, 30 - 31.
 fn listed() {
     list(
         b"none, then found\n",
@@ -34,6 +35,10 @@ fn listed() {
     list(
         b"tie away\n",
         b"\x13\x03\x04\x00\xff\x00\x00\x00\x30\x00\x00\x00\xff\x00\x00\x00\x02\x00\x00\x00\x04",
+    );
+    list(
+        b"equal exponents\n",
+        b"\x03\x03\x04\x01\xff\x00\x00\x00\x30\x00\x00\x00\xff\x00\x00\x00\x31\x00\x00\x00",
     );
 }
 

@@ -71,7 +71,7 @@ join-refused m n x k e p q =
     let z : _≡_ {A = ℕ} 0 1 = cc in
     omega arith
 
--- a clash too
+-- so too where the number is that of a clash
 pub join-clash : (m n : Mask) (x : ℕ) → join m n ≡ reply.Refused cause.clash → Meets x m → Meets x n → ⊥
 join-clash m n x = join-refused m n x cause.clash
 

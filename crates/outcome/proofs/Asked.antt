@@ -1,5 +1,6 @@
--- The question to the chain, where the row is not reversed: its wires carry two aligned significands, what they make, and that with a constant
--- and a carry added. Two significands that solve it make a number that meets both masks, and the other way round. Assumes nothing.
+-- The question to the chain, where the row is not reversed: its wires carry two aligned significands, what they make, and that with a
+-- constant and a carry added. Two significands that solve it make a number that meets both masks, and the other way round. Assumes
+-- nothing.
 use mathlib.Core.Logic.{_↔_}
 use mathlib.Core.Path.{_≡_, refl, sym, ap, ap₂, _∙_, subst}
 use mathlib.Core.Bool.{Bool, true, false, not, cond, false≢true}
@@ -88,31 +89,33 @@ combined-lt false l t k hl ht = add-lt-pow k hl ht
 pub most-aligned-lt : (f : ℕ) → mostAligned f < 2 ^ alignedBits f
 most-aligned-lt f = omega (arith, pow-pos f, pow-add 2 f 1, pow-add 2 f (1 + guardBits))
 
+-- a number that fits the columns is one that a mask on aligned significands speaks of
+pub columns-below : (f : ℕ) → columnsOf f < 64 → (n : ℕ) → n < 2 ^ columnsOf f → n < 2 ^ maskBits
+columns-below f most n h = lt-of-lt-of-le h (pow-mono {i = columnsOf f} {j = maskBits} (omega arith))
+
+-- what the carry mask allows in the row, said of the carries that the row has, reversed or not
+pub row-allowed : (A : pair.Aligned) (t : Bool) → A .reversed ≡ t → (H T k i : ℕ)
+    → allows (A .carries .care) (A .carries .value) i (cond t (borrow T H 0 k) (carryOf (not (A .like)) H T k)) ≡ true
+    ↔ (allows (A .carries .care) (A .carries .value) i (rowCarry A H T k) ≡ true)
+row-allowed A t is H T k i = (λ e. subst at (sym is) e, λ e. subst at is e)
+  where
+    at : Bool → Type 0
+    at b = allows (A .carries .care) (A .carries .value) i (cond b (borrow T H 0 k) (carryOf (not (A .like)) H T k)) ≡ true
+
 module _ (f : ℕ) (A : pair.Aligned) (forward : A .reversed ≡ false) (formed : Formed f A) (most : columnsOf f < 64) (x z : Mask) (constant carry : ℕ) where
-  -- the carries of the row
-  row-allowed : (H T i : ℕ) → allows (A .carries .care) (A .carries .value) i (carryOf (not (A .like)) H T (i + (1 + guardBits))) ≡ true
-      ↔ (allows (A .carries .care) (A .carries .value) i (rowCarry A H T (i + (1 + guardBits))) ≡ true)
-  row-allowed H T i = (λ e. subst at (sym forward) e, λ e. subst at forward e)
-    where
-      at : Bool → Type 0
-      at t = allows (A .carries .care) (A .carries .value) i (cond t (borrow T H 0 (i + (1 + guardBits))) (carryOf (not (A .like)) H T (i + (1 + guardBits)))) ≡ true
-
-  below : (n : ℕ) → n < 2 ^ columnsOf f → n < 2 ^ maskBits
-  below n h = lt-of-lt-of-le h (pow-mono {i = columnsOf f} {j = maskBits} (omega arith))
-
   pub asked-sound : (l t : ℕ) → Solved (wiresOf A (raised (1 + guardBits) (A .carries)) x z constant carry) (columnsOf f) l t → Making f A (λ (n : ℕ). Meets n x × Meets (n + constant + carry) z)
   asked-sound l t s = record {
     x = combined (not (A .like)) l t;
     made = record {
       H = l;
       T = t;
-      head-lt = lt-of-le-of-lt (formed .head l (below l (s .l-lt)) (s .l-meets)) (most-aligned-lt f);
-      tail-lt = lt-of-le-of-lt (formed .tail t (below t (s .t-lt)) (s .t-meets)) (most-aligned-lt f);
+      head-lt = lt-of-le-of-lt (formed .head l (columns-below f most l (s .l-lt)) (s .l-meets)) (most-aligned-lt f);
+      tail-lt = lt-of-le-of-lt (formed .tail t (columns-below f most t (s .t-lt)) (s .t-meets)) (most-aligned-lt f);
       head-meets = s .l-meets;
       tail-meets = s .t-meets;
       ordered = λ e. s .ordered (ap not e);
-      unequal = λ e. absurd (false≢true (sym forward ∙ e));
-      carries-allow = λ i h. row-allowed l t i .0 (allows-back (1 + guardBits) (A .carries) (carryOf (not (A .like)) l t) i (s .carries-allow (i + (1 + guardBits)) (omega arith)));
+      less = λ e. absurd (false≢true (sym forward ∙ e));
+      carries-allow = λ i h. row-allowed A false forward l t (i + (1 + guardBits)) i .0 (allows-back (1 + guardBits) (A .carries) (carryOf (not (A .like)) l t) i (s .carries-allow (i + (1 + guardBits)) (omega arith)));
       makes = refl;
     };
     holds = (s .x-meets, s .z-meets);
@@ -137,23 +140,22 @@ module _ (f : ℕ) (A : pair.Aligned) (forward : A .reversed ≡ false) (formed 
         x-meets = rw (w .makes) (m .holds .0);
         z-meets = rw (w .makes) (m .holds .1);
         carries-allow = λ i h. allows-moved (f + 1) (1 + guardBits) (A .carries) (formed .carries) (carryOf (not (A .like)) (w .H) (w .T))
-            (λ k l. row-allowed (w .H) (w .T) k .1 (w .carries-allow k l)) i;
+            (λ k l. row-allowed A false forward (w .H) (w .T) (k + (1 + guardBits)) k .1 (w .carries-allow k l)) i;
       }
 
--- an answer of the chain, where the carry mask is moved up above the guard bits unless that loses bits
-pub asked : (f : ℕ) (A : pair.Aligned) (carries x z : Mask) (constant carry : ℕ) (r : Bool) → (columnsOf f < 64) × (constant < 2 ^ mostRounded) × (carry < 2)
+-- the question as it is put, where the carry mask is moved up above the guard bits unless that loses bits
+pub asked : (f : ℕ) (A : pair.Aligned) (carries x z : Mask) (constant carry : ℕ) → columnsOf f < 64 → (constant < 2 ^ mostRounded) × (carry < 2)
     → (A .carries .care < 2 ^ shortBits → A .carries .value < 2 ^ shortBits → carries ≡ raised (1 + guardBits) (A .carries))
-    → (r ≡ true) ↔ Answered (wiresOf A carries x z constant carry) (columnsOf f)
-    → A .reversed ≡ false → Formed f A → (r ≡ true) ↔ Making f A (λ (n : ℕ). Meets n x × Meets (n + constant + carry) z)
-asked f A carries x z constant carry r pre moved answer forward formed = (
-  (λ e. let s = answer .0 e in asked-sound f A forward formed (pre .0) x z constant carry (s .l) (s .t) (rw same at (s .solved))),
-  λ m. answer .1 (record {
-    columns-lt = pre .0;
-    carry-lt = pre .2;
+    → A .reversed ≡ false → Formed f A → Answered (wiresOf A carries x z constant carry) (columnsOf f) ↔ Making f A (λ (n : ℕ). Meets n x × Meets (n + constant + carry) z)
+asked f A carries x z constant carry most small moved forward formed = (
+  (λ s. asked-sound f A forward formed most x z constant carry (s .l) (s .t) (rw same at (s .solved))),
+  λ m. record {
+    columns-lt = most;
+    carry-lt = small .1;
     l = m .made .H;
     t = m .made .T;
-    solved = rw same (asked-complete f A forward formed (pre .0) x z constant carry (pre .1) (pre .2) m);
-  }),
+    solved = rw same (asked-complete f A forward formed most x z constant carry (small .0) (small .1) m);
+  },
 )
   where
     short : 2 ^ (f + 1) ≤ 2 ^ shortBits

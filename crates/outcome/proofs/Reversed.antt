@@ -1,8 +1,8 @@
--- The question of a reversed row (document 02, W-205). The row is that of T - H, and T is even; so the chain is asked about H - (T + 1), whose
--- borrows are the other ones of the row's, and adds 1 to what that gives. Assumes nothing.
+-- The question of a reversed row (document 02, W-205). The row is that of T - H, and T is even; so the chain is asked about H - (T + 1),
+-- whose borrows are the other ones of the row's, and adds 1 to what that gives. Assumes nothing.
 use mathlib.Core.Logic.{_↔_}
 use mathlib.Core.Path.{_≡_, refl, sym, ap, ap₂, _∙_, subst}
-use mathlib.Core.Bool.{Bool, true, not, cond}
+use mathlib.Core.Bool.{Bool, true, not}
 use Prim.Native.Nat.{ℕ, zero, suc, _+_, _-_, _/_, _%_, _^_, _≤_, _<_}
 use native.Mathlib.Nat.{lt-of-lt-of-le, lt-of-le-of-lt}
 use native.Mathlib.Omega.{arith}
@@ -23,13 +23,13 @@ use Rattle.columns.proofs.Borrow.{borrow-reversed, borrow-even}
 use Rattle.chain.specs.declared.Wires.{Wires}
 use Rattle.chain.specs.Chain.{Solved, Answered}
 use Rattle.word.specs.declared.Unit as exponent
-use Rattle.rounding.specs.Width.{guardBits, alignedBits, columnsOf, shortBits, maskBits}
+use Rattle.rounding.specs.Width.{guardBits, alignedBits, columnsOf, shortBits}
 use Rattle.outcome.specs.declared.Aligned as pair
-use Rattle.outcome.specs.Outcome.{rowCarry, Made, Making, Unguarded, Formed}
+use Rattle.outcome.specs.Outcome.{Made, Making, GuardsZero, Formed}
 use Rattle.outcome.specs.Question.{opposite, oneAbove}
 use Rattle.outcome.proofs.Topped.{anything}
 use Rattle.outcome.proofs.Kept.{roundedBits}
-use Rattle.outcome.proofs.Asked.{allows-moved, allows-back, most-aligned-lt}
+use Rattle.outcome.proofs.Asked.{allows-moved, allows-back, most-aligned-lt, columns-below, row-allowed}
 use Rattle.outcome.proofs.Range.{made-difference, made-difference-most}
 use Rattle.outcome.proofs.Exact.{zeros-meets-low, made-zeros}
 
@@ -96,15 +96,19 @@ module _ (m : Mask) (care : m .care % 2 ≡ 1) (value : m .value % 2 ≡ 0) wher
       high-back : Meets (n / 2) (high 1 m) → Meets ((n + 1) / 2) (high 1 (oneAbove m))
       high-back e = ap (λ (k : ℕ). bitAnd k (m .care / 2)) half ∙ e ∙ sym half-value
 
--- a mask that fixes the guard bits to 0 fixes the lowest one
-unguarded-care : (m : Mask) → Unguarded m → m .care % 2 ≡ 1
-unguarded-care m u = let e : m .care % 8 ≡ 7 = u .0 in omega (arith, e)
+-- the guard bits have the lowest one among them
+lowest-guard : (n r : ℕ) → n % 2 ^ guardBits ≡ r → n % 2 ≡ r % 2
+lowest-guard n r e = sym (mod-mod-pow n (guardBits - 1) 1) ∙ ap (λ (k : ℕ). k % 2) e
 
-unguarded-value : (m : Mask) → Unguarded m → m .value % 2 ≡ 0
-unguarded-value m u = let e : m .value % 8 ≡ 0 = u .1 in omega (arith, e)
+-- a mask that fixes them to 0 fixes that
+lowest-fixed : (m : Mask) → GuardsZero m → m .care % 2 ≡ 1
+lowest-fixed m u = lowest-guard (m .care) (2 ^ guardBits - 1) (u .0)
 
-unguarded-zeros : (m : Mask) → Unguarded m → (n : ℕ) → Meets n m → n % 2 ^ guardBits ≡ 0
-unguarded-zeros m u = zeros-meets-low guardBits m (low guardBits m) refl (u .1) (u .0)
+lowest-zero : (m : Mask) → GuardsZero m → m .value % 2 ≡ 0
+lowest-zero m u = lowest-guard (m .value) 0 (u .1)
+
+guards-zero : (m : Mask) → GuardsZero m → (n : ℕ) → Meets n m → n % 2 ^ guardBits ≡ 0
+guards-zero m u = zeros-meets-low guardBits m (low guardBits m) refl (u .1) (u .0)
 
 -- ---- the question
 
@@ -130,23 +134,12 @@ other-borrow H T i even =
     omega (arith, e, borrow-reversed H T (i + (1 + guardBits)))
 
 module _ (f : ℕ) (A : pair.Aligned) (formed : Formed f A) (most : columnsOf f < 64) (reversed : A .reversed ≡ true) (z : Mask) where
-  below : (n : ℕ) → n < 2 ^ columnsOf f → n < 2 ^ maskBits
-  below n h = lt-of-lt-of-le h (pow-mono {i = columnsOf f} {j = maskBits} (omega arith))
-
   even-tail : (T : ℕ) → Meets T (A .tail) → T % 2 ≡ 0
-  even-tail T met = let e : T % 8 ≡ 0 = unguarded-zeros (A .tail) (formed .reversed reversed .tail) T met in omega (arith, e)
+  even-tail T met = lowest-guard T 0 (guards-zero (A .tail) (formed .one-unit reversed .tail) T met)
 
   tail-above : (T : ℕ) → T % 2 ≡ 0 → Meets (T + 1) (oneAbove (A .tail)) ↔ Meets T (A .tail)
   tail-above =
-      above-meets (A .tail) (unguarded-care (A .tail) (formed .reversed reversed .tail)) (unguarded-value (A .tail) (formed .reversed reversed .tail))
-
-  -- the carries of the row
-  row-allowed : (H T i : ℕ) → allows (A .carries .care) (A .carries .value) i (borrow T H 0 (i + (1 + guardBits))) ≡ true
-      ↔ (allows (A .carries .care) (A .carries .value) i (rowCarry A H T (i + (1 + guardBits))) ≡ true)
-  row-allowed H T i = (λ e. subst at (sym reversed) e, λ e. subst at reversed e)
-    where
-      at : Bool → Type 0
-      at t = allows (A .carries .care) (A .carries .value) i (cond t (borrow T H 0 (i + (1 + guardBits))) (carryOf (not (A .like)) H T (i + (1 + guardBits)))) ≡ true
+      above-meets (A .tail) (lowest-fixed (A .tail) (formed .one-unit reversed .tail)) (lowest-zero (A .tail) (formed .one-unit reversed .tail))
 
   pub reversed-sound : (l t : ℕ) → Solved (reversedWires A (oneAbove (A .tail)) (raised (1 + guardBits) (opposite (A .carries))) z) (columnsOf f) l t → Making f A (λ (n : ℕ). Meets n z)
   reversed-sound l t s = record {
@@ -154,16 +147,16 @@ module _ (f : ℕ) (A : pair.Aligned) (formed : Formed f A) (most : columnsOf f 
     made = record {
       H = l;
       T = T;
-      head-lt = lt-of-le-of-lt (formed .head l (below l (s .l-lt)) (s .l-meets)) (most-aligned-lt f);
-      tail-lt = lt-of-le-of-lt (formed .tail T (below T (omega (arith, s .t-lt))) T-meets) (most-aligned-lt f);
+      head-lt = lt-of-le-of-lt (formed .head l (columns-below f most l (s .l-lt)) (s .l-meets)) (most-aligned-lt f);
+      tail-lt = lt-of-le-of-lt (formed .tail T (columns-below f most T (omega (arith, s .t-lt))) T-meets) (most-aligned-lt f);
       head-meets = s .l-meets;
       tail-meets = T-meets;
       ordered = λ e. omega (arith, s .ordered refl);
-      unequal = λ e. omega (arith, s .ordered refl, is);
-      carries-allow = λ i h. row-allowed l T i .0
+      less = λ e. omega (arith, s .ordered refl, is);
+      carries-allow = λ i h. row-allowed A true reversed l T (i + (1 + guardBits)) i .0
           (sym (allows-opposite (A .carries) (formed .carries .inside) i (borrow l t 0 (i + (1 + guardBits))) (borrow T l 0 (i + (1 + guardBits))) (one i))
           ∙ allows-back (1 + guardBits) (opposite (A .carries)) (carryOf true l t) i (s .carries-allow (i + (1 + guardBits)) (omega (arith, h))));
-      makes = ap (λ (b : Bool). Rattle.columns.specs.Carry.combined (not b) l T) (formed .reversed reversed .unlike);
+      makes = ap (λ (b : Bool). Rattle.columns.specs.Carry.combined (not b) l T) (formed .one-unit reversed .unlike);
     };
     holds = subst (λ (n : ℕ). Meets n z) again (s .z-meets);
   }
@@ -172,7 +165,7 @@ module _ (f : ℕ) (A : pair.Aligned) (formed : Formed f A) (most : columnsOf f 
       T = t - 1
 
       odd : t % 2 ≡ 1
-      odd = above-odd (A .tail) (unguarded-care (A .tail) (formed .reversed reversed .tail)) (unguarded-value (A .tail) (formed .reversed reversed .tail)) t (s .t-meets)
+      odd = above-odd (A .tail) (lowest-fixed (A .tail) (formed .one-unit reversed .tail)) (lowest-zero (A .tail) (formed .one-unit reversed .tail)) t (s .t-meets)
 
       is : t - 1 + 1 ≡ t
       is = omega (arith, odd)
@@ -200,11 +193,11 @@ module _ (f : ℕ) (A : pair.Aligned) (formed : Formed f A) (most : columnsOf f 
     l-meets = w .head-meets;
     t-meets = tail-above (w .T) even .1 (w .tail-meets);
     x-meets = and-zero-r (w .H - (w .T + 1));
-    z-meets = subst (λ (n : ℕ). Meets n z) (sym (made-difference f A (m .x) (m .made) (formed .reversed reversed .unlike)) ∙ again) (m .holds);
+    z-meets = subst (λ (n : ℕ). Meets n z) (sym (made-difference f A (m .x) (m .made) (formed .one-unit reversed .unlike)) ∙ again) (m .holds);
     carries-allow = λ i h. allows-moved (f + 1) (1 + guardBits) (opposite (A .carries)) (opposite-formed (f + 1) (A .carries) (formed .carries)) (carryOf true (w .H) (w .T + 1))
         (λ k l.
         allows-opposite (A .carries) (formed .carries .inside) k (borrow (w .H) (w .T + 1) 0 (k + (1 + guardBits))) (borrow (w .T) (w .H) 0 (k + (1 + guardBits))) (other-borrow (w .H) (w .T) k even)
-        ∙ row-allowed (w .H) (w .T) k .1 (w .carries-allow k l))
+        ∙ row-allowed A true reversed (w .H) (w .T) (k + (1 + guardBits)) k .1 (w .carries-allow k l))
         i;
   }
     where
@@ -212,7 +205,7 @@ module _ (f : ℕ) (A : pair.Aligned) (formed : Formed f A) (most : columnsOf f 
       w = m .made
 
       strict : m .made .T + 1 ≤ m .made .H
-      strict = omega (arith, m .made .unequal reversed)
+      strict = omega (arith, m .made .less reversed)
 
       again : m .made .H - m .made .T ≡ m .made .H - (m .made .T + 1) + 0 + 1
       again = omega (arith, strict)
@@ -223,28 +216,27 @@ module _ (f : ℕ) (A : pair.Aligned) (formed : Formed f A) (most : columnsOf f 
       wide : 2 ^ alignedBits f ≤ 2 ^ columnsOf f
       wide = pow-mono {i = alignedBits f} {j = columnsOf f} (omega arith)
 
--- an answer of the chain, where the carry mask is moved up above the guard bits unless that loses bits
-pub reversed-asked : (f : ℕ) (A : pair.Aligned) (tail over carries z : Mask) (r : Bool) → columnsOf f < 64
+-- the question as it is put, where the carry mask is moved up above the guard bits unless that loses bits
+pub reversed-asked : (f : ℕ) (A : pair.Aligned) (tail over carries z : Mask) → columnsOf f < 64
     → (A .tail .value % 2 ≡ 0 → tail ≡ oneAbove (A .tail)) → over ≡ opposite (A .carries)
     → (over .care < 2 ^ shortBits → over .value < 2 ^ shortBits → carries ≡ raised (1 + guardBits) over)
-    → (r ≡ true) ↔ Answered (reversedWires A tail carries z) (columnsOf f)
-    → A .reversed ≡ true → Formed f A → (r ≡ true) ↔ Making f A (λ (n : ℕ). Meets n z)
-reversed-asked f A tail over carries z r most above turned moved answer reversed formed = (
-  (λ e. let s = answer .0 e in reversed-sound f A formed most reversed z (s .l) (s .t) (rw (tail-is, carries-are) at (s .solved))),
-  λ m. answer .1 (record {
+    → A .reversed ≡ true → Formed f A → Answered (reversedWires A tail carries z) (columnsOf f) ↔ Making f A (λ (n : ℕ). Meets n z)
+reversed-asked f A tail over carries z most above turned moved reversed formed = (
+  (λ s. reversed-sound f A formed most reversed z (s .l) (s .t) (rw (tail-is, carries-are) at (s .solved))),
+  λ m. record {
     columns-lt = most;
     carry-lt = omega arith;
     l = m .made .H;
     t = m .made .T + 1;
     solved = rw (tail-is, carries-are) (reversed-complete f A formed most reversed z m);
-  }),
+  },
 )
   where
     short : 2 ^ (f + 1) ≤ 2 ^ shortBits
     short = pow-mono {i = f + 1} {j = shortBits} (omega arith)
 
     tail-is : tail ≡ oneAbove (A .tail)
-    tail-is = above (unguarded-value (A .tail) (formed .reversed reversed .tail))
+    tail-is = above (lowest-zero (A .tail) (formed .one-unit reversed .tail))
 
     own : WellFormed (f + 1) (opposite (A .carries))
     own = opposite-formed (f + 1) (A .carries) (formed .carries)
@@ -257,11 +249,11 @@ reversed-asked f A tail over carries z r most above turned moved answer reversed
 -- ---- such a difference is exact: it has only zeros where bits are rounded off
 pub reversed-zeros : (f : ℕ) (u : exponent.Unit) (A : pair.Aligned) (N : ℕ) → Formed f A → A .reversed ≡ true → (x : ℕ) → Made f A x → size x ≡ N → x % 2 ^ roundedBits f N u ≡ 0
 reversed-zeros f u A N formed reversed x made digits =
-    let one = formed .reversed reversed in
+    let one = formed .one-unit reversed in
     let most = made-difference-most f A x made (one .unlike) in
     let few : roundedBits f N u ≤ guardBits = omega (arith, most, digits) in
     let back : guardBits - roundedBits f N u + roundedBits f N u ≡ guardBits = omega (arith, few) in
-    let all : x % 2 ^ guardBits ≡ 0 = made-zeros A guardBits (unguarded-zeros (A .head) (one .head)) (unguarded-zeros (A .tail) (one .tail)) f x made in
+    let all : x % 2 ^ guardBits ≡ 0 = made-zeros A guardBits (guards-zero (A .head) (one .head)) (guards-zero (A .tail) (one .tail)) f x made in
     sym (mod-mod-pow x (guardBits - roundedBits f N u) (roundedBits f N u))
     ∙ ap (λ (k : ℕ). x % 2 ^ k % 2 ^ roundedBits f N u) back
     ∙ ap (λ (k : ℕ). k % 2 ^ roundedBits f N u) all

@@ -29,7 +29,7 @@ pub record Made (f : ℕ) (A : pair.Aligned) (x : ℕ) : Type 0 where
   pub head-meets : Meets H (A .head)
   pub tail-meets : Meets T (A .tail)
   pub ordered : A .like ≡ false → T ≤ H
-  pub unequal : A .reversed ≡ true → T < H
+  pub less : A .reversed ≡ true → T < H
   pub carries-allow : (i : ℕ) → i < f + 1 → allows (A .carries .care) (A .carries .value) i (rowCarry A H T (i + (1 + guardBits))) ≡ true
   pub makes : combined (not (A .like)) H T ≡ x
 
@@ -58,18 +58,18 @@ abbrev pub Bounded : ℕ → Mask → Type 0
 Bounded f m = (x : ℕ) → x < 2 ^ maskBits → Meets x m → x ≤ mostAligned f
 
 -- a mask that fixes the guard bits to 0
-abbrev pub Unguarded : Mask → Type 0
-Unguarded m = (low guardBits m .care ≡ 2 ^ guardBits - 1) × (low guardBits m .value ≡ 0)
+abbrev pub GuardsZero : Mask → Type 0
+GuardsZero m = (low guardBits m .care ≡ 2 ^ guardBits - 1) × (low guardBits m .value ≡ 0)
 
 -- unlike operands with one unit: nothing stands below their significands
 pub record OneUnit (A : pair.Aligned) : Type 0 where
   pub unlike : A .like ≡ false
-  pub head : Unguarded (A .head)
-  pub tail : Unguarded (A .tail)
+  pub head : GuardsZero (A .head)
+  pub tail : GuardsZero (A .tail)
 
--- the masks of two aligned significands are such, the carry mask has p bits, and only operands with one unit have a reversed row
+-- both masks are bounded, the carry mask has p bits, and only unlike operands with one unit have a reversed row
 pub record Formed (f : ℕ) (A : pair.Aligned) : Type 0 where
   pub head : Bounded f (A .head)
   pub tail : Bounded f (A .tail)
   pub carries : WellFormed (f + 1) (A .carries)
-  pub reversed : A .reversed ≡ true → OneUnit A
+  pub one-unit : A .reversed ≡ true → OneUnit A

@@ -1,5 +1,6 @@
 // Questions about what two aligned significands make, put to the chain of two adders.
 use crate::Aligned;
+use crate::masks::both;
 use crate::masks::one_above;
 use crate::masks::opposite;
 use crate::masks::raised;
@@ -13,7 +14,7 @@ use rounding::addend::constant;
 use rounding::width::COLUMNS;
 use rounding::width::GUARD_BITS;
 use word::Unit;
-ghost use mathlib.Core.Bool.{true, false};
+ghost use mathlib.Core.Bool.{true};
 ghost use mathlib.Core.Logic.{_↔_};
 ghost use mathlib.Core.Path.{_≡_};
 ghost use Prim.Native.Nat.{ℕ, _+_, _^_, _≤_, _<_};
@@ -23,40 +24,18 @@ ghost use Rattle.rounding.specs.declared.Direction.the-variants.{TowardZero};
 ghost use Rattle.rounding.specs.Rounding.{roundOff};
 ghost use Rattle.rounding.specs.Sticky.{keptPart};
 ghost use Rattle.rounding.specs.Width.{columnsOf, mostRounded, shortBits};
+ghost use Rattle.chain.specs.Chain.{Answered};
 ghost use Rattle.outcome.specs.Outcome.{Formed, Making};
 
-// Whether they make a number that meets x and, with a constant and a carry added, z, where the row is not reversed. The carry out of bit i of
-// the larger significand is the one into column i + 1 above the guard bits.
-fn ask_forward(aligned: Aligned, f: u64, x: Mask, z: Mask, constant: u64, carry: u64) -> bool
-    requires { ⌜ (columnsOf f < 64) × (constant < 2 ^ mostRounded) × (carry < 2) ⌝ }
-    ensures { λ r. ⌜ (aligned .reversed ≡ false → Formed f aligned → (r ≡ true) ↔ Making f aligned (λ (n : ℕ). Meets n x × Meets (n + constant + carry) z)) ⌝ }
-{
-    let head = aligned.head;
-    let tail = aligned.tail;
-    let carries = raised(aligned.carries, 1 + GUARD_BITS);
-    let wires = Wires {
-        subtract: !aligned.like,
-        l: head,
-        t: tail,
-        x,
-        z,
-        carries,
-        constant,
-        carry,
-    };
-    chain::possible(wires, f + COLUMNS)
-}
-
-// Whether they make a number that meets z, where the row is reversed. With T + 1 in T's place the first adder gives one less than they make,
-// and its borrows are the other ones of the row's; the second adder adds the one again.
-fn ask_reversed(aligned: Aligned, f: u64, z: Mask) -> bool
-    requires { ⌜ columnsOf f < 64 ⌝ }
-    ensures { λ r. ⌜ (aligned .reversed ≡ true → Formed f aligned → (r ≡ true) ↔ Making f aligned (λ (n : ℕ). Meets n z)) ⌝ }
+// The wires that ask whether they make a number that meets z, where the row is reversed. With T + 1 in T's place the first adder gives one
+// less than they make, and its borrows are the other ones of the row's; the second adder adds the one again.
+fn posed_reversed(aligned: Aligned, z: Mask) -> Wires
+    ensures { λ r. ⌜ ((f : ℕ) → columnsOf f < 64 → aligned .reversed ≡ true → Formed f aligned → Answered r (columnsOf f) ↔ Making f aligned (λ (n : ℕ). Meets n z)) ⌝ }
 {
     let head = aligned.head;
     let tail = one_above(aligned.tail);
     let carries = raised(opposite(aligned.carries), 1 + GUARD_BITS);
-    let wires = Wires {
+    Wires {
         subtract: true,
         l: head,
         t: tail,
@@ -65,19 +44,30 @@ fn ask_reversed(aligned: Aligned, f: u64, z: Mask) -> bool
         carries,
         constant: 0,
         carry: 1,
-    };
-    chain::possible(wires, f + COLUMNS)
+    }
 }
 
-// Whether they make a number that meets both masks, where the row is reversed.
-fn ask_both(aligned: Aligned, f: u64, x: Mask, z: Mask) -> bool
-    requires { ⌜ columnsOf f < 64 ⌝ }
-    ensures { λ r. ⌜ (aligned .reversed ≡ true → Formed f aligned → (r ≡ true) ↔ Making f aligned (λ (n : ℕ). Meets n x × Meets n z)) ⌝ }
+// The wires that ask whether they make a number that meets x and, with a constant and a carry added, z; where the row is reversed nothing
+// is added. The carry out of bit i of the larger significand is the one into column i + 1 above the guard bits.
+fn posed(aligned: Aligned, x: Mask, z: Mask, constant: u64, carry: u64) -> Wires
+    requires { ⌜ (constant < 2 ^ mostRounded) × (carry < 2) × (aligned .reversed ≡ true → constant + carry ≡ 0) ⌝ }
+    ensures { λ r. ⌜ ((f : ℕ) → columnsOf f < 64 → Formed f aligned → Answered r (columnsOf f) ↔ Making f aligned (λ (n : ℕ). Meets n x × Meets (n + constant + carry) z)) ⌝ }
 {
-    let joined = mask::join(x, z);
-    match joined {
-        Joined::Mask(m) => ask_reversed(aligned, f, m),
-        Joined::Refused(_) => false,
+    if aligned.reversed {
+        return posed_reversed(aligned, both(x, z));
+    }
+    let head = aligned.head;
+    let tail = aligned.tail;
+    let carries = raised(aligned.carries, 1 + GUARD_BITS);
+    Wires {
+        subtract: !aligned.like,
+        l: head,
+        t: tail,
+        x,
+        z,
+        carries,
+        constant,
+        carry,
     }
 }
 
@@ -86,11 +76,8 @@ pub(crate) fn ask(aligned: Aligned, f: u64, x: Mask, z: Mask, constant: u64, car
     requires { ⌜ (columnsOf f < 64) × (constant < 2 ^ mostRounded) × (carry < 2) × (aligned .reversed ≡ true → constant + carry ≡ 0) ⌝ }
     ensures { λ r. ⌜ (Formed f aligned → (r ≡ true) ↔ Making f aligned (λ (n : ℕ). Meets n x × Meets (n + constant + carry) z)) ⌝ }
 {
-    if aligned.reversed {
-        ask_both(aligned, f, x, z)
-    } else {
-        ask_forward(aligned, f, x, z, constant, carry)
-    }
+    let wires = posed(aligned, x, z, constant, carry);
+    chain::possible(wires, f + COLUMNS)
 }
 
 // The same for a number whose bit j, the last one kept, is `last`.

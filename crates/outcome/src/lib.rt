@@ -27,8 +27,8 @@ ghost use Rattle.rounding.specs.Outcome.{outcome};
 ghost use Rattle.outcome.specs.Outcome.{Made, Making, Admits, InFormat, Formed};
 ghost use Rattle.outcome.specs.Question.{mostDigits};
 
-// The masks of two aligned significands and of their carries; like tells whether they are added, reversed whether the carries are those of the
-// smaller one less the larger.
+// The masks of two aligned significands and of their carries; like tells whether they are added, reversed whether the carries are those
+// of the smaller one less the larger.
 pub struct Aligned {
     pub like: bool,
     pub reversed: bool,

@@ -1,6 +1,8 @@
 // The masks that a question is made of.
+use mask::Joined;
 use mask::Mask;
 ghost use mathlib.Core.Bool.{true};
+ghost use mathlib.Core.Logic.{_↔_};
 ghost use mathlib.Core.Path.{_≡_};
 ghost use Prim.Native.Nat.{ℕ, _+_, _%_, _^_, _≤_, _<_};
 ghost use Rattle.mask.specs.Mask.{Meets, raised};
@@ -15,6 +17,17 @@ pub(crate) fn raised(m: Mask, d: u64) -> Mask
     Mask {
         care: m.care << d,
         value: m.value << d,
+    }
+}
+
+// The mask of the numbers that meet both masks; one that no number meets where they clash.
+pub(crate) fn both(m: Mask, n: Mask) -> Mask
+    ensures { λ r. ⌜ ((x : ℕ) → Meets x r ↔ (Meets x m × Meets x n)) ⌝ }
+{
+    let joined = mask::join(m, n);
+    match joined {
+        Joined::Mask(whole) => whole,
+        Joined::Refused(_) => Mask { care: 0, value: 1 },
     }
 }
 

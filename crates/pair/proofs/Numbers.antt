@@ -20,7 +20,6 @@ use Rattle.job.specs.declared.Job.{Job}
 use Rattle.job.specs.Job.{Valid}
 use Rattle.columns.specs.Column.{allows}
 use Rattle.columns.proofs.Agree.{met-bits, met-whole}
-use Rattle.word.specs.declared.Finite as record-of
 use Rattle.word.specs.Word.{unitOf}
 use Rattle.word.specs.Operand.{magnitude, Canonical}
 use Rattle.rounding.specs.Sticky.{headAt, tailAt}
@@ -36,8 +35,8 @@ use Rattle.rounding.specs.Outcome.{outcome}
 use Rattle.pair.specs.declared.Side.{Side}
 use Rattle.pair.specs.Pair.{FiniteSide, significandsOf, gapOf, reversedOf, alignedOf, Larger, Sums}
 use Rattle.outcome.specs.Outcome.{rowCarry}
-use Rattle.adder.proofs.Aligned.{sum-exchanged, row-lt, tail-ordered, tail-below, sum-outcome}
-use Rattle.pair.proofs.Rows.{number, rowFrom, reversed-parts, made-row}
+use Rattle.adder.proofs.Aligned.{sum-exchanged, tail-ordered, tail-below, sum-outcome}
+use Rattle.pair.proofs.Rows.{number, rowFrom, reversed-parts, row-from-lt, made-row}
 
 -- a number of n bits meets a mask of n bits exactly when each of its bits is allowed
 meets-allowed : (n x : ℕ) (m : Mask) → WellFormed n m → x < 2 ^ n → Meets x m ↔ ((i : ℕ) → i < n → allows (m .care) (m .value) i (bit x i) ≡ true)
@@ -67,8 +66,8 @@ first-same : (s t : Bool) → s ≡ not t → (m n : ℕ) → cond t n m ≡ con
 first-same s true e m n = ap (λ (b : Bool). cond b m n) (sym e)
 first-same s false e m n = ap (λ (b : Bool). cond b m n) (sym e)
 
--- the sum and the row are those of the exchanged numbers
-exchange : (j : Job) (x y : Side) → x .first ≡ not (y .first) → Numbers j x y → Numbers j y x
+-- the same numbers in the other order: the sum stays, and the row is still that of a and b
+exchange : (j : Job) (x y : Side) → x .lhs ≡ not (y .lhs) → Numbers j x y → Numbers j y x
 exchange j x y other N =
     let F = j .setting .format in
     let X = number F x (N .p) in
@@ -80,7 +79,7 @@ exchange j x y other N =
       q-lt = N .p-lt;
       p-meets = N .q-meets;
       q-meets = N .p-meets;
-      row-meets = subst (λ (n : ℕ). Meets n (j .carries)) (first-same (x .first) (y .first) other (finiteRow F X Y) (finiteRow F Y X)) (N .row-meets);
+      row-meets = subst (λ (n : ℕ). Meets n (j .carries)) (first-same (x .lhs) (y .lhs) other (finiteRow F X Y) (finiteRow F Y X)) (N .row-meets);
       sum-meets = subst (λ (n : ℕ). Meets n (j .c .mask)) (sum-exchanged F (j .setting .mode) X Y) (N .sum-meets);
     }
 
@@ -100,14 +99,6 @@ module _ (j : Job) (valid : Valid j) (x y : Side) (fx : FiniteSide (j .setting .
   gap : ℕ
   gap = gapOf x y
 
-  -- the row of two numbers has p bits
-  row-short : (X Y : record-of.Finite) → rowFrom (j .setting .format) y X Y < 2 ^ precision (j .setting .format)
-  row-short X Y = go (y .first)
-    where
-      go : (t : Bool) → cond t (finiteRow (j .setting .format) Y X) (finiteRow (j .setting .format) X Y) < 2 ^ precision (j .setting .format)
-      go true = row-lt (j .setting .format) Y X
-      go false = row-lt (j .setting .format) X Y
-
   -- numbers of which y's is not the larger, and the smaller where the row is reversed
   larger-of : (N : Numbers j x y) → magnitude (number (j .setting .format) y (N .q)) ≤ magnitude (number (j .setting .format) x (N .p))
       → (reversedOf x y ≡ true → magnitude (number (j .setting .format) y (N .q)) < magnitude (number (j .setting .format) x (N .p))) → Larger j x y
@@ -124,7 +115,7 @@ module _ (j : Job) (valid : Valid j) (x y : Side) (fx : FiniteSide (j .setting .
       let hs = tail-sound (precision F) (significandsOf F x) 0 p-most (significand-formed (F .f) (x .fraction) f-most (fx .formed) (x .exponent)) (X .significand) (hm .1) (hm .0) in
       let ts = tail-sound (precision F) (significandsOf F y) gap p-most (significand-formed (F .f) (y .fraction) f-most (fy .formed) (y .exponent)) (Y .significand) (tm .1) (tm .0) in
       let zero = aligned-zero (X .significand) in
-      let row = meets-allowed (precision F) (rowFrom F y X Y) (j .carries) (valid .carries) (row-short X Y) .0 (N .row-meets) in (
+      let row = meets-allowed (precision F) (rowFrom F y X Y) (j .carries) (valid .carries) (row-from-lt F y X Y) .0 (N .row-meets) in (
         order,
         record {
           x = combined (not (eqb (x .sign) (y .sign))) (headAt guardBits (X .significand)) (tailAt guardBits (Y .significand) gap);
@@ -135,13 +126,13 @@ module _ (j : Job) (valid : Valid j) (x y : Side) (fx : FiniteSide (j .setting .
             tail-lt = subst (λ (n : ℕ). tailAt guardBits (Y .significand) gap < 2 ^ n) (aligned-width F) (ts .1);
             head-meets = rw zero at (hs .0);
             tail-meets = ts .0;
-            ordered = λ u. tail-ordered F ok X Y cx cy units guardBits guards .1 le;
-            unequal = λ r. tail-below F ok X Y cx cy units guardBits guards (less r);
+            ordered = λ u. tail-ordered F X Y units guardBits guards .1 le;
+            less = λ r. tail-below F X Y units guardBits guards (less r);
             carries-allow = λ i h.
-                subst (λ (b : ℕ). allows (j .carries .care) (j .carries .value) i b ≡ true) (made-row F ok (j .carries) x y (N .p) (N .q) cx cy order i h) (row i h);
+                subst (λ (b : ℕ). allows (j .carries .care) (j .carries .value) i b ≡ true) (made-row F (j .carries) x y (N .p) (N .q) order i h) (row i h);
             makes = refl;
           };
-          holds = subst (λ (w : ℕ). Meets w (j .c .mask)) (sum-outcome F ok X Y cx cy units (j .setting .mode) (λ u. le)) (N .sum-meets);
+          holds = subst (λ (w : ℕ). Meets w (j .c .mask)) (sum-outcome F X Y units ok cx cy (j .setting .mode) (λ u. le)) (N .sum-meets);
         },
       )
 
@@ -162,7 +153,7 @@ module _ (j : Job) (valid : Valid j) (x y : Side) (fx : FiniteSide (j .setting .
       let like = eqb (x .sign) (y .sign) in
       let H : headAt guardBits (X .significand) ≡ A .H = sym (aligned-zero (X .significand)) ∙ ap (λ (r : ℕ). tailAt guardBits r 0) (hm .3) ∙ hc .3 in
       let T : tailAt guardBits (Y .significand) gap ≡ A .T = ap (λ (r : ℕ). tailAt guardBits r gap) (tm .3) ∙ tc .3 in
-      let ordered : (eqb (x .sign) (y .sign) ≡ false → magnitude Y ≤ magnitude X) = λ u. tail-ordered F ok X Y cx cy units guardBits guards .0 (rw (H, T) (A .ordered u)) in
+      let ordered : (eqb (x .sign) (y .sign) ≡ false → magnitude Y ≤ magnitude X) = λ u. tail-ordered F X Y units guardBits guards .0 (rw (H, T) (A .ordered u)) in
       record {
         p = hm .0;
         q = tm .0;
@@ -170,19 +161,19 @@ module _ (j : Job) (valid : Valid j) (x y : Side) (fx : FiniteSide (j .setting .
         q-lt = tm .1;
         p-meets = hm .2;
         q-meets = tm .2;
-        row-meets = meets-allowed (precision F) (rowFrom F y X Y) (j .carries) (valid .carries) (row-short X Y) .1
+        row-meets = meets-allowed (precision F) (rowFrom F y X Y) (j .carries) (valid .carries) (row-from-lt F y X Y) .1
             (λ i h.
             subst (λ (b : ℕ). allows (j .carries .care) (j .carries .value) i b ≡ true)
-            (sym (made-row F ok (j .carries) x y (hm .0) (tm .0) cx cy order i h ∙ ap₂ (λ (a b : ℕ). rowCarry (alignedOf F (j .carries) x y) a b (i + (1 + guardBits))) H T)) (A .carries-allow i h));
+            (sym (made-row F (j .carries) x y (hm .0) (tm .0) order i h ∙ ap₂ (λ (a b : ℕ). rowCarry (alignedOf F (j .carries) x y) a b (i + (1 + guardBits))) H T)) (A .carries-allow i h));
         sum-meets = subst (λ (w : ℕ). Meets w (j .c .mask))
             (sym
-            (sum-outcome F ok X Y cx cy units (j .setting .mode) ordered
+            (sum-outcome F X Y units ok cx cy (j .setting .mode) ordered
             ∙ ap (outcome F (j .setting .mode) like (x .sign) (unitOf (x .exponent))) (ap₂ (combined (not like)) H T ∙ A .makes)))
             (admitted .holds);
       }
 
--- in either order: x is a's side, and y is b's
-pub sums-numbers : (j : Job) → Valid j → (x y : Side) → FiniteSide (j .setting .format) x → FiniteSide (j .setting .format) y → x .first ≡ true → y .first ≡ false
+-- whichever is the larger; x is a's side, and y is b's
+pub sums-numbers : (j : Job) → Valid j → (x y : Side) → FiniteSide (j .setting .format) x → FiniteSide (j .setting .format) y → x .lhs ≡ true → y .lhs ≡ false
     → Sums j x y ↔ Numbers j x y
 unfolding exchange
 sums-numbers j valid x y fx fy is-a is-b = (

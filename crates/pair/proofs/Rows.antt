@@ -1,25 +1,24 @@
--- The carry row of two finite numbers, of which x's has not the smaller exponent, from their aligned significands: by what carries from column
--- to column, or where it is reversed by the borrows of the difference the other way round. Assumes nothing.
+-- The carry row of two finite numbers, of which x's has not the smaller exponent, from their aligned significands: by what carries from
+-- column to column, or where it is reversed by the borrows of the difference the other way round. Assumes nothing.
 use mathlib.Core.Path.{_≡_, refl, sym, ap, ap₂, _∙_}
 use mathlib.Core.Bool.{Bool, true, false, not, cond, _&&_, and-eq-true-iff}
 use mathlib.Core.Logic.{inl, inr}
-use Prim.Native.Nat.{ℕ, _+_, _≤_, _<_}
+use Prim.Native.Nat.{ℕ, _+_, _^_, _≤_, _<_}
 use native.Mathlib.Decide.{ℕ-discrete}
 use native.Mathlib.Omega.{arith}
 use package.borrow.Author.Tests.{eqb-true, eqb-false, eq-eqb, ne-eqb, not-true}
 use lib.Dec.{eqb}
 use Rattle.bits.specs.Bit.{bit}
 use Rattle.format.specs.declared.Format.{Format}
-use Rattle.format.specs.Format.{Supported, precision}
+use Rattle.format.specs.Format.{precision}
 use Rattle.mask.specs.declared.Mask.{Mask}
 use Rattle.word.specs.declared.Finite as record-of
 use Rattle.word.specs.Word.{significand}
-use Rattle.word.specs.Operand.{Canonical}
 use Rattle.rounding.specs.Sticky.{headAt, tailAt}
 use Rattle.rounding.specs.Width.{guardBits}
 use Rattle.rounding.proofs.Widths.{guards}
 use Rattle.adder.specs.Row.{finiteRow}
-use Rattle.adder.proofs.Aligned.{row-exchanged, row-columns}
+use Rattle.adder.proofs.Aligned.{row-exchanged, row-lt, row-columns}
 use Rattle.columns.specs.Carry.{borrow, carryOf}
 use Rattle.significand.proofs.Tail.{aligned-zero}
 use Rattle.outcome.specs.Outcome.{rowCarry}
@@ -32,17 +31,32 @@ number F x t = record { sign = x .sign; exponent = x .exponent; significand = si
 
 -- the row of the numbers X and Y of two sides, of which y is Y's: that of a comes first
 abbrev pub rowFrom : Format → Side → record-of.Finite → record-of.Finite → ℕ
-rowFrom F y X Y = cond (y .first) (finiteRow F Y X) (finiteRow F X Y)
+rowFrom F y X Y = cond (y .lhs) (finiteRow F Y X) (finiteRow F X Y)
 
 -- where the row is reversed y is a, the exponents are equal and the signs unlike
-pub reversed-parts : (x y : Side) → reversedOf x y ≡ true → (y .first ≡ true) × (x .exponent .0 ≡ y .exponent .0) × (eqb (x .sign) (y .sign) ≡ false)
+pub reversed-parts : (x y : Side) → reversedOf x y ≡ true → (y .lhs ≡ true) × (x .exponent .0 ≡ y .exponent .0) × (eqb (x .sign) (y .sign) ≡ false)
 reversed-parts x y e =
-    let p = and-eq-true-iff (y .first) (eqb (x .exponent .0) (y .exponent .0) && not (eqb (x .sign) (y .sign))) .0 e in
+    let p = and-eq-true-iff (y .lhs) (eqb (x .exponent .0) (y .exponent .0) && not (eqb (x .sign) (y .sign))) .0 e in
     let q = and-eq-true-iff (eqb (x .exponent .0) (y .exponent .0)) (not (eqb (x .sign) (y .sign))) .0 (p .1) in
     (p .0, eqb-true (x .exponent .0) (y .exponent .0) (q .0), not-true (eqb (x .sign) (y .sign)) (q .1))
 
-module _ (F : Format) (ok : Supported F) (carries : Mask) (x y : Side) (p q : ℕ) (cx : Canonical F (number F x p)) (cy : Canonical F (number F y q)) (le : y .exponent .0 ≤ x .exponent .0)
-    (i : ℕ) (h : i < precision F) where
+-- so with unlike fields no row is
+pub forward-row : (x y : Side) → (x .exponent .0 ≡ y .exponent .0 → ⊥) → reversedOf x y ≡ false
+forward-row x y n = go (reversedOf x y) refl
+  where
+    go : (t : Bool) → reversedOf x y ≡ t → t ≡ false
+    go true e = absurd (n (reversed-parts x y e .1))
+    go false e = refl
+
+-- the row has p bits
+pub row-from-lt : (F : Format) (y : Side) (X Y : record-of.Finite) → rowFrom F y X Y < 2 ^ precision F
+row-from-lt F y X Y = go (y .lhs)
+  where
+    go : (t : Bool) → cond t (finiteRow F Y X) (finiteRow F X Y) < 2 ^ precision F
+    go true = row-lt F Y X
+    go false = row-lt F X Y
+
+module _ (F : Format) (carries : Mask) (x y : Side) (p q : ℕ) (le : y .exponent .0 ≤ x .exponent .0) (i : ℕ) (h : i < precision F) where
   abbrev H : ℕ
   H = headAt guardBits (significand (F .f) (x .exponent .0) p)
 
@@ -54,7 +68,7 @@ module _ (F : Format) (ok : Supported F) (carries : Mask) (x y : Side) (p q : �
 
   -- x is L
   forward : bit (finiteRow F (number F x p) (number F y q)) i ≡ carryOf (not (eqb (x .sign) (y .sign))) H T k
-  forward = row-columns F ok (number F x p) (number F y q) cx cy (omega (arith, le)) guardBits guards le i h
+  forward = row-columns F (number F x p) (number F y q) (omega (arith, le)) guardBits guards le i h
 
   -- y is a, and the exponents are equal
   equal : x .exponent .0 ≡ y .exponent .0 → (t : Bool) → eqb (x .sign) (y .sign) ≡ t
@@ -63,7 +77,7 @@ module _ (F : Format) (ok : Supported F) (carries : Mask) (x y : Side) (p q : �
       ap (λ (n : ℕ). bit n i) (row-exchanged F (number F y q) (number F x p) (inr (sym (eqb-true (x .sign) (y .sign) s))))
       ∙ forward ∙ ap (λ (t : Bool). carryOf (not t) H T k) s
   equal e false s =
-      row-columns F ok (number F y q) (number F x p) cy cx (omega (arith, e)) guardBits guards (omega (arith, e)) i h
+      row-columns F (number F y q) (number F x p) (omega (arith, e)) guardBits guards (omega (arith, e)) i h
       ∙ ap (λ (t : Bool). carryOf (not t) (headAt guardBits (number F y q .significand)) (tailAt guardBits (number F x p .significand) (gapOf y x)) k) (ne-eqb (y .sign) (x .sign) (λ n. eqb-false (x .sign) (y .sign) s (sym n)))
       ∙ ap₂ (λ (l r : ℕ). borrow l r 0 k)
       (sym (ap (tailAt guardBits (number F y q .significand)) (none-x) ∙ aligned-zero (number F y q .significand)))
@@ -75,12 +89,13 @@ module _ (F : Format) (ok : Supported F) (carries : Mask) (x y : Side) (p q : �
       none-y : gapOf y x ≡ 0
       none-y = omega (arith, e)
 
+  -- the row's bit i is the carry of the aligned significands above their guard bits
   pub made-row : bit (rowFrom F y (number F x p) (number F y q)) i ≡ rowCarry (alignedOf F carries x y) H T k
-  made-row = go (y .first) refl (ℕ-discrete (x .exponent .0) (y .exponent .0))
+  made-row = go (y .lhs) refl (ℕ-discrete (x .exponent .0) (y .exponent .0))
     where
-      go : (t : Bool) → y .first ≡ t → Dec (x .exponent .0 ≡ y .exponent .0)
-          → bit (cond (y .first) (finiteRow F (number F y q) (number F x p)) (finiteRow F (number F x p) (number F y q))) i
-          ≡ cond (y .first && (eqb (x .exponent .0) (y .exponent .0) && not (eqb (x .sign) (y .sign)))) (borrow T H 0 k) (carryOf (not (eqb (x .sign) (y .sign))) H T k)
+      go : (t : Bool) → y .lhs ≡ t → Dec (x .exponent .0 ≡ y .exponent .0)
+          → bit (cond (y .lhs) (finiteRow F (number F y q) (number F x p)) (finiteRow F (number F x p) (number F y q))) i
+          ≡ cond (y .lhs && (eqb (x .exponent .0) (y .exponent .0) && not (eqb (x .sign) (y .sign)))) (borrow T H 0 k) (carryOf (not (eqb (x .sign) (y .sign))) H T k)
       go false b e = rw b forward
       go true a (no n) =
           rw (a, ne-eqb (x .exponent .0) (y .exponent .0) n)

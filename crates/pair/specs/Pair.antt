@@ -34,7 +34,7 @@ gapOf x y = unitOf (x .exponent) .0 - unitOf (y .exponent) .0
 
 -- the row is that of y less x, the larger: y is a, the exponents are equal and the signs unlike (W-205)
 abbrev pub reversedOf : Side → Side → Bool
-reversedOf x y = y .first && (eqb (x .exponent .0) (y .exponent .0) && not (eqb (x .sign) (y .sign)))
+reversedOf x y = y .lhs && (eqb (x .exponent .0) (y .exponent .0) && not (eqb (x .sign) (y .sign)))
 
 -- the masks of two aligned significands, x's the larger
 abbrev pub alignedOf : Format → Mask → Side → Side → pair.Aligned
@@ -62,10 +62,10 @@ turned operation s = (s + operation) % 2
 
 -- the sides of a and of b, by the sign and the exponent field of the word
 abbrev pub sideA : Job → ℕ → Biased → Side
-sideA j s e = record { first = true; sign = s; exponent = e; fraction = fractionMask (j .setting .format) (j .a .mask) }
+sideA j s e = record { lhs = true; sign = s; exponent = e; fraction = fractionMask (j .setting .format) (j .a .mask) }
 
 abbrev pub sideB : Job → ℕ → Biased → Side
-sideB j s e = record { first = false; sign = turned (j .setting .operation) s; exponent = e; fraction = fractionMask (j .setting .format) (j .b .mask) }
+sideB j s e = record { lhs = false; sign = turned (j .setting .operation) s; exponent = e; fraction = fractionMask (j .setting .format) (j .b .mask) }
 
 -- the signs meet their masks, and the two sides sum as the job asks
 pub record Posed (j : Job) (ea eb : Biased) (sa sb : ℕ) : Type 0 where

@@ -27,7 +27,7 @@ ghost use Rattle.pair.specs.Pair.{FiniteSide, reversedOf, Larger, sideA,
 fn reversed(x: Side, y: Side) -> bool
     ensures { λ r. ⌜ r ≡ reversedOf x y ⌝ }
 {
-    y.first & ((x.exponent.0 == y.exponent.0) & (x.sign != y.sign))
+    y.lhs & ((x.exponent.0 == y.exponent.0) & (x.sign != y.sign))
 }
 
 // Whether two operands, x the larger, sum as the job asks.
@@ -71,7 +71,7 @@ fn side_a(job: Job, sign: u64, exponent: Biased) -> Side
 {
     let fraction = fraction_mask(job.setting.format, job.a.mask);
     Side {
-        first: true,
+        lhs: true,
         sign,
         exponent,
         fraction,
@@ -85,7 +85,7 @@ fn side_b(job: Job, sign: u64, exponent: Biased) -> Side
 {
     let fraction = fraction_mask(job.setting.format, job.b.mask);
     Side {
-        first: false,
+        lhs: false,
         sign: (sign + job.setting.operation % 2) % 2,
         exponent,
         fraction,

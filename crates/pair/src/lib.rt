@@ -15,10 +15,10 @@ ghost use mathlib.Core.Path.{_≡_};
 ghost use Rattle.job.specs.Job.{Valid};
 ghost use Rattle.special.specs.Asked.{InRange, PairFits};
 
-// What is asked of an operand whose sign, in the effective addition, and exponent field are known: its fraction meets a mask. The first
-// operand is a.
+// What is asked of an operand whose sign, in the effective addition, and exponent field are known: its fraction meets a mask.
+// The operand on the left-hand side is a.
 pub struct Side {
-    pub first: bool,
+    pub lhs: bool,
     pub sign: u64,
     pub exponent: Biased,
     pub fraction: Mask,

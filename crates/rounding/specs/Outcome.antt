@@ -1,4 +1,4 @@
--- The word c that two aligned significands make (document 01, "The rounded result"). The larger operand's significand L is held as
+-- The word c that two aligned significands make (document 01, "The rounded result"). The larger operand's significand is held as
 -- H, with the guard bits below it, and the smaller one's, aligned to it, as T with guard, round and sticky bit (`headAt` and `tailAt` of
 -- `Sticky`); what they make is held as x = H + T or H - T. No exponent field is named: only the exponent u of the larger operand's unit, on
 -- which c's exponent depends. Assumes nothing.

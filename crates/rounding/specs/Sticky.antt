@@ -23,11 +23,11 @@ withSticky Z u = Z / 2 ^ u * 2 + sticky (Z % 2 ^ u)
 abbrev pub guardedAt : ℕ → ℕ → ℕ
 guardedAt q m = 2 ^ (q - 1) * m
 
--- the larger operand's significand, with q bits below its last one
+-- a significand with q bits below its last one
 abbrev pub headAt : ℕ → ℕ → ℕ
 headAt q m = 2 ^ q * m
 
--- the smaller operand's, moved down by d places: of q bits below the larger one's last bit the lowest is the sticky bit
+-- another one's, moved down by d places: of q bits below the first one's last bit the lowest is the sticky bit
 abbrev pub tailAt : ℕ → ℕ → ℕ → ℕ
 tailAt q m d = withSticky (guardedAt q m) d
 
@@ -35,7 +35,8 @@ tailAt q m d = withSticky (guardedAt q m) d
 abbrev pub guarded : ℕ → ℕ
 guarded m = guardedAt guardBits m
 
--- x stands for the magnitude X: X in units of 2^u steps, and the guard bits of a result with L's exponent. Either nothing was dropped, or x
+-- x stands for the magnitude X: X in units of 2^u steps, and the guard bits of a result with the larger operand's exponent. Either
+-- nothing was dropped, or x
 -- has as many bits as p and the guard and the round bit make.
 pub record Held (F : Format) (X x u : ℕ) : Type 0 where
   pub stands : x ≡ withSticky (guarded X) u

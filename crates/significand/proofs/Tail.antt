@@ -156,8 +156,8 @@ module _ (p : ℕ) (m : Mask) (d : ℕ) (hp : p ≤ shortBits) (w : WellFormed p
   tail-most t h met = forms-most maskBits guardBits p m d guards (short-room p hp) w t h (rw tail-aligned at met)
 
 -- with no gap the guard bits are fixed to 0
-pub tail-whole : (p : ℕ) (m : Mask) → p ≤ shortBits → WellFormed p m → (low guardBits (tailMask p m 0) .care ≡ 2 ^ guardBits - 1) × (low guardBits (tailMask p m 0) .value ≡ 0)
-tail-whole p m hp w =
+pub tail-guards-zero : (p : ℕ) (m : Mask) → p ≤ shortBits → WellFormed p m → (low guardBits (tailMask p m 0) .care ≡ 2 ^ guardBits - 1) × (low guardBits (tailMask p m 0) .value ≡ 0)
+tail-guards-zero p m hp w =
     let l = aligned-zero (least m) in
     let g = aligned-zero (greatest p m) in
     let h = ends-lt maskBits guardBits p m 0 guards (short-room p hp) w in

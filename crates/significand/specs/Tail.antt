@@ -1,5 +1,5 @@
--- The mask on the aligned forms of all the significands that meet a mask. An aligned form is R "counted in L's unit" (document 01, "The
--- carry row") with some bits more, the last of them the sticky bit. A bit of the significand that rises from 0 to 1 makes no bit of the
+-- The mask on the aligned forms of all the significands that meet a mask. An aligned form is a significand counted in a unit that is no
+-- smaller than its own (document 01, "The carry row": "counted in L's unit"), with some bits more, the last of them the sticky bit. A bit of the significand that rises from 0 to 1 makes no bit of the
 -- aligned form fall, not the sticky bit either; so what is fixed is what the aligned forms of the least and of the greatest significand
 -- agree in. Assumes nothing.
 use mathlib.Core.Bool.{_&&_}

@@ -89,14 +89,10 @@ exponent-le F l r cl cr h = go (decLt (l .exponent .0) (r .exponent .0))
     go (yes e) = absurd (native.Mathlib.Nat.not-le-of-lt (magnitude-lt F l r cl cr e) h)
     go (no e) = omega arith
 
--- nor the larger unit
-pub unit-le : (F : Format) (l r : record-of.Finite) → Canonical F l → Canonical F r → magnitude r ≤ magnitude l → unitOf (r .exponent) .0 ≤ unitOf (l .exponent) .0
-unit-le F l r cl cr h = omega (arith, exponent-le F l r cl cr h)
-
--- the same of the units that the code holds
+-- nor the larger unit, as the code holds it
 pub gap-le : (F : Format) (l r : record-of.Finite) → Canonical F l → Canonical F r → magnitude r ≤ magnitude l
     → (p q : exponent.Unit) → p ≡ unitOf (l .exponent) → q ≡ unitOf (r .exponent) → q .0 ≤ p .0
 gap-le F l r cl cr le p q ep eq =
     let up : p .0 ≡ unitOf (l .exponent) .0 = ap (λ (n : exponent.Unit). n .0) ep in
     let vq : q .0 ≡ unitOf (r .exponent) .0 = ap (λ (n : exponent.Unit). n .0) eq in
-    omega (arith, unit-le F l r cl cr le)
+    omega (arith, exponent-le F l r cl cr le)

@@ -249,7 +249,7 @@ const KINDS_MEAN: &str = "Operation and mode of a job are random, but case 13 is
     its fraction are fixed. For overflow c is fixed to infinity, but for its sign, and so is a 0 of each \
     operand's exponent. Impossible only by c's exponent: this is fixed to another field than the \
     true case's, and about a quarter of a's and b's exponents is fixed; only by the carries: one is fixed \
-    to the other value than the true case's. Without that both have a case. With equal exponents these \
+    to the other value than the true case's. Without that both have a case. With equal exponents both \
     are fixed, and the effective signs of the true case are unlike. All else in these is half fixed.";
 
 /// What was linked: the library that the toolchain writes, or the file that a variable names.

@@ -192,12 +192,13 @@ fn generation(
     })
 }
 
-/// What makes a job of a format, operation and mode.
-type Make = fn(&mut Random, [u64; 4], u64) -> Job;
-
 /// The generator in every format of at most `WIDTH` bits, each operation and mode, with `each`
-/// jobs for each of them.
-fn small(random: &mut Random, each: u64, make: Make) -> Result<Tally, String> {
+/// jobs for each of them, made by their number.
+fn small(
+    random: &mut Random,
+    each: u64,
+    make: impl Fn(&mut Random, [u64; 4], u64) -> Job,
+) -> Result<Tally, String> {
     const WIDTH: u64 = 8;
     let mut tally = Tally::default();
     for (w, f) in (2..WIDTH).flat_map(|w| (2..WIDTH).map(move |f| (w, f))) {
@@ -227,7 +228,7 @@ pub fn small_generations(random: &mut Random, each: u64) -> Result<Tally, String
     })
 }
 
-/// Jobs with equal exponents and unlike effective signs.
+/// Jobs around a case with equal exponents and unlike effective signs; the exponents are fixed.
 pub fn small_opposed_generations(random: &mut Random, each: u64) -> Result<Tally, String> {
     small(random, each, |random, numbers, _| {
         let care = 8 * random.below(6);
@@ -271,9 +272,13 @@ pub fn sign_generations(random: &mut Random, each: u64) -> Result<Tally, String>
     Ok(tally)
 }
 
-/// The generator on `count` jobs of any format whose masks leave few bits free, and on damaged
-/// files.
-fn wide(random: &mut Random, count: u64, make: Make) -> Result<Tally, String> {
+/// The generator on `count` jobs of any format whose masks leave few bits free, made by how many of
+/// 64 bits are fixed, and on damaged files.
+fn wide(
+    random: &mut Random,
+    count: u64,
+    make: impl Fn(&mut Random, [u64; 4], u64) -> Job,
+) -> Result<Tally, String> {
     const FREE: u32 = 10;
     let mut tally = Tally::default();
     while tally.calls() < count {
@@ -300,7 +305,7 @@ pub fn wide_generations(random: &mut Random, count: u64) -> Result<Tally, String
     wide(random, count, job)
 }
 
-/// Jobs with equal exponents and unlike effective signs.
+/// Jobs around a case with equal exponents and unlike effective signs; the exponents are fixed.
 pub fn wide_opposed_generations(random: &mut Random, count: u64) -> Result<Tally, String> {
     wide(random, count, opposed_job)
 }

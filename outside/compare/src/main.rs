@@ -26,7 +26,8 @@ const PARTS: [(&str, Part, u64); 13] = [
         files::wide_generations,
         20_000,
     ),
-    // Equal exponents and unlike effective signs: 20,000 jobs, and as many of any format.
+    // Around cases with equal exponents and unlike effective signs: 20,000 jobs, and as many of any
+    // format.
     (
         "small formats, equal exponents",
         files::small_opposed_generations,

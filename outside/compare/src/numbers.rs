@@ -34,16 +34,19 @@ fn adders() -> impl Iterator<Item = [u64; 4]> {
     every_adder().into_iter().cycle()
 }
 
-/// A sum of the given format, operation and mode; one in six has a number or two that are not
-/// as they should be.
+/// A sum of the given format, operation and mode, perhaps damaged.
 fn sum(random: &mut Random, numbers: [u64; 4]) -> Sum {
     let [w, f, ..] = numbers;
     let format = Format::new(w, f).expect("within the limits");
     let operands = pair(random, format);
-    damaged_sum(random, numbers, operands)
+    perhaps_damaged_sum(random, numbers, operands)
 }
 
-fn damaged_sum(random: &mut Random, [w, f, operation, mode]: [u64; 4], (a, b): (u64, u64)) -> Sum {
+fn perhaps_damaged_sum(
+    random: &mut Random,
+    [w, f, operation, mode]: [u64; 4],
+    (a, b): (u64, u64),
+) -> Sum {
     let format = Format::new(w, f).expect("within the limits");
     let mut sum = Sum {
         w,
@@ -93,10 +96,11 @@ pub fn opposed_rows(random: &mut Random, count: u64) -> Result<Tally, String> {
         let [w, f, operation, mode] = numbers;
         let adder = Adder::new(w, f, operation, mode).expect("within the limits");
         let operands = opposed_pair(random, &adder);
-        damaged_sum(random, numbers, operands)
+        perhaps_damaged_sum(random, numbers, operands)
     })
 }
 
+/// The carry row, on `count` sums that are so made.
 fn each_row(
     random: &mut Random,
     count: u64,

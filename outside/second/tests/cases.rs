@@ -165,7 +165,8 @@ fn case_10_borrows() {
     assert_eq!(sum(1, 3, 0x30, 0x01), 0x2F);
 }
 
-/// Document 02, W-205: with equal exponents a is L, e = 0 among them; 0 and 1 are unlike ones.
+/// Document 02, W-205: with equal exponents a is L, e = 0 among them; e = 0 and e = 1 are not
+/// equal, though their units are.
 #[test]
 fn borrows_by_the_exponent() {
     let row = |a, b| carry_row(3, 4, 1, a, b);

@@ -187,8 +187,9 @@ fn rows_of_all_formats_ripple() {
 }
 
 /// What W-205 changed. With the operand of larger magnitude for L the row is another one exactly
-/// where the exponents are equal, the effective signs unlike and a's magnitude the smaller. And it
-/// matters which operand is a exactly where two such magnitudes are unequal.
+/// where the exponents are equal, the effective signs unlike and a's magnitude the smaller. Which
+/// operand is a matters exactly where the exponents are equal, the effective signs unlike and the
+/// magnitudes unequal.
 #[test]
 fn rows_go_by_the_exponent_alone() {
     for (w, f) in SMALL {
@@ -208,17 +209,17 @@ fn rows_go_by_the_exponent_alone() {
             } else {
                 passed_on(&adder, x, y)
             };
-            let apart = x.biased_exponent != y.biased_exponent || x.negative == y.negative;
+            let either_order = x.biased_exponent != y.biased_exponent || x.negative == y.negative;
             let unchanged = row(a, b) == by_magnitude;
-            assert_eq!(unchanged, apart || x.magnitude >= y.magnitude);
-            let exchanged = row(a, b) == row(b, a);
-            assert_eq!(exchanged, apart || x.magnitude == y.magnitude);
+            assert_eq!(unchanged, either_order || x.magnitude >= y.magnitude);
+            let same_exchanged = row(a, b) == row(b, a);
+            assert_eq!(same_exchanged, either_order || x.magnitude == y.magnitude);
         }
     }
 }
 
 /// Exchanging the operands of an addition, and turning a sum into a difference with the
-/// sign of b flipped, change nothing. Both follow from the papers in every format.
+/// sign of b flipped, leave the rounded result as it is. Both follow from the papers in every format.
 #[test]
 fn exchange_and_flip_in_all_formats() {
     let mut random = Random::new(0x0E0F);

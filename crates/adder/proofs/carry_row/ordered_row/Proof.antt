@@ -1,4 +1,5 @@
--- `adder::carry_row::ordered_row` meets its contract: each position of the aligned significands is one of the row (proofs/RowBit). Assumes nothing.
+-- `adder::carry_row::ordered_row` meets its contract: each position of the aligned significands is one of the row (proofs/RowBit).
+-- Assumes nothing.
 use mathlib.Core.Path.{_≡_, sym, ap, ap₂, _∙_, fun-ext}
 use Prim.Native.Nat.{ℕ, _+_, _-_}
 use native.Mathlib.Nat.{lt-of-lt-of-le, lt-of-le-of-lt}
@@ -23,15 +24,10 @@ unit-of-requires c κs = search needs
 unit-of-requires-2 : tie.Need-unit-of-requires-2
 unit-of-requires-2 c κs = search needs
 
--- the exponent that a unit holds
-at : exponent.Unit → ℕ
-at u = u .0
-
 sub-gap : tie.Need-sub-gap
-unfolding at
 sub-gap c =
     let s = c .before .before .before .before in
-    omega (arith, s .pre .3, ap at (c .before .before .before .unit-of .ensures), ap at (c .before .before .unit-of2 .ensures))
+    omega (arith, s .pre .3, ap (λ (n : exponent.Unit). n .0) (c .before .before .before .unit-of .ensures), ap (λ (n : exponent.Unit). n .0) (c .before .before .unit-of2 .ensures))
 
 high-requires : tie.Need-high-requires
 high-requires c κs = search needs
@@ -53,7 +49,6 @@ gathered-requires c κs =
     (omega arith, lt-of-lt-of-le (s .pre .1 .significand-lt) b, rw (c .before .before .before .before .before .high .ensures) (lt-of-le-of-lt (shr-le (s .args .r .significand) (c .before .before .before .before .before .before .before .before .before .unit-of .result .0 - c .before .before .before .before .before .before .before .before .unit-of2 .result .0)) (lt-of-lt-of-le (s .pre .2 .significand-lt) b)), rw (c .before .before .before .sticky .ensures) (sticky-lt (c .before .before .before .before .low .result)))
 
 returns : tie.Need-returns
-unfolding at
 returns c =
     let s = c .before .before .before .before .before .before .before .before .before .before .before in
     let F = s .args .format in
@@ -63,8 +58,8 @@ returns c =
     let q = c .before .before .before .before .before .before .before .before .before .unit-of2 in
     let d = p .result .0 - q .result .0 in
     let like = eqb (l .sign) (r .sign) in
-    let up : p .result .0 ≡ unitOf (l .exponent) .0 = ap at (p .ensures) in
-    let vq : q .result .0 ≡ unitOf (r .exponent) .0 = ap at (q .ensures) in
+    let up : p .result .0 ≡ unitOf (l .exponent) .0 = ap (λ (n : exponent.Unit). n .0) (p .ensures) in
+    let vq : q .result .0 ≡ unitOf (r .exponent) .0 = ap (λ (n : exponent.Unit). n .0) (q .ensures) in
     let units : d + unitOf (r .exponent) .0 ≡ unitOf (l .exponent) .0 = omega (arith, s .pre .3) in
     c .gathered .ensures
     ∙ ap₂ (λ (w t : ℕ). gather (precision F) (carryIn like (l .significand) w t)) (c .before .before .before .before .before .before .high .ensures) (c .before .before .before .before .sticky .ensures ∙ ap sticky (c .before .before .before .before .before .low .ensures))

@@ -43,8 +43,8 @@ unfolding roundingCarry
 none-carried zero last = refl
 none-carried (suc j) last = refl
 
-nothing-added : (d : Direction) (j : ℕ) → j ≤ mostRounded → (k c last : ℕ) → (j < 64 → k ≡ roundingConstant d j) → c ≡ roundingCarry d j last → d ≡ TowardZero → k + c ≡ 0
-nothing-added d j l k c last ek ec e =
+toward-zero-adds-none : (d : Direction) (j : ℕ) → j ≤ mostRounded → (k c last : ℕ) → (j < 64 → k ≡ roundingConstant d j) → c ≡ roundingCarry d j last → d ≡ TowardZero → k + c ≡ 0
+toward-zero-adds-none d j l k c last ek ec e =
     ap₂ _+_ (ek (omega arith) ∙ ap (λ (w : Direction). roundingConstant w j) e ∙ none-added j) (ec ∙ ap (λ (w : Direction). roundingCarry w j last) e ∙ none-carried j last)
 
 module _ (f : ℕ) (A : pair.Aligned) (x y z : Mask) (d : Direction) (j k even odd : ℕ) (moved : z ≡ raised j y) (ek : k ≡ roundingConstant d j)
@@ -108,7 +108,7 @@ ask-requires : tie.Need-ask-requires
 ask-requires c κs =
     let s = c .before .before .before .before .before in
     let a = s .args in
-    (s .pre .0, constant-small (a .direction) (a .j) (s .pre .1) (c .before .before .before .constant .result) (c .before .before .before .constant .ensures .0), carry-small (a .direction) (a .j) (s .pre .1) (c .before .before .carry .result) 0 (omega arith) (c .before .before .carry .ensures), λ r. nothing-added (a .direction) (a .j) (s .pre .1) (c .before .before .before .constant .result) (c .before .before .carry .result) 0 (c .before .before .before .constant .ensures .0) (c .before .before .carry .ensures) (s .pre .4 r))
+    (s .pre .0, constant-small (a .direction) (a .j) (s .pre .1) (c .before .before .before .constant .result) (c .before .before .before .constant .ensures .0), carry-small (a .direction) (a .j) (s .pre .1) (c .before .before .carry .result) 0 (omega arith) (c .before .before .carry .ensures), λ r. toward-zero-adds-none (a .direction) (a .j) (s .pre .1) (c .before .before .before .constant .result) (c .before .before .carry .result) 0 (c .before .before .before .constant .ensures .0) (c .before .before .carry .ensures) (s .pre .4 r))
 
 returns : tie.Need-returns
 returns c =
@@ -128,7 +128,7 @@ ask-last-requires c κs =
       omega arith,
       constant-small (a .direction) (a .j) (s .pre .1) (c .before .before .before .constant .result) (c .before .before .before .constant .ensures .0),
       carry-small (a .direction) (a .j) (s .pre .1) (c .before .before .carry .result) 0 (omega arith) (c .before .before .carry .ensures),
-      λ r. nothing-added (a .direction) (a .j) (s .pre .1) (c .before .before .before .constant .result) (c .before .before .carry .result) 0 (c .before .before .before .constant .ensures .0) (c .before .before .carry .ensures) (s .pre .4 r),
+      λ r. toward-zero-adds-none (a .direction) (a .j) (s .pre .1) (c .before .before .before .constant .result) (c .before .before .carry .result) 0 (c .before .before .before .constant .ensures .0) (c .before .before .carry .ensures) (s .pre .4 r),
     )
 
 returns-2 : tie.Need-returns-2
@@ -149,7 +149,7 @@ ask-last-requires-2 c κs =
       omega arith,
       constant-small (a .direction) (a .j) (s .pre .1) (c .before .before .before .before .before .constant .result) (c .before .before .before .before .before .constant .ensures .0),
       carry-small (a .direction) (a .j) (s .pre .1) (c .before .before .before .carry2 .result) 1 (omega arith) (c .before .before .before .carry2 .ensures),
-      λ r. nothing-added (a .direction) (a .j) (s .pre .1) (c .before .before .before .before .before .constant .result) (c .before .before .before .carry2 .result) 1 (c .before .before .before .before .before .constant .ensures .0) (c .before .before .before .carry2 .ensures) (s .pre .4 r),
+      λ r. toward-zero-adds-none (a .direction) (a .j) (s .pre .1) (c .before .before .before .before .before .constant .result) (c .before .before .before .carry2 .result) 1 (c .before .before .before .before .before .constant .ensures .0) (c .before .before .before .carry2 .ensures) (s .pre .4 r),
     )
 
 returns-3 : tie.Need-returns-3

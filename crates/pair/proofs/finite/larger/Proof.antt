@@ -15,9 +15,9 @@ use Rattle.word.specs.declared.Unit as exponent
 use Rattle.word.specs.Word.{unitOf}
 use Rattle.significand.specs.Tail.{tailMask}
 use Rattle.significand.proofs.Significand.{significand-formed}
-use Rattle.significand.proofs.Tail.{tail-most, tail-whole}
+use Rattle.significand.proofs.Tail.{tail-most, tail-guards-zero}
 use Rattle.outcome.specs.declared.Aligned as pair
-use Rattle.outcome.specs.Outcome.{Bounded, Unguarded, Admits, InFormat, Formed}
+use Rattle.outcome.specs.Outcome.{Bounded, GuardsZero, Admits, InFormat, Formed}
 use Rattle.pair.specs.declared.Side.{Side}
 use Rattle.pair.specs.Pair.{FiniteSide, significandsOf, gapOf, reversedOf, alignedOf}
 use Rattle.pair.proofs.Rows.{reversed-parts}
@@ -44,15 +44,15 @@ formed F ok carries fr x y fx fy = record {
   head = bounded x fx 0;
   tail = bounded y fy (gapOf x y);
   carries = fr;
-  reversed = λ r.
+  one-unit = λ r.
       let parts = reversed-parts x y r in
       let none : 0 ≡ gapOf x y = omega (arith, parts .1) in
-      record { unlike = parts .2; head = unguarded x fx; tail = subst (λ (d : ℕ). Unguarded (tailMask (precision F) (significandsOf F y) d)) none (unguarded y fy) };
+      record { unlike = parts .2; head = guards-zero x fx; tail = subst (λ (d : ℕ). GuardsZero (tailMask (precision F) (significandsOf F y) d)) none (guards-zero y fy) };
 }
   where
-    unguarded : (z : Side) → FiniteSide F z → Unguarded (tailMask (precision F) (significandsOf F z) 0)
-    unguarded z fz =
-        tail-whole (precision F) (significandsOf F z) (omega (arith, significand-room F ok)) (significand-formed (F .f) (z .fraction) (omega (arith, significand-room F ok)) (fz .formed) (z .exponent))
+    guards-zero : (z : Side) → FiniteSide F z → GuardsZero (tailMask (precision F) (significandsOf F z) 0)
+    guards-zero z fz =
+        tail-guards-zero (precision F) (significandsOf F z) (omega (arith, significand-room F ok)) (significand-formed (F .f) (z .fraction) (omega (arith, significand-room F ok)) (fz .formed) (z .exponent))
 
     bounded : (z : Side) → FiniteSide F z → (d : ℕ) → Bounded (F .f) (tailMask (precision F) (significandsOf F z) d)
     bounded z fz d =

@@ -16,7 +16,7 @@ returns c =
     ap of (c .fraction-mask .ensures)
   where
     of : Mask → Side
-    of m = record { first = true; sign = c .before .args .sign; exponent = c .before .args .exponent; fraction = m }
+    of m = record { lhs = true; sign = c .before .args .sign; exponent = c .before .args .exponent; fraction = m }
 
 pub side-a-spec : {M : Type 1} → statement M
 side-a-spec =

@@ -23,7 +23,7 @@ returns c =
     ap₂ of turn (c .before .fraction-mask .ensures)
   where
     of : ℕ → Mask → Side
-    of s m = record { first = false; sign = s; exponent = c .before .before .args .exponent; fraction = m }
+    of s m = record { lhs = false; sign = s; exponent = c .before .before .args .exponent; fraction = m }
 
 pub side-b-spec : {M : Type 1} → statement M
 side-b-spec =
