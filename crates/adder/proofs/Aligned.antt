@@ -99,7 +99,7 @@ module _ (F : Format) (x y : record-of.Finite) (units : unitOf (y .exponent) .0 
   unfolding u v d
   tail-ordered q some = align.tail-ordered q some (x .significand) (y .significand) u v d gap
 
-  -- and unequal where these are
+  -- and strictly so where these are
   pub tail-below : (q : ℕ) → 0 < q → magnitude y < magnitude x → tailOf q < headOf q
   unfolding u v d
   tail-below q some l =

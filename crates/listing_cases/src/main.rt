@@ -17,8 +17,8 @@ fn lengths() {
     list(b"65,537 bytes\n", &long);
 }
 
-// Jobs that are listed: positive operands with a negative sum, and then any case; infinite operands, which have no row; a tie in mode 4; and
-// the borrows of equal exponents, 30 - 31.
+// Jobs that are listed: positive operands with a negative sum, and then any case; infinite operands, which have no row; a tie in mode 4;
+// and the borrows of equal exponents, 30 - 31.
 fn listed() {
     list(
         b"none, then found\n",

@@ -29,7 +29,7 @@ ghost use Rattle.outcome.specs.Outcome.{Formed, Making};
 
 // The wires that ask whether they make a number that meets z, where the row is reversed. With T + 1 in T's place the first adder gives one
 // less than they make, and its borrows are the other ones of the row's; the second adder adds the one again.
-fn posed_reversed(aligned: Aligned, z: Mask) -> Wires
+fn reversed_wires(aligned: Aligned, z: Mask) -> Wires
     ensures { λ r. ⌜ ((f : ℕ) → columnsOf f < 64 → aligned .reversed ≡ true → Formed f aligned → Answered r (columnsOf f) ↔ Making f aligned (λ (n : ℕ). Meets n z)) ⌝ }
 {
     let head = aligned.head;
@@ -49,12 +49,12 @@ fn posed_reversed(aligned: Aligned, z: Mask) -> Wires
 
 // The wires that ask whether they make a number that meets x and, with a constant and a carry added, z; where the row is reversed nothing
 // is added. The carry out of bit i of the larger significand is the one into column i + 1 above the guard bits.
-fn posed(aligned: Aligned, x: Mask, z: Mask, constant: u64, carry: u64) -> Wires
+fn wires_of(aligned: Aligned, x: Mask, z: Mask, constant: u64, carry: u64) -> Wires
     requires { ⌜ (constant < 2 ^ mostRounded) × (carry < 2) × (aligned .reversed ≡ true → constant + carry ≡ 0) ⌝ }
     ensures { λ r. ⌜ ((f : ℕ) → columnsOf f < 64 → Formed f aligned → Answered r (columnsOf f) ↔ Making f aligned (λ (n : ℕ). Meets n x × Meets (n + constant + carry) z)) ⌝ }
 {
     if aligned.reversed {
-        return posed_reversed(aligned, both(x, z));
+        return reversed_wires(aligned, both(x, z));
     }
     let head = aligned.head;
     let tail = aligned.tail;
@@ -76,7 +76,7 @@ pub(crate) fn ask(aligned: Aligned, f: u64, x: Mask, z: Mask, constant: u64, car
     requires { ⌜ (columnsOf f < 64) × (constant < 2 ^ mostRounded) × (carry < 2) × (aligned .reversed ≡ true → constant + carry ≡ 0) ⌝ }
     ensures { λ r. ⌜ (Formed f aligned → (r ≡ true) ↔ Making f aligned (λ (n : ℕ). Meets n x × Meets (n + constant + carry) z)) ⌝ }
 {
-    let wires = posed(aligned, x, z, constant, carry);
+    let wires = wires_of(aligned, x, z, constant, carry);
     chain::possible(wires, f + COLUMNS)
 }
 

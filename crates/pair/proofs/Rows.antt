@@ -80,8 +80,8 @@ module _ (F : Format) (carries : Mask) (x y : Side) (p q : ℕ) (le : y .exponen
       row-columns F (number F y q) (number F x p) (omega (arith, e)) guardBits guards (omega (arith, e)) i h
       ∙ ap (λ (t : Bool). carryOf (not t) (headAt guardBits (number F y q .significand)) (tailAt guardBits (number F x p .significand) (gapOf y x)) k) (ne-eqb (y .sign) (x .sign) (λ n. eqb-false (x .sign) (y .sign) s (sym n)))
       ∙ ap₂ (λ (l r : ℕ). borrow l r 0 k)
-      (sym (ap (tailAt guardBits (number F y q .significand)) (none-x) ∙ aligned-zero (number F y q .significand)))
-      (ap (tailAt guardBits (number F x p .significand)) (none-y) ∙ aligned-zero (number F x p .significand))
+      (sym (ap (tailAt guardBits (number F y q .significand)) none-x ∙ aligned-zero (number F y q .significand)))
+      (ap (tailAt guardBits (number F x p .significand)) none-y ∙ aligned-zero (number F x p .significand))
     where
       none-x : gapOf x y ≡ 0
       none-x = omega (arith, e)

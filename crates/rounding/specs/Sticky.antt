@@ -36,8 +36,7 @@ abbrev pub guarded : ℕ → ℕ
 guarded m = guardedAt guardBits m
 
 -- x stands for the magnitude X: X in units of 2^u steps, and the guard bits of a result with the larger operand's exponent. Either
--- nothing was dropped, or x
--- has as many bits as p and the guard and the round bit make.
+-- nothing was dropped, or x has as many bits as p and the guard and the round bit make.
 pub record Held (F : Format) (X x u : ℕ) : Type 0 where
   pub stands : x ≡ withSticky (guarded X) u
   pub exact-or-long : (guarded X % 2 ^ u ≡ 0) ⊎ (2 ^ smallBits (F .f) ≤ x)

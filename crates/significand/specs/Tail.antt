@@ -1,7 +1,7 @@
 -- The mask on the aligned forms of all the significands that meet a mask. An aligned form is a significand counted in a unit that is no
--- smaller than its own (document 01, "The carry row": "counted in L's unit"), with some bits more, the last of them the sticky bit. A bit of the significand that rises from 0 to 1 makes no bit of the
--- aligned form fall, not the sticky bit either; so what is fixed is what the aligned forms of the least and of the greatest significand
--- agree in. Assumes nothing.
+-- smaller than its own (document 01, "The carry row": "counted in L's unit"), with some bits more, the last of them the sticky bit. A bit
+-- of the significand that rises from 0 to 1 makes no bit of the aligned form fall, not the sticky bit either; so what is fixed is what the
+-- aligned forms of the least and of the greatest significand agree in. Assumes nothing.
 use mathlib.Core.Bool.{_&&_}
 use Prim.Native.Nat.{ℕ, _+_, _-_, _^_}
 use lib.Dec.{leb}

@@ -42,6 +42,7 @@ fn sum(random: &mut Random, numbers: [u64; 4]) -> Sum {
     perhaps_damaged_sum(random, numbers, operands)
 }
 
+/// The sum of two operands; one in six has a number or two that are not as they should be.
 fn perhaps_damaged_sum(
     random: &mut Random,
     [w, f, operation, mode]: [u64; 4],

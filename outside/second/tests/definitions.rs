@@ -219,7 +219,8 @@ fn rows_go_by_the_exponent_alone() {
 }
 
 /// Exchanging the operands of an addition, and turning a sum into a difference with the
-/// sign of b flipped, leave the rounded result as it is. Both follow from the papers in every format.
+/// sign of b flipped, leave the rounded result as it is. Both follow from the papers in every
+/// format.
 #[test]
 fn exchange_and_flip_in_all_formats() {
     let mut random = Random::new(0x0E0F);

@@ -1,8 +1,8 @@
--- `outcome::ask::posed_reversed` meets its contract. Assumes nothing.
+-- `outcome::ask::reversed_wires` meets its contract. Assumes nothing.
 use Rattle.outcome.proofs.Reversed.{reversed-asked}
 use borrow.Author.Needs.{needs}
-use Rattle.outcome.proofs.ask.posed_reversed.Statement.{statement}
-use Rattle.outcome.proofs.ask.posed_reversed.Tie as tie
+use Rattle.outcome.proofs.ask.reversed_wires.Statement.{statement}
+use Rattle.outcome.proofs.ask.reversed_wires.Tie as tie
 
 one-above-requires : tie.Need-one-above-requires
 one-above-requires c κs = search needs
@@ -23,5 +23,5 @@ returns c =
     let over = c .before .opposite in
     λ f most. reversed-asked f (a .aligned) (up .result) (over .result) (c .raised .result) (a .z) most (up .ensures) (over .ensures) (c .raised .ensures)
 
-pub posed-reversed-spec : {M : Type 1} → statement M
-posed-reversed-spec = tie.close (tie.spec one-above-requires opposite-requires add-raised raised-requires returns)
+pub reversed-wires-spec : {M : Type 1} → statement M
+reversed-wires-spec = tie.close (tie.spec one-above-requires opposite-requires add-raised raised-requires returns)

@@ -1,4 +1,4 @@
--- `outcome::ask::posed` meets its contract; where the row is reversed nothing is added, so both masks are those of one number.
+-- `outcome::ask::wires_of` meets its contract; where the row is reversed nothing is added, so both masks are those of one number.
 -- Assumes nothing.
 use mathlib.Core.Logic.{_↔_}
 use mathlib.Core.Path.{_≡_, sym, subst}
@@ -11,8 +11,8 @@ use Rattle.outcome.specs.Outcome.{Making}
 use Rattle.outcome.proofs.Making.{making-map}
 use Rattle.outcome.proofs.Asked.{asked}
 use borrow.Author.Needs.{needs}
-use Rattle.outcome.proofs.ask.posed.Statement.{statement}
-use Rattle.outcome.proofs.ask.posed.Tie as tie
+use Rattle.outcome.proofs.ask.wires_of.Statement.{statement}
+use Rattle.outcome.proofs.ask.wires_of.Tie as tie
 
 module _ (f : ℕ) (A : pair.Aligned) (x z m : Mask) (constant carry : ℕ) (none : constant + carry ≡ 0) (both : (n : ℕ) → Meets n m ↔ (Meets n x × Meets n z)) where
   same : (n : ℕ) → n ≡ n + constant + carry
@@ -31,8 +31,8 @@ module _ (f : ℕ) (A : pair.Aligned) (x z m : Mask) (constant carry : ℕ) (non
 both-requires : tie.Need-both-requires
 both-requires c κs = search needs
 
-posed-reversed-requires : tie.Need-posed-reversed-requires
-posed-reversed-requires c κs = search needs
+reversed-wires-requires : tie.Need-reversed-wires-requires
+reversed-wires-requires c κs = search needs
 
 returns : tie.Need-returns
 returns c =
@@ -42,7 +42,7 @@ returns c =
     let none = s .pre .2 reversed in
     let m = c .before .both in
     λ f most formed.
-    let w = c .posed-reversed .ensures f most reversed formed in
+    let w = c .reversed-wires .ensures f most reversed formed in
     (λ e. apart f (a .aligned) (a .x) (a .z) (m .result) (a .constant) (a .carry) none (m .ensures) (w .0 e), λ p. w .1 (together f (a .aligned) (a .x) (a .z) (m .result) (a .constant) (a .carry) none (m .ensures) p))
 
 add-raised : tie.Need-add-raised
@@ -58,5 +58,5 @@ returns-2 c =
     let k = c .before .raised in
     λ f most. asked f (a .aligned) (k .result) (a .x) (a .z) (a .constant) (a .carry) most (s .pre .0, s .pre .1) (k .ensures) (c .before .before .before .before .if1 .left)
 
-pub posed-spec : {M : Type 1} → statement M
-posed-spec = tie.close (tie.spec both-requires posed-reversed-requires returns add-raised raised-requires returns-2)
+pub wires-of-spec : {M : Type 1} → statement M
+wires-of-spec = tie.close (tie.spec both-requires reversed-wires-requires returns add-raised raised-requires returns-2)
