@@ -16,6 +16,13 @@
  * zero. A mask is two words: care, with a 1 for each fixed bit, and value, with the fixed bits.
  * The masks of a, b and c have w + f + 1 bits, and the carry mask has f + 1. In a job record every
  * word, of a carry mask too, has 4 bytes where w + f + 1 is at most 32, else 8.
+ *
+ * The bits below the last: an exact result of finite operands, at least the smallest normal number
+ * in magnitude, is a leading 1, f fraction bits, g dropped bits (0 to 8) and a sticky bit, which is
+ * 1 where something nonzero lies further down. Their mask has g + 1 bits, bit 0 for the sticky bit
+ * and bit g for the first dropped bit; other results meet it only where it fixes nothing. Map bit 6
+ * of a job record announces, after the random words, one byte g, then care and value of 2 bytes
+ * each, low byte first.
  */
 #ifndef VINDACSOR_H
 #define VINDACSOR_H
@@ -27,7 +34,7 @@
 extern "C" {
 #endif
 
-/* The refusals. The masks are tested in the order 5, 14, 15, 16, after 4, or in whole numbers
+/* The refusals. The masks are tested in the order 5, 14, 15, 16, 17, after 4, or in whole numbers
  * after 12, and before 6. */
 enum {
     VINDACSOR_EXPONENT_BITS = 1, /* w below 2 or above 11 */
@@ -40,7 +47,7 @@ enum {
     VINDACSOR_WORD = 6,          /* operand, proposed or random word too wide */
     VINDACSOR_NO_CASE = 7,       /* no case fits */
     VINDACSOR_CUT = 8,           /* record cut short, or no byte where a record is wanted */
-    VINDACSOR_MAP = 9,           /* map bit 6 or 7 set */
+    VINDACSOR_MAP = 9,           /* map bit 7 set */
     VINDACSOR_DEFAULT = 10,      /* field that says its default */
     VINDACSOR_BUFFER = 11,       /* out too short */
     VINDACSOR_LENGTH = 12,       /* length outside 1 to 32 */
@@ -48,8 +55,12 @@ enum {
     VINDACSOR_SECOND_MASK = 14,  /* b's mask: a value bit outside care, or a bit above its width;
                                   * in whole numbers y's mask */
     VINDACSOR_THIRD_MASK = 15,   /* c's mask, in whole numbers z's: the same */
-    VINDACSOR_CARRY_MASK = 16    /* the carry mask: the same */
+    VINDACSOR_CARRY_MASK = 16,   /* the carry mask: the same */
+    VINDACSOR_DROPPED_MASK = 17  /* g above 8, or the mask of the dropped bits: the same */
 };
+
+/* The bytes of the longest job record. */
+enum { VINDACSOR_RECORD_BYTES = 90 };
 
 /* The bytes of each answer. */
 enum {
@@ -82,7 +93,7 @@ uint64_t vindacsor_join(uint64_t care, uint64_t value, uint64_t care2, uint64_t 
 
 /* What stands first in a job file.
  * Answer: the length in bytes of the job record that stands there, 0 where no byte is left.
- * Refusals: 9, 8, 1 to 5, 14, 15, 16, 6, 10, 11. */
+ * Refusals: 9, 8, 1 to 5, 14, 15, 16, 17, 6, 10, 11. */
 uint64_t vindacsor_read(const uint8_t *file, size_t file_length,
                         uint8_t *out, size_t out_length);
 

@@ -6,12 +6,17 @@
 //! w is 2 to 11 exponent bits and f is 2 to 52 fraction bits. Operation 0 adds and 1 subtracts.
 //! Mode 0 is nearest with ties to even, 1 toward zero, 2 up, 3 down, 4 nearest with ties away from
 //! zero. In a job record every word, of a carry mask too, has 4 bytes where w + f + 1 is at most
-//! 32, else 8.
+//! 32, else 8. Map bit 6 announces, after the random words, g and the mask of the g dropped bits
+//! and the sticky bit: one byte, then care and value of 2 bytes each, low byte first. A record has
+//! at most [`LONGEST_RECORD`] bytes.
 
 pub mod buffer;
 mod refusal;
 
 pub use refusal::Refusal;
+
+/// The bytes of a job record that states everything, with words of 8 bytes.
+pub const LONGEST_RECORD: usize = 90;
 
 /// Which bits are fixed (`care`), and to what (`value`).
 #[derive(Clone, Copy, Debug, Default, PartialEq, Eq)]
@@ -90,7 +95,7 @@ pub fn join(one: Mask, other: Mask) -> Result<Mask, Refusal> {
 }
 
 /// The length of the job record that stands first in a file; none where no byte is left.
-/// Refuses with 9, 8, 1 to 5, 14, 15, 16, 6, 10.
+/// Refuses with 9, 8, 1 to 5, 14, 15, 16, 17, 6, 10.
 pub fn read(file: &[u8]) -> Result<Option<usize>, Refusal> {
     let length = answer(|out| buffer::read(file, out))?[0];
     Ok((length != 0).then_some(length as usize))
@@ -174,6 +179,29 @@ mod tests {
         // One more exponent or fraction bit is refused.
         assert_eq!(result(12, 52, 0, 0, two, two), Err(Refusal(1)));
         assert_eq!(result(11, 53, 0, 0, two, two), Err(Refusal(2)));
+    }
+
+    /// 30 + 02 is a tie, 100 and a sticky bit of 0 below its last bit; 45 + 2B has 11 and one of 0.
+    #[test]
+    fn dropped_bits() {
+        for (g, word, a, b, c) in [(3, 8, 0x30, 0x02, 0x30), (2, 6, 0x45, 0x2B, 0x4C)] {
+            let care = (2 << g) - 1;
+            let record = [0x40, 3, 4, 0, g, care, 0, word, 0];
+            assert_eq!(read(&record), Ok(Some(9)));
+            assert_eq!(confirm(&record, a, b, c), Ok(true));
+            assert!(generate(&record).is_ok());
+            let other = [0x40, 3, 4, 0, g, care, 0, word ^ 1, 0];
+            assert_eq!(confirm(&other, a, b, c), Ok(false));
+        }
+        // No g above 8, no bit above its width, no value outside care; then no default.
+        for (g, care, value, number) in
+            [(9, 1, 0, 17), (3, 16, 0, 17), (3, 0, 1, 17), (3, 0, 0, 10)]
+        {
+            let record = [0x40, 3, 4, 0, g, care, 0, value, 0];
+            assert_eq!(read(&record), Err(Refusal(number)));
+            assert_eq!(generate(&record), Err(Refusal(number)));
+        }
+        assert_eq!(read(&[0x80]), Err(Refusal(9)));
     }
 
     /// Each mask of a job has its own number, and joining has one for both masks.

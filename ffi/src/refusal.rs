@@ -2,25 +2,26 @@
 
 use std::fmt;
 
-/// The number of a refusal, 1 to 16. Displayed, it says in words what the number says and no more:
+/// The number of a refusal, 1 to 17. Displayed, it says in words what the number says and no more:
 /// 14 is for b's mask in a job for a case and for y's in one for whole numbers, so its words name
 /// both.
 #[derive(Clone, Copy, Debug, PartialEq, Eq)]
 pub struct Refusal(pub u64);
 
-/// The masks by their numbers: which one it is in a job for a case, and which elsewhere.
-const MASKS: [(u64, &str, &str); 4] = [
+/// The masks by their numbers: which one it is in a job for a case, and what else the number says.
+const MASKS: [(u64, &str, &str); 5] = [
     (5, "a's mask", " (in whole numbers x's, in joining either)"),
     (14, "b's mask", " (in whole numbers y's)"),
     (15, "c's mask", " (in whole numbers z's)"),
     (16, "the carry mask", ""),
+    (17, "the mask of the dropped bits", "; or g above 8"),
 ];
 
 impl fmt::Display for Refusal {
     fn fmt(&self, text: &mut fmt::Formatter<'_>) -> fmt::Result {
-        if let Some((_, mask, elsewhere)) = MASKS.iter().find(|row| row.0 == self.0) {
+        if let Some((_, mask, more)) = MASKS.iter().find(|row| row.0 == self.0) {
             let wrong = "a value bit outside care, or a bit above its width";
-            return write!(text, "{mask}: {wrong}{elsewhere}");
+            return write!(text, "{mask}: {wrong}{more}");
         }
         let words = match self.0 {
             1 => "w below 2 or above 11",
@@ -30,7 +31,7 @@ impl fmt::Display for Refusal {
             6 => "an operand, a proposed or a random word is too wide",
             7 => "no case fits",
             8 => "record cut short, or no byte where a record is wanted",
-            9 => "map bit 6 or 7 set",
+            9 => "map bit 7 set",
             10 => "a field that says its default",
             11 => "buffer too short",
             12 => "length outside 1 to 32",
@@ -47,7 +48,7 @@ impl std::error::Error for Refusal {}
 mod tests {
     use super::*;
 
-    const LAST: u64 = 16;
+    const LAST: u64 = 17;
 
     fn words(number: u64) -> String {
         Refusal(number).to_string()
@@ -65,7 +66,7 @@ mod tests {
     #[test]
     fn other_numbers_are_said_as_they_are() {
         assert_eq!(words(0), "refusal 0");
-        assert_eq!(words(LAST + 1), "refusal 17");
+        assert_eq!(words(LAST + 1), "refusal 18");
         assert_eq!(words(u64::MAX), "refusal 18446744073709551615");
     }
 
@@ -78,21 +79,22 @@ mod tests {
         assert_eq!(error.to_string(), "length outside 1 to 32");
     }
 
-    /// The four masks, and only these, with what is wrong of each.
+    /// The five masks, and only these, with what is wrong of each.
     #[test]
     fn malformed_masks_are_named() {
         let wrong = "a value bit outside care, or a bit above its width";
         let named = |number| words(number).replacen(wrong, "..", 1);
         assert_eq!(
-            [5, 14, 15, 16].map(named),
+            [5, 14, 15, 16, 17].map(named),
             [
                 "a's mask: .. (in whole numbers x's, in joining either)",
                 "b's mask: .. (in whole numbers y's)",
                 "c's mask: .. (in whole numbers z's)",
                 "the carry mask: ..",
+                "the mask of the dropped bits: ..; or g above 8",
             ]
         );
         let malformed = (1..=LAST).filter(|&number| words(number).contains(wrong));
-        assert_eq!(malformed.collect::<Vec<_>>(), [5, 14, 15, 16]);
+        assert_eq!(malformed.collect::<Vec<_>>(), [5, 14, 15, 16, 17]);
     }
 }

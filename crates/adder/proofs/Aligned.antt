@@ -1,29 +1,34 @@
 -- What the adder publishes beside its contracts: c and the carry row of two finite words, from their fields and from their aligned
 -- significands. Of operands x and y, y's unit not above x's, H is x's significand with some bits below it, and T is y's aligned to it: c
--- comes from them with the guard bits, where y is not the larger or the signs are like; the row with any number of bits, where x is a and
--- y has not the larger exponent. The search cites these laws and no other of the adder. Assumes nothing.
+-- and the dropped bits come from them with bits enough, where y is not the larger or the signs are like; the row with any number of bits,
+-- where x is a and y has not the larger exponent. The search cites these laws and no other of the adder. Assumes nothing.
 use mathlib.Core.Path.{_≡_, refl, sym, ap, ap₂, _∙_}
-use mathlib.Core.Bool.{Bool, true, false, not}
+use mathlib.Core.Bool.{Bool, true, false, not, cond}
 use mathlib.Core.Logic.{_⊎_, inl, inr, _↔_}
 use Prim.Native.Nat.{ℕ, suc, _+_, _-_, _%_, _^_, _≤_, _<_}
 use native.Mathlib.Nat.{le-of-lt}
-use native.Mathlib.Decide.{ℕ-discrete}
+use native.Mathlib.Decide.{decLt, ℕ-discrete}
 use native.Mathlib.Omega.{arith}
 use borrow.Author.Tests.{le-ltb, eq-eqb, ne-eqb}
-use lib.Dec.{eqb}
+use lib.Dec.{eqb, ltb}
+use lib.Pow.{pow-pos}
 use Rattle.bits.specs.Bit.{bit}
 use Rattle.format.specs.declared.Format.{Format}
 use Rattle.format.specs.Format.{Supported, precision}
 use Rattle.word.specs.declared.Finite as record-of
 use Rattle.word.specs.Word.{fraction, biased, sign, unitOf, effective, allOnes, significand}
 use Rattle.word.specs.Operand.{finiteOf, magnitude, Canonical}
-use Rattle.rounding.specs.Sticky.{headAt, tailAt}
-use Rattle.rounding.specs.Width.{guardBits}
+use Rattle.rounding.specs.Sticky.{headAt, tailAt, Held}
+use Rattle.rounding.specs.Width.{sumBits}
 use Rattle.adder.specs.declared.Row.the-variants.{Carries}
+use Rattle.adder.specs.declared.Below.the-variants.{Bits, NoBits}
 use Rattle.adder.specs.Row.{carryIn, carryAt, finiteRow, kindRow, rowOf}
 use Rattle.adder.specs.Result.{finiteSum, kindSum, result}
+use Rattle.adder.specs.Exact.{exactMagnitude}
+use Rattle.adder.specs.Below.{magnitudeBelow, finiteBelow, kindBelow, belowOf}
 use Rattle.rounding.proofs.Outcome.{outcome-held}
-use Rattle.rounding.proofs.Widths.{guards}
+use Rattle.rounding.proofs.Held.{Guards, held-pos}
+use Rattle.rounding.proofs.Dropped.{dropped-held, normal-held}
 use Rattle.rounding.proofs.Align as align
 use Rattle.word.proofs.Canonical.{operand-finite}
 use Rattle.word.proofs.Fields.{effective-sign, effective-biased, effective-fraction}
@@ -31,7 +36,9 @@ use Rattle.adder.proofs.FiniteSum.{sum-like, sum-unlike, sum-cancelled,
 use Rattle.adder.proofs.RowBit.{row-bit}
 use Rattle.adder.proofs.RowLaws.{gather-bit, finite-row-lt, finite-row-comm}
 use Rattle.columns.specs.Carry.{combined, carryOf}
-use Rattle.rounding.specs.Outcome.{outcome}
+use Rattle.rounding.specs.Dropped.{droppedWord}
+use Rattle.rounding.specs.Outcome.{outcome, NormalAt}
+use Rattle.adder.proofs.BelowLaws.{normal-below, small-below, below-comm}
 use Rattle.adder.proofs.AlignedTail.{tail-whole, tail-sticky}
 use Rattle.adder.proofs.AlignedColumns.{flag, column-carry}
 
@@ -61,9 +68,19 @@ module _ (F : Format) (operation mode a b : ℕ) (na : biased F a .0 ≡ allOnes
       ap₂ (kindRow F) (operand-finite F a na) (operand-finite F (effective F operation b) ne)
       ∙ ap (λ (y : record-of.Finite). Carries (finiteRow F (finiteOf F a) y)) effective-finite
 
--- which of them is a does not matter for c, nor for the row where the exponents are unlike or the signs like; the row has p bits
+  pub below-finite : (g : ℕ) → belowOf F operation g a b ≡ finiteBelow F g (finiteOf F a) (turnedOf F operation b)
+  unfolding belowOf kindBelow
+  below-finite g =
+      ap₂ (kindBelow F g) (operand-finite F a na) (operand-finite F (effective F operation b) ne)
+      ∙ ap (finiteBelow F g (finiteOf F a)) effective-finite
+
+-- which of them is a does not matter for c and the dropped bits, nor for the row where the exponents are unlike or the signs like; the row
+-- has p bits
 pub sum-exchanged : (F : Format) (mode : ℕ) (x y : record-of.Finite) → finiteSum F mode x y ≡ finiteSum F mode y x
 sum-exchanged F mode x y = finite-sum-comm F mode x y
+
+pub below-exchanged : (F : Format) (g : ℕ) (x y : record-of.Finite) → finiteBelow F g x y ≡ finiteBelow F g y x
+below-exchanged F g x y = below-comm F g x y
 
 pub row-exchanged : (F : Format) (x y : record-of.Finite) → (x .exponent .0 ≡ y .exponent .0 → ⊥) ⊎ (x .sign ≡ y .sign) → finiteRow F x y ≡ finiteRow F y x
 row-exchanged F x y either = finite-row-comm F x y either
@@ -124,36 +141,83 @@ module _ (F : Format) (x y : record-of.Finite) (units : unitOf (y .exponent) .0 
         rw (le-ltb (x .exponent .0) (y .exponent .0) le)
         (gather-bit (precision F) (carryAt (eqb (x .sign) (y .sign)) (magnitude x) (magnitude y) u) i h ∙ row-test i (eqb (x .sign) (y .sign)))
 
-  -- c, from what they make with the guard bits
-  module _ (ok : Supported F) (cx : Canonical F x) (cy : Canonical F y) where
+  -- c and the dropped bits, from what they make: with q above G for a sum, and above G + 1 for a difference
+  module _ (ok : Supported F) (cx : Canonical F x) (cy : Canonical F y) (q G : ℕ) (guards : Guards q G) (more : eqb (x .sign) (y .sign) ≡ false → G + 1 < q) where
     normal : 0 < u → 2 ^ F .f ≤ x .significand
     unfolding u
     normal h = cx .normal (omega arith)
 
+    pos : 0 < q
+    pos = omega (arith, guards .few)
+
+    -- what they make
+    abbrev pub makes : ℕ
+    makes = combined (not (eqb (x .sign) (y .sign))) (headOf q) (tailOf q)
+
+    makes-lt : makes < 2 ^ sumBits q (F .f)
+    unfolding u v d
+    makes-lt = go (eqb (x .sign) (y .sign))
+      where
+        lt : headOf q + tailOf q < 2 ^ sumBits q (F .f)
+        lt = align.sum-lt F q G (guards .few) (x .significand) (y .significand) u v d gap (cx .significand-lt) (cy .significand-lt) normal
+
+        go : (t : Bool) → combined (not t) (headOf q) (tailOf q) < 2 ^ sumBits q (F .f)
+        go true = lt
+        go false = omega (arith, lt)
+
+    -- it holds the exact result
+    makes-held : (eqb (x .sign) (y .sign) ≡ false → magnitude y ≤ magnitude x) → Held F q G (exactMagnitude x y) makes (unitOf (x .exponent) .0)
+    unfolding u v d exactMagnitude
+    makes-held le = go (eqb (x .sign) (y .sign)) refl
+      where
+        go : (t : Bool) → eqb (x .sign) (y .sign) ≡ t
+            → Held F q G (cond t (magnitude x + magnitude y) (cond (ltb (magnitude x) (magnitude y)) (magnitude y - magnitude x) (magnitude x - magnitude y))) (combined (not t) (headOf q) (tailOf q)) (unitOf (x .exponent) .0)
+        go true e = align.sum-held F q G (guards .few) (x .significand) (y .significand) u v d gap (cx .significand-lt) (cy .significand-lt) normal
+        go false e =
+            rw (le-ltb (magnitude x) (magnitude y) (le e))
+            (align.difference-held F q G (guards .few) (x .significand) (y .significand) u v d gap (cx .significand-lt) (cy .significand-lt) normal (more e) (le e))
+
     pub sum-outcome : (mode : ℕ) → (eqb (x .sign) (y .sign) ≡ false → magnitude y ≤ magnitude x)
-        → finiteSum F mode x y ≡ outcome F mode (eqb (x .sign) (y .sign)) (x .sign) (unitOf (x .exponent)) (combined (not (eqb (x .sign) (y .sign))) (headOf guardBits) (tailOf guardBits))
-    unfolding u v d outcome
+        → finiteSum F mode x y ≡ outcome q F mode (eqb (x .sign) (y .sign)) (x .sign) (unitOf (x .exponent)) makes
+    unfolding u v d outcome exactMagnitude
     sum-outcome mode le = go (ℕ-discrete (x .sign) (y .sign)) (ℕ-discrete (magnitude x) (magnitude y))
       where
-        go : Dec (x .sign ≡ y .sign) → Dec (magnitude x ≡ magnitude y)
-            → finiteSum F mode x y ≡ outcome F mode (eqb (x .sign) (y .sign)) (x .sign) (unitOf (x .exponent)) (combined (not (eqb (x .sign) (y .sign))) (headOf guardBits) (tailOf guardBits))
+        go : Dec (x .sign ≡ y .sign) → Dec (magnitude x ≡ magnitude y) → finiteSum F mode x y ≡ outcome q F mode (eqb (x .sign) (y .sign)) (x .sign) (unitOf (x .exponent)) makes
         go (yes e) m =
             rw (eq-eqb _ _ e)
             (sum-like F mode x y e
-            ∙ outcome-held F ok mode (x .sign) (magnitude x + magnitude y) (headOf guardBits + tailOf guardBits) (unitOf (x .exponent)) true
-            (align.sum-held F (x .significand) (y .significand) u v d gap (cx .significand-lt) (cy .significand-lt) normal)
-            (align.sum-lt F (x .significand) (y .significand) u v d gap (cx .significand-lt) (cy .significand-lt) normal) (inl refl))
+            ∙ outcome-held F ok q G guards mode (x .sign) (magnitude x + magnitude y) (headOf q + tailOf q) (unitOf (x .exponent)) true
+            (rw (eq-eqb _ _ e) at (makes-held le)) (rw (eq-eqb _ _ e) at makes-lt) (inl refl))
         go (no e) (yes m) =
-            let t = align.equal-tail guardBits guards (x .significand) (y .significand) u v d gap .0 m in
-            let z : headOf guardBits - tailOf guardBits ≡ 0 = omega arith in
+            let t = align.equal-tail q pos (x .significand) (y .significand) u v d gap .0 m in
+            let z : headOf q - tailOf q ≡ 0 = omega arith in
             rw (ne-eqb _ _ e, z) (sum-cancelled F mode x y e m)
         go (no e) (no m) =
             let l = le (ne-eqb _ _ e) in
-            let lt = align.sum-lt F (x .significand) (y .significand) u v d gap (cx .significand-lt) (cy .significand-lt) normal in
-            let o = tail-ordered guardBits guards .1 l in
-            let ne : (headOf guardBits - tailOf guardBits ≡ 0 → ⊥) = λ z. m (align.equal-tail guardBits guards (x .significand) (y .significand) u v d gap .1 (omega arith)) in
+            let o = tail-ordered q pos .1 l in
+            let ne : (headOf q - tailOf q ≡ 0 → ⊥) = λ z. m (align.equal-tail q pos (x .significand) (y .significand) u v d gap .1 (omega arith)) in
             rw (ne-eqb _ _ e)
             (sum-unlike F mode x y e (omega (arith, m))
-            ∙ outcome-held F ok mode (x .sign) (magnitude x - magnitude y) (headOf guardBits - tailOf guardBits) (unitOf (x .exponent)) false
-            (align.difference-held F (x .significand) (y .significand) u v d gap (cx .significand-lt) (cy .significand-lt) normal l)
-            (omega arith) (inr ne))
+            ∙ outcome-held F ok q G guards mode (x .sign) (magnitude x - magnitude y) (headOf q - tailOf q) (unitOf (x .exponent)) false
+            (rw (ne-eqb _ _ e, le-ltb (magnitude x) (magnitude y) l) at (makes-held le)) (rw (ne-eqb _ _ e) at makes-lt) (inr ne))
+
+    -- the dropped bits
+    module _ (g : ℕ) (few : g ≤ G) (le : eqb (x .sign) (y .sign) ≡ false → magnitude y ≤ magnitude x) where
+      pub below-bits : NormalAt q (F .f) (unitOf (x .exponent)) makes → finiteBelow F g x y ≡ Bits (droppedWord F g makes)
+      unfolding finiteBelow
+      below-bits n =
+          let u = unitOf (x .exponent) .0 in
+          let held = makes-held le in
+          let some = held-pos F q G (exactMagnitude x y) makes u held (λ z. omega (arith, n .some, z)) in
+          normal-below F g (exactMagnitude x y) (normal-held F q G (exactMagnitude x y) makes u guards some held .1 n)
+          ∙ ap Bits (sym (dropped-held F q G (exactMagnitude x y) makes u guards some held g few))
+
+      pub below-none : (NormalAt q (F .f) (unitOf (x .exponent)) makes → ⊥) → finiteBelow F g x y ≡ NoBits
+      unfolding finiteBelow
+      below-none never = go (decLt (exactMagnitude x y) (2 ^ F .f))
+        where
+          go : Dec (exactMagnitude x y < 2 ^ F .f) → magnitudeBelow F g (exactMagnitude x y) ≡ NoBits
+          go (yes l) = small-below F g (exactMagnitude x y) l
+          go (no l) =
+              let h : 2 ^ F .f ≤ exactMagnitude x y = omega arith in
+              absurd (never (normal-held F q G (exactMagnitude x y) makes (unitOf (x .exponent) .0) guards (omega (arith, h, pow-pos (F .f))) (makes-held le) .0 h))

@@ -11,7 +11,8 @@ use lib.Arith.{digits-div}
 use lib.Dec.{leb, ltb}
 use lib.Pow.{pow-pos, mod-pow-add, shr-shr}
 use Rattle.columns.specs.Carry.{carry, borrow as borrowAt, carryOf}
-use Rattle.rounding.specs.Sticky.{sticky, headAt}
+use Rattle.rounding.specs.Dropped.{sticky}
+use Rattle.rounding.specs.Sticky.{headAt}
 use Rattle.adder.specs.Row.{carryIn}
 use Rattle.bits.proofs.Division.{mod-scale}
 use Rattle.rounding.proofs.Sticky.{sticky-lt, above-sticky, halved}

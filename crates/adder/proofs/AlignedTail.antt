@@ -8,7 +8,8 @@ use native.Mathlib.Omega.{arith}
 use lib.Arith.{digits-div, digits-mod}
 use lib.Dec.{eqb}
 use lib.Pow.{pow-pos}
-use Rattle.rounding.specs.Sticky.{sticky, withSticky, guardedAt, tailAt}
+use Rattle.rounding.specs.Dropped.{sticky, withSticky}
+use Rattle.rounding.specs.Sticky.{guardedAt, tailAt}
 use Rattle.rounding.proofs.Sticky.{sticky-scale, with-sticky-add, with-sticky-bounds}
 use Rattle.rounding.proofs.Align.{with-sticky-equal, head-double}
 

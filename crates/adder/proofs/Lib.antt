@@ -7,3 +7,5 @@ pub mod RowLaws
 pub mod AlignedTail
 pub mod AlignedColumns
 pub mod Aligned
+pub mod AlignedSum
+pub mod BelowLaws

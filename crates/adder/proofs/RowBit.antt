@@ -10,7 +10,7 @@ use borrow.Author.Tests.{le-leb, lt-leb}
 use lib.Dec.{ltb, leb}
 use lib.Pow.{pow-pos, pow-add, mod-pow-add}
 use Rattle.adder.specs.Row.{carryAt, gather, carryIn}
-use Rattle.rounding.specs.Sticky.{sticky}
+use Rattle.rounding.specs.Dropped.{sticky}
 use Rattle.bits.proofs.Division.{div-scale, mod-scale}
 use Rattle.rounding.proofs.Sticky.{sticky-scale, sticky-lt, above-sticky, halved}
 

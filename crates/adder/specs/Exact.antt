@@ -1,6 +1,5 @@
--- The exact result of two finite operands, a whole number of smallest steps and a sign (document 01, "The rounded result").
+-- The exact result of two finite operands, a whole number of smallest steps and a sign (document 01, "The rounded result"; W-206).
 -- Laws about c speak of it; a zero has the sign that document 01 gives it, so that rounding it is no case of its own. Assumes nothing.
--- Internal: no public contract cites this.
 use mathlib.Core.Bool.{cond}
 use Prim.Native.Nat.{ℕ, _+_, _-_}
 use lib.Dec.{eqb, ltb}

@@ -1,4 +1,5 @@
-// The rounded sum and difference of two words of a format, and their carry row.
+// The rounded sum and difference of two words of a format, their carry row, and the bits of the exact result below the last.
+pub mod below_last;
 pub mod carry_row;
 pub mod result;
 mod sum;
@@ -13,6 +14,13 @@ pub enum Reply {
 pub enum Row {
     Carries(u64),
     NoRow,
+}
+
+// The dropped bits of an exact result with their sticky bit, bit 0; there are none where an operand is infinite or a NaN, or where the
+// exact magnitude is below the smallest normal one.
+pub enum Below {
+    Bits(u64),
+    NoBits,
 }
 
 // The carry row, or the number of the refusal.

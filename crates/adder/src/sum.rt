@@ -4,6 +4,7 @@ use format::Format;
 use rounding::alignment::aligned;
 use rounding::mode::cancelled_sign;
 use rounding::round::rounded;
+use rounding::width::GUARD_BITS;
 use word::Finite;
 use word::Operand;
 use word::Operands;
@@ -18,7 +19,7 @@ ghost use Rattle.word.specs.Operand.{magnitude, Canonical, Sound};
 ghost use Rattle.adder.specs.Result.{nan, infinity, finiteSum, infiniteSum, kindSum};
 
 // Whether x has the smaller magnitude: by the exponents, and where these are equal by the significands.
-fn smaller(x: Finite, y: Finite, format: Format) -> bool
+pub(crate) fn smaller(x: Finite, y: Finite, format: Format) -> bool
     requires { ⌜ Canonical format x × Canonical format y ⌝ }
     ensures { λ r. ⌜ r ≡ ltb (magnitude x) (magnitude y) ⌝ }
 {
@@ -38,8 +39,8 @@ fn ordered_sum(format: Format, mode: u64, l: Finite, r: Finite) -> u64
 {
     let u = unit_of(l.exponent);
     let v = unit_of(r.exponent);
-    let head = aligned(l.significand, 0);
-    let tail = aligned(r.significand, u.0 - v.0);
+    let head = aligned(l.significand, 0, GUARD_BITS);
+    let tail = aligned(r.significand, u.0 - v.0, GUARD_BITS);
     if l.sign == r.sign {
         rounded(format, mode, l.sign, head + tail, u)
     } else if head == tail {

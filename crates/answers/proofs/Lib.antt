@@ -1,2 +1,3 @@
+pub mod FieldBits
 pub mod Keeping
 pub mod Runs

@@ -10,6 +10,7 @@ use classes::fields_of;
 use format::Format;
 use format::format_cause;
 use job::Job;
+use job::guards::reach;
 use known::class_may;
 use mask::Mask;
 use mask::meets;
@@ -31,16 +32,13 @@ ghost use Rattle.classes.specs.Class.{InOrder, Ordered, Asked, NeverPast, Norma
 ghost use Rattle.answers.specs.Kept.{Kept, ClassEnd};
 
 // The places of the table that a pass over the exponent fields keeps; its words are 0 in the beginning.
-pub const PLACES: usize = 128;
-
-// The most fraction bits of a format whose classes all have a place, with one for each order behind them.
-const MOST_FRACTION: u64 = 63 - (TOP_FIELD + 1);
+pub const PLACES: usize = 130;
 
 // Whether each sum of a pair is 0 or has digits enough for a normal number, by its unit or by its gap.
-fn normal(f: u64, fields: Fields) -> bool
-    ensures { λ r. ⌜ (r ≡ true → Normal f (fields .larger) (fields .smaller)) ⌝ }
+fn normal(reach: u64, fields: Fields) -> bool
+    ensures { λ r. ⌜ (r ≡ true → Normal reach (fields .larger) (fields .smaller)) ⌝ }
 {
-    if f < minus(fields.larger.0, FAR_GAP) {
+    if reach < minus(fields.larger.0, FAR_GAP) {
         return true;
     }
     if fields.smaller.0 == 0 {
@@ -58,14 +56,11 @@ fn may_admit(job: Job, fields: Fields, end: Biased, table: &mut [u64; PLACES]) -
     if end.0 <= fields.larger.0 {
         return true;
     }
-    let f = job.setting.format.f;
-    if MOST_FRACTION < f {
+    let reach = reach(job);
+    if !normal(reach, fields) {
         return true;
     }
-    if !normal(f, fields) {
-        return true;
-    }
-    class_may(job, class_of(f, fields), unit_of(fields.larger), table)
+    class_may(job, class_of(reach, fields), unit_of(fields.larger), table)
 }
 
 // Whether a case whose operands have these exponent fields fits; false in a format that is not supported and for a field that it does not
@@ -100,7 +95,7 @@ pub fn class_end(job: Job) -> Biased
         return Biased(0);
     }
     let ones = power(format.w) - 1;
-    if ones < format.f + MOST_FIELD + 3 {
+    if ones < reach(job) + MOST_FIELD + 3 {
         return Biased(0);
     }
     if never_past(format, job.c.mask) {

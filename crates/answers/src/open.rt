@@ -1,11 +1,11 @@
 // What the closed classes rule out: partners of an exponent field of a, or all pairs at once.
-use crate::MOST_FRACTION;
 use crate::PLACES;
 use crate::known::closed_place;
 use bits::bit_at;
 use bits::minus;
 use classes::FAR_GAP;
 use job::Job;
+use job::guards::reach;
 use word::Biased;
 ghost use mathlib.Core.Bool.{true};
 ghost use mathlib.Core.Path.{_≡_};
@@ -25,14 +25,14 @@ fn run_from(word: u64, i: u64) -> u64
 }
 
 // From eb on, which is no larger than ea, a field such that those passed over are no larger than ea and have closed classes.
-fn open_below(f: u64, ea: Biased, eb: Biased, closed: u64) -> Biased
-    requires { ⌜ (f < 59) × (farGap f < ea .0) × (ea .0 + 1 < 2 ^ 64) × (eb .0 ≤ ea .0) ⌝ }
-    ensures { λ r. ⌜ (eb .0 ≤ r .0) × ((d : Biased) → eb .0 ≤ d .0 → d .0 < r .0 → (d .0 ≤ ea .0) × (bit closed (closedBit f 0 (lowField f ea d .0)) ≡ 1)) ⌝ }
+fn open_below(reach: u64, ea: Biased, eb: Biased, closed: u64) -> Biased
+    requires { ⌜ (reach < 60) × (farGap reach < ea .0) × (ea .0 + 1 < 2 ^ 64) × (eb .0 ≤ ea .0) ⌝ }
+    ensures { λ r. ⌜ (eb .0 ≤ r .0) × ((d : Biased) → eb .0 ≤ d .0 → d .0 < r .0 → (d .0 ≤ ea .0) × (bit closed (closedBit reach 0 (lowField reach ea d .0)) ≡ 1)) ⌝ }
 {
     if eb.0 == 0 {
         return Biased(bit_at(closed, 0));
     }
-    let far = ea.0 - (f + FAR_GAP);
+    let far = ea.0 - (reach + FAR_GAP);
     let from = eb.0 + minus(far, eb.0);
     let run = run_from(closed, from - far + 1);
     if run == 0 {
@@ -45,11 +45,11 @@ fn open_below(f: u64, ea: Biased, eb: Biased, closed: u64) -> Biased
 }
 
 // From eb on, which is larger than ea, a field up to `end` such that those passed over have closed classes.
-fn open_above(f: u64, ea: Biased, eb: Biased, end: Biased, closed: u64) -> Biased
-    requires { ⌜ (f < 59) × (ea .0 < eb .0) × (eb .0 < end .0) ⌝ }
-    ensures { λ r. ⌜ (eb .0 ≤ r .0) × (r .0 ≤ end .0) × ((d : Biased) → eb .0 ≤ d .0 → d .0 < r .0 → bit closed (closedBit f 1 (lowField f d ea .0)) ≡ 1) ⌝ }
+fn open_above(reach: u64, ea: Biased, eb: Biased, end: Biased, closed: u64) -> Biased
+    requires { ⌜ (reach < 60) × (ea .0 < eb .0) × (eb .0 < end .0) ⌝ }
+    ensures { λ r. ⌜ (eb .0 ≤ r .0) × (r .0 ≤ end .0) × ((d : Biased) → eb .0 ≤ d .0 → d .0 < r .0 → bit closed (closedBit reach 1 (lowField reach d ea .0)) ≡ 1) ⌝ }
 {
-    let far = f + FAR_GAP;
+    let far = reach + FAR_GAP;
     if ea.0 == 0 {
         if bit_at(closed, far + 1) == 1 {
             return end;
@@ -72,23 +72,20 @@ fn open_above(f: u64, ea: Biased, eb: Biased, end: Biased, closed: u64) -> Biase
 pub fn open_from(job: Job, ea: Biased, eb: Biased, end: Biased, table: &[u64; PLACES]) -> Biased
     ensures { λ r. ⌜ (eb .0 ≤ r .0) × (Valid job → ClassEnd job end → Kept job (now (table .entry)) → NoPartner job ea eb r) ⌝ }
 {
-    let f = job.setting.format.f;
-    if MOST_FRACTION < f {
-        return eb;
-    }
+    let reach = reach(job);
     let larger = ea.0 + minus(eb.0, ea.0);
-    if larger <= f + FAR_GAP {
+    if larger <= reach + FAR_GAP {
         return eb;
     }
     if end.0 <= larger {
         return eb;
     }
     if eb.0 <= ea.0 {
-        let at = closed_place(f, 0) as usize;
-        return open_below(f, ea, eb, table[at]);
+        let at = closed_place(reach, 0) as usize;
+        return open_below(reach, ea, eb, table[at]);
     }
-    let at = closed_place(f, 1) as usize;
-    open_above(f, ea, eb, end, table[at])
+    let at = closed_place(reach, 1) as usize;
+    open_above(reach, ea, eb, end, table[at])
 }
 
 // Whether every class of pairs with a's field above the far gap is known to admit nothing. For a job with a malformed mask or another table
@@ -96,12 +93,9 @@ pub fn open_from(job: Job, ea: Biased, eb: Biased, end: Biased, table: &[u64; PL
 pub fn all_closed(job: Job, table: &[u64; PLACES]) -> bool
     ensures { λ r. ⌜ (r ≡ true → Valid job → Kept job (now (table .entry)) → (end : Biased) → ClassEnd job end → NoPair job end) ⌝ }
 {
-    let f = job.setting.format.f;
-    if MOST_FRACTION < f {
-        return false;
-    }
-    let below = table[closed_place(f, 0) as usize];
-    let above = table[closed_place(f, 1) as usize];
-    let far = f + FAR_GAP;
+    let reach = reach(job);
+    let below = table[closed_place(reach, 0) as usize];
+    let above = table[closed_place(reach, 1) as usize];
+    let far = reach + FAR_GAP;
     (bit_at(below, 0) == 1) & (far < run_from(below, 1)) & (far <= run_from(above, 1))
 }

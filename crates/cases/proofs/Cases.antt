@@ -18,6 +18,7 @@ use Rattle.mask.specs.Mask.{maskCause, masksCause}
 use Rattle.choice.specs.Choice.{Farther}
 use Rattle.columns.proofs.Some.{or-cases}
 use Rattle.job.specs.declared.Job.{Job}
+use Rattle.job.specs.Dropped.{droppedCause}
 use Rattle.job.specs.Job.{settingCause, jobCause, requestCause}
 use Rattle.job.proofs.Laws.{job-none, request-none}
 use Rattle.adder.specs.declared.Reply as reply
@@ -29,15 +30,20 @@ use Rattle.adder.specs.declared.RowReply.the-variants as row-answer
 use Rattle.word.specs.Word.{significand}
 use Rattle.word.specs.Operand.{operandOf}
 use Rattle.rounding.specs.Rounding.{direction, increment, roundOff, magnitudeWord, overflowWord, boundedWord, cancelledSign}
+use Rattle.rounding.specs.Dropped.{withSticky, droppedWord}
+use Rattle.adder.specs.declared.Below as below-last
+use Rattle.adder.specs.declared.Below.the-variants.{Bits, NoBits}
+use Rattle.adder.specs.Exact.{exactMagnitude}
 use Rattle.adder.specs.Result.{finiteSum, infiniteSum, kindSum, result, resultCause, resultReply}
 use Rattle.adder.specs.Row.{gather, finiteRow, kindRow, rowOf, rowCause, rowReply}
+use Rattle.adder.specs.Below.{finiteBelow, kindBelow, belowOf}
 use Rattle.format.specs.Cause as cause
 use Rattle.fit.specs.Fit.{Fits, satisfies, fits, caseCause}
 use Rattle.whole.specs.declared.Reply.the-variants.{Found}
 use Rattle.whole.specs.Sum.{addends}
 use Rattle.whole.specs.Reply.{Replied}
 use Rattle.whole.proofs.Sum.{sum-replied}
-use Rattle.cases.specs.Cases.{Carried, row, noRow, unsaid, Claim, sum, exactly, found, refused, wholeSum, CarriedIs, Holds, cases}
+use Rattle.cases.specs.Cases.{Carried, row, noRow, unsaid, Claim, sum, below, exactly, found, refused, wholeSum, CarriedIs, Holds, cases}
 use Rattle.cases.proofs.Words.{everyWord}
 use Rattle.cases.proofs.Fitting.{isCase, is-case, everyCase, every-case}
 
@@ -60,6 +66,12 @@ isRow : ℕ → carry-row.Row → Bool
 isRow n (Carries m) = eqb m n
 isRow n NoRow = false
 
+isBelow : below-last.Below → below-last.Below → Bool
+isBelow (Bits m) (Bits n) = eqb m n
+isBelow (Bits m) NoBits = false
+isBelow NoBits (Bits n) = false
+isBelow NoBits NoBits = true
+
 allFit : Job → List (ℕ × ℕ × ℕ) → Bool
 allFit j [] = true
 allFit j (t ∷ ts) = isCase j (t .0) (t .1) (t .2) && allFit j ts
@@ -78,6 +90,7 @@ isWhole n x y c z carries =
 
 passes : Claim → Bool
 passes (sum F operation mode a b c carried) = isWord (resultReply F operation mode a b) c && isCarried carried (rowReply F operation a b)
+passes (below F operation g a b bits) = isBelow (belowOf F operation g a b) bits
 passes (exactly j fitting) = eqb (jobCause j) 0 && (allFit j fitting && everyCase j (listed fitting))
 passes (found j r1 r2 a b c carries) =
     eqb (requestCause j r1 r2) 0 && ((isCase j a b c && isRow carries (rowOf (j .setting .format) (j .setting .operation) a b)) && everyCase j (λ x y z. notCloser r1 r2 a b x y))
@@ -109,6 +122,13 @@ row-is : (n : ℕ) (r : carry-row.Row) → isRow n r ≡ true → Carries n ≡ 
 unfolding isRow
 row-is n (Carries m) e = ap Carries (sym (eqb-true m n e))
 row-is n NoRow e = absurd (false≢true e)
+
+below-is : (r s : below-last.Below) → isBelow r s ≡ true → r ≡ s
+unfolding isBelow
+below-is (Bits m) (Bits n) e = ap Bits (eqb-true m n e)
+below-is (Bits m) NoBits e = absurd (false≢true e)
+below-is NoBits (Bits n) e = absurd (false≢true e)
+below-is NoBits NoBits e = refl
 
 all-fit : (j : Job) (ts : List (ℕ × ℕ × ℕ)) → allFit j ts ≡ true → (t : ℕ × ℕ × ℕ) → List·Memᴰ t ts → Fits j (t .0) (t .1) (t .2)
 unfolding allFit
@@ -223,6 +243,7 @@ unfolding passes
 passes-holds (sum F operation mode a b c carried) e =
     let both = and-eq-true-iff (isWord (resultReply F operation mode a b) c) (isCarried carried (rowReply F operation a b)) .0 e in
     (word-is (resultReply F operation mode a b) c (both .0), carried-is carried (rowReply F operation a b) (both .1))
+passes-holds (below F operation g a b bits) e = below-is (belowOf F operation g a b) bits e
 passes-holds (exactly j fitting) e =
     let p = and-eq-true-iff (eqb (jobCause j) 0) (allFit j fitting && everyCase j (listed fitting)) .0 e in
     let q = and-eq-true-iff (allFit j fitting) (everyCase j (listed fitting)) .0 (p .1) in
@@ -250,5 +271,5 @@ every-holds (y ∷ ys) t x m =
 -- ---- the table
 
 pub cases-hold : (x : Claim) → List·Memᴰ x cases → Holds x
-unfolding every passes isWord isCarried isRow allFit listed notCloser isWhole isCase everyCase everyWord fits satisfies caseCause jobCause settingCause requestCause masksCause maskCause formatCause operationCause modeCause wordCause resultCause rowCause size significand operandOf direction increment roundOff magnitudeWord overflowWord boundedWord cancelledSign finiteSum infiniteSum kindSum result gather finiteRow kindRow rowOf
+unfolding every passes isWord isCarried isRow isBelow allFit listed notCloser isWhole isCase everyCase everyWord fits satisfies caseCause jobCause settingCause requestCause masksCause maskCause droppedCause formatCause operationCause modeCause wordCause resultCause rowCause size significand operandOf direction increment roundOff magnitudeWord overflowWord boundedWord cancelledSign finiteSum infiniteSum kindSum result gather finiteRow kindRow rowOf withSticky droppedWord exactMagnitude finiteBelow kindBelow belowOf
 cases-hold = every-holds cases refl

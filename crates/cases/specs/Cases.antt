@@ -8,6 +8,7 @@ use Prim.Native.Nat.{ℕ, _^_, _<_}
 use Rattle.format.specs.declared.Format.{Format}
 use Rattle.format.specs.Format.{wordBits}
 use Rattle.mask.specs.declared.Mask.{Mask}
+use Rattle.job.specs.declared.Dropped.{Dropped}
 use Rattle.job.specs.declared.Job.{Job}
 use Rattle.job.specs.Job.{jobCause}
 use Rattle.job.specs.Role.{maskedJob}
@@ -15,8 +16,11 @@ use Rattle.adder.specs.declared.Reply.the-variants.{Word}
 use Rattle.adder.specs.declared.Row.the-variants.{Carries, NoRow}
 use Rattle.adder.specs.declared.RowReply.{RowReply}
 use Rattle.adder.specs.declared.RowReply.the-variants.{Row}
+use Rattle.adder.specs.declared.Below as below-last
+use Rattle.adder.specs.declared.Below.the-variants.{Bits, NoBits}
 use Rattle.adder.specs.Result.{resultReply}
 use Rattle.adder.specs.Row.{rowReply}
+use Rattle.adder.specs.Below.{belowOf}
 use Rattle.fit.specs.Fit.{Fits}
 use Rattle.generator.specs.declared.Reply.the-variants as reply
 use Rattle.generator.specs.Promise as generator
@@ -34,6 +38,8 @@ pub data Carried : Type 0 where
 pub data Claim : Type 0 where
   -- of a format, an operation, a mode, a and b: c, and the carry row
   sum : Format → ℕ → ℕ → ℕ → ℕ → ℕ → Carried → Claim
+  -- of a format, an operation, g, a and b: the g dropped bits with the sticky bit, or that there are none
+  below : Format → ℕ → ℕ → ℕ → ℕ → below-last.Below → Claim
   -- of a job: the cases (a, b, c) that fit, and no other does
   exactly : Job → List (ℕ × ℕ × ℕ) → Claim
   -- of a job and two random words: the reply is the case a, b, c with its carry row
@@ -51,6 +57,7 @@ CarriedIs unsaid r = Unit {0}
 -- what a claim says
 abbrev pub Holds : Claim → Type 0
 Holds (sum F operation mode a b c carried) = (resultReply F operation mode a b ≡ Word c) × CarriedIs carried (rowReply F operation a b)
+Holds (below F operation g a b bits) = belowOf F operation g a b ≡ bits
 Holds (exactly j fitting) = (jobCause j ≡ 0) × ((a b c : ℕ) → Fits j a b c ↔ List·Memᴰ (a, b, c) fitting)
 Holds (found j r1 r2 a b c carries) = generator.Replied j r1 r2 (reply.Found (record { a = a; b = b; c = c; row = Carries carries }))
 Holds (refused j k) = (r1 r2 : ℕ) → r1 < 2 ^ wordBits (j .setting .format) → r2 < 2 ^ wordBits (j .setting .format) → generator.Replied j r1 r2 (reply.Refused k)
@@ -144,8 +151,8 @@ tiesAway =
 abbrev pub outsideCare : Mask
 outsideCare = record { care = 0x10; value = 0x01 }
 
--- W-203. Of malformed masks the first is named: 5 for a's, 14 for b's, 15 for c's, 16 for the carries'; in the last row a carry mask with a bit
--- above p.
+-- W-203. Of malformed masks the first is named: 5 for a's, 14 for b's, 15 for c's, 16 for the carries'; in the last row a carry mask with a
+-- bit above p.
 abbrev pub malformed : List Claim
 malformed =
     refused (adding 0 outsideCare outsideCare outsideCare outsideCare) 5 ∷ refused (adding 0 nothingFixed outsideCare outsideCare outsideCare) 14
@@ -160,5 +167,24 @@ byExponent =
     subtract 0 0x30 0x31 0x84 (row 0x1F) ∷ subtract 0 0x31 0x30 0x04 (row 0x00) ∷ subtract 0 0x05 0x0A 0x85 (row 0x1A)
     ∷ subtract 0 0x0A 0x05 0x05 (row 0x05) ∷ subtract 0 0x05 0x10 0x8B (row 0x0F) ∷ subtract 0 0x10 0x05 0x0B (row 0x0F) ∷ []
 
+-- the job with another condition on the dropped bits
+abbrev pub withDropped : Job → Dropped → Job
+withDropped j D = record { setting = j .setting; a = j .a; b = j .b; c = j .c; carries = j .carries; dropped = D }
+
+-- the job of case 1, with a mask on g dropped bits and the sticky bit
+abbrev pub dropping : ℕ → Mask → Job
+dropping g m = withDropped (masked 0 nothingFixed) (record { g = g; mask = m })
+
+-- W-206. Dropped bits and the sticky bit: 30 + 02 at g = 3 has 8, a tie; 45 + 2B at g = 2 has 6, 4D + 3B has 2, and at g = 0 the former's
+-- sticky bit is 1. The smallest normal result 0F + 01 has 0; a smaller one, a zero and one of an infinite operand have none. With the masks
+-- of case 1 and 6 at g = 2 only (45, 2B, 4C) fits, with the sticky bit 1 there neither. A g of 9 is refused, whatever the mask.
+abbrev pub bitsBelow : List Claim
+bitsBelow =
+    below eight 0 3 0x30 0x02 (Bits 8) ∷ below eight 0 2 0x45 0x2B (Bits 6) ∷ below eight 0 2 0x4D 0x3B (Bits 2)
+    ∷ below eight 0 0 0x45 0x2B (Bits 1) ∷ below eight 0 3 0x0F 0x01 (Bits 0) ∷ below eight 0 3 0x0E 0x01 NoBits
+    ∷ below eight 1 3 0x30 0x30 NoBits ∷ below eight 0 3 0x70 0x30 NoBits
+    ∷ exactly (dropping 2 (record { care = 0x7; value = 0x6 })) ((0x45, 0x2B, 0x4C) ∷ [])
+    ∷ refused (dropping 2 (record { care = 0x1; value = 0x1 })) 7 ∷ refused (dropping 9 nothingFixed) 17 ∷ []
+
 abbrev pub cases : List Claim
-cases = case1 ++ case2 ++ case3 ++ case4 ++ case5 ++ case6 ++ case7 ++ case8 ++ case9 ++ case10 ++ case11 ++ tiesAway ++ malformed ++ byExponent
+cases = case1 ++ case2 ++ case3 ++ case4 ++ case5 ++ case6 ++ case7 ++ case8 ++ case9 ++ case10 ++ case11 ++ tiesAway ++ malformed ++ byExponent ++ bitsBelow

@@ -9,6 +9,7 @@ use borrow.Author.Tests.{le-leb}
 use Rattle.mask.specs.Mask.{Meets}
 use Rattle.job.specs.declared.Job.{Job}
 use Rattle.job.specs.Job.{Valid}
+use Rattle.job.specs.Guards.{reach}
 use Rattle.word.specs.declared.Biased.{Biased}
 use Rattle.word.specs.Word.{unitOf, allOnes}
 use Rattle.word.specs.Masks.{exponentMask}
@@ -25,7 +26,7 @@ beside j valid zero E e g ones e-lt g-lt met P = beside-a j valid E e g ones e-l
 beside j valid (suc o) E e g ones e-lt g-lt met P = beside-b j valid E e g ones e-lt g-lt met P
 
 -- they have one answer
-pub far-alike : (j : Job) → Valid j → (o : ℕ) (E e g : Biased) → FarBelow (j .setting .format) E e → FarBelow (j .setting .format) E g
+pub far-alike : (j : Job) → Valid j → (o : ℕ) (E e g : Biased) → FarBelow (j .setting .format) (reach j) E e → FarBelow (j .setting .format) (reach j) E g
     → Meets (g .0) (smallerMask j o) → InOrder (PairFits j) o E e → InOrder (PairFits j) o E g
 far-alike j valid o E e g (inl h) (inl k) met P = far-pair j valid E e g (h .2) (h .0) (k .0) (h .1) (k .1) o met P
 far-alike j valid o E e g (inl h) (inr k) met P = absurd (omega (arith, h .2, k .0))
@@ -44,9 +45,9 @@ low-near f E (suc e) h l = go (decLe (E - 1 - (suc e - 1)) 1)
     go (no q) = absurd (omega arith)
 
 module _ (j : Job) (valid : Valid j) (o : ℕ) (E e : Biased) (finite : E .0 < allOnes (j .setting .format)) (under : e .0 ≤ E .0) (P : InOrder (PairFits j) o E e)
-    (classed : Classed (j .setting .format) (j .c .mask) E e) where
+    (classed : Classed (j .setting .format) (reach j) (j .c .mask) E e) where
   abbrev f : ℕ
-  f = j .setting .format .f
+  f = reach j
 
   r : ClassFieldReached j E (record { order = o; low = lowField f E e })
   r = class-reached j valid o E e finite under P classed

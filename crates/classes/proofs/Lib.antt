@@ -1,6 +1,6 @@
 pub mod Order
 pub mod ClassMasks
-pub mod Moved
 pub mod Aligning
+pub mod Moved
 pub mod Classes
 pub mod Far

@@ -12,6 +12,7 @@ use Rattle.mask.specs.Mask.{Meets}
 use Rattle.job.specs.declared.Job.{Job}
 use Rattle.job.specs.declared.Role.the-variants.{C}
 use Rattle.job.specs.Job.{Valid}
+use Rattle.job.specs.Guards.{reach}
 use Rattle.job.specs.Role.{withWanted, withMask}
 use Rattle.word.specs.declared.Biased.{Biased}
 use Rattle.word.specs.declared.Unit as exponent
@@ -58,29 +59,30 @@ smallerMask j (suc o) = exponentMask (j .setting .format) (j .a .mask)
 
 -- ---- the pair that stands for a class
 
--- the gap from which on an aligned significand is its sticky bit alone
+-- the gap from which on an aligned significand is its sticky bit alone; r is the reach of the job, its fraction bits and those that it tells
+-- apart below the last kept one, beyond the first
 abbrev pub farGap : ℕ → ℕ
-farGap f = f + guardBits
+farGap r = r + guardBits
 
 -- the unit of its larger operand: the sum of any gap has digits enough for a normal number
 abbrev pub classUnit : ℕ → exponent.Unit
-classUnit f = record { 0 = farGap f }
+classUnit r = record { 0 = farGap r }
 
 -- the larger field
 abbrev pub topField : ℕ → Biased
-topField f = fieldOf (classUnit f) 1
+topField r = fieldOf (classUnit r) 1
 
 -- the smaller field: as far below the larger one as in the pair, but at most by the far gap; 0 for 0
 abbrev pub lowerField : ℕ → ℕ → ℕ → Biased
-lowerField f gap zero = fieldIs 0
-lowerField f gap (suc e) = fieldOf (record { 0 = farGap f - gap }) 1
+lowerField r gap zero = fieldIs 0
+lowerField r gap (suc e) = fieldOf (record { 0 = farGap r - gap }) 1
 
 abbrev pub lowField : ℕ → Biased → Biased → Biased
-lowField f E e = lowerField f (unitOf E .0 - unitOf e .0) (e .0)
+lowField r E e = lowerField r (unitOf E .0 - unitOf e .0) (e .0)
 
 -- the class of a pair
 abbrev pub classOf : ℕ → Fields → Class
-classOf f p = record { order = p .order; low = lowField f (p .larger) (p .smaller) }
+classOf r p = record { order = p .order; low = lowField r (p .larger) (p .smaller) }
 
 -- c's exponent field where the larger operand's unit is u, if it is i where it is the class's; a zero sum has 0 with any unit
 abbrev pub movedField : ℕ → ℕ → ℕ → ℕ
@@ -88,15 +90,15 @@ movedField from to zero = 0
 movedField from to (suc i) = suc i + to - from
 
 abbrev pub fieldAt : ℕ → exponent.Unit → Biased → Biased
-fieldAt f u i = fieldIs (movedField (farGap f) (u .0) (i .0))
+fieldAt r u i = fieldIs (movedField (farGap r) (u .0) (i .0))
 
 -- c's greatest exponent field there: a sum has one digit more than the larger operand at most, and may be rounded up to the next exponent
 abbrev pub mostField : ℕ → ℕ
-mostField f = topField f .0 + 2
+mostField r = topField r .0 + 2
 
 -- and its least one: with a gap of 2 places or more the sum has one digit less than the larger operand at the least
 unfoldable pub leastField : ℕ → Class → Biased
-leastField f k = cond (leb (k .low .0 + 2) (topField f .0)) (fieldIs (farGap f)) (fieldIs 0)
+leastField r k = cond (leb (k .low .0 + 2) (topField r .0)) (fieldIs (farGap r)) (fieldIs 0)
 
 -- ---- what is asked of it
 
@@ -125,24 +127,24 @@ anyField = record { care = 0; value = 0 }
 
 -- the pair that stands for the class k admits a case, where n is asked of c's exponent field
 abbrev pub ClassAdmits : Job → Class → Mask → Type 0
-ClassAdmits j k n = InOrder (SomeSigns (asking j n)) (k .order) (topField (j .setting .format .f)) (k .low)
+ClassAdmits j k n = InOrder (SomeSigns (asking j n)) (k .order) (topField (reach j)) (k .low)
 
 -- a class has an order and a smaller field
-pub record ClassIn (f : ℕ) (k : Class) : Type 0 where
+pub record ClassIn (r : ℕ) (k : Class) : Type 0 where
   pub order-lt : k .order < 2
-  pub low-le : k .low .0 ≤ topField f .0
+  pub low-le : k .low .0 ≤ topField r .0
 
 -- ---- the pairs that their classes answer for
 
 -- a format with fields enough: c's greatest one there is finite, and so are the two after it
-abbrev pub Wide : Format → Type 0
-Wide F = mostField (F .f) + 3 ≤ allOnes F
+abbrev pub Wide : Format → ℕ → Type 0
+Wide F r = mostField r + 3 ≤ allOnes F
 
 -- a valid job, and a class whose pair its format has
 pub record ClassFor (j : Job) (k : Class) : Type 0 where
   pub valid : Valid j
-  pub wide : Wide (j .setting .format)
-  pub class-in : ClassIn (j .setting .format .f) k
+  pub wide : Wide (j .setting .format) (reach j)
+  pub class-in : ClassIn (reach j) k
 
 -- no word past the largest finite number meets c: those have the fraction 0 or all ones
 pub record NeverPast (F : Format) (c : Mask) : Type 0 where
@@ -151,10 +153,10 @@ pub record NeverPast (F : Format) (c : Mask) : Type 0 where
 
 -- each sum of operands with the fields E and e, E the larger, is 0 or has digits enough for a normal number, by the unit or by the gap
 abbrev pub Normal : ℕ → Biased → Biased → Type 0
-Normal f E e = (topField f .0 ≤ E .0) ⊎ ((1 ≤ e .0) × (e .0 + 2 ≤ E .0))
+Normal r E e = (topField r .0 ≤ E .0) ⊎ ((1 ≤ e .0) × (e .0 + 2 ≤ E .0))
 
 -- and no word that meets c is past the largest finite number
-pub record Classed (F : Format) (c : Mask) (E e : Biased) : Type 0 where
-  pub wide : Wide F
-  pub normal : Normal (F .f) E e
+pub record Classed (F : Format) (r : ℕ) (c : Mask) (E e : Biased) : Type 0 where
+  pub wide : Wide F r
+  pub normal : Normal r E e
   pub within : (E .0 + 3 ≤ allOnes F) ⊎ NeverPast F c

@@ -11,9 +11,10 @@ use Rattle.word.specs.Word.{allOnes}
 use Rattle.word.specs.Masks.{exponentMask, fractionMask}
 use Rattle.classes.specs.Class.{farGap}
 
--- e is far below E: both are fields of finite numbers, e of a normal one, with the far gap between them; or E is all ones and e is not
-abbrev pub FarBelow : Format → Biased → Biased → Type 0
-FarBelow F E e = ((1 ≤ e .0) × (e .0 + farGap (F .f) ≤ E .0) × (E .0 < allOnes F)) ⊎ ((E .0 ≡ allOnes F) × (e .0 < allOnes F))
+-- e is far below E, where r is the reach: both are fields of finite numbers, e of a normal one, with the far gap between them; or E is all
+-- ones and e is not
+abbrev pub FarBelow : Format → ℕ → Biased → Biased → Type 0
+FarBelow F r E e = ((1 ≤ e .0) × (e .0 + farGap r ≤ E .0) × (E .0 < allOnes F)) ⊎ ((E .0 ≡ allOnes F) × (e .0 < allOnes F))
 
 -- c's mask lets through an exponent field from so many below E to 2 above it, as a sum that is not 0 has one where E is the larger field
 pub record LetsNear (j : Job) (below : ℕ) (E : Biased) : Type 0 where

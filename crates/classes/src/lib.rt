@@ -3,6 +3,7 @@ use bits::minus;
 use format::Format;
 use job::Job;
 use job::Role;
+use job::guards::reach;
 use job::words::with_mask;
 use job::words::with_wanted;
 use mask::Mask;
@@ -22,14 +23,23 @@ ghost use mathlib.Core.Path.{_≡_};
 ghost use Prim.Native.Nat.{_<_};
 ghost use Rattle.format.specs.Format.{Supported, wordBits};
 ghost use Rattle.mask.specs.Mask.{WellFormed};
-ghost use Rattle.classes.specs.Class.{fieldsOf, lowField, classOf, withExponent, asking, ClassFor, ClassAdmits};
+ghost use Rattle.job.specs.Guards.{reach};
+ghost use Rattle.classes.specs.Class.{farGap, fieldsOf, lowField, classOf, withExponent, asking, ClassFor, ClassAdmits};
 
-// Beyond the fraction's bits: the gap from which on an aligned significand is its sticky bit alone.
+// The gap from which on an aligned significand is its sticky bit alone, beyond the reach of the job: its fraction bits and the bits that it
+// tells apart below the last kept one, but the first.
 pub const FAR_GAP: u64 = GUARD_BITS;
 // The larger field of the pair that stands for a class.
 pub const TOP_FIELD: u64 = FAR_GAP + 1;
 // c's greatest exponent field there.
 pub const MOST_FIELD: u64 = TOP_FIELD + 2;
+
+// The far gap of a job.
+pub fn far_gap(job: Job) -> u64
+    ensures { λ r. ⌜ (r < 64) × (r ≡ farGap (reach job)) ⌝ }
+{
+    reach(job) + FAR_GAP
+}
 
 // Two exponent fields by size; the order is 1 where b has the larger one, else 0.
 pub struct Fields {
@@ -64,21 +74,21 @@ pub fn fields_of(ea: Biased, eb: Biased) -> Fields
 }
 
 // The smaller field of the pair that stands for the class of two fields: as far below the larger one, but at most by the far gap; 0 for 0.
-fn low_field(f: u64, larger: Biased, smaller: Biased) -> Biased
-    ensures { λ r. ⌜ (f < 64 → r ≡ lowField f larger smaller) ⌝ }
+fn low_field(reach: u64, larger: Biased, smaller: Biased) -> Biased
+    ensures { λ r. ⌜ (reach < 64 → r ≡ lowField reach larger smaller) ⌝ }
 {
     if smaller.0 == 0 {
         return Biased(0);
     }
     let gap = minus(unit_of(larger).0, unit_of(smaller).0);
-    field_of(Unit(minus(wrapping_add_u64(f, FAR_GAP), gap)), 1)
+    field_of(Unit(minus(wrapping_add_u64(reach, FAR_GAP), gap)), 1)
 }
 
-// The class of a pair; free where f is 64 or more.
-pub fn class_of(f: u64, fields: Fields) -> Class
-    ensures { λ r. ⌜ (f < 64 → r ≡ classOf f fields) ⌝ }
+// The class of a pair, by the job's reach; free where that is 64 or more.
+pub fn class_of(reach: u64, fields: Fields) -> Class
+    ensures { λ r. ⌜ (reach < 64 → r ≡ classOf reach fields) ⌝ }
 {
-    let low = low_field(f, fields.larger, fields.smaller);
+    let low = low_field(reach, fields.larger, fields.smaller);
     Class {
         order: fields.order,
         low,
@@ -110,7 +120,7 @@ pub fn class_admits(job: Job, class: Class, n: Mask) -> bool
     ensures { λ r. ⌜ (ClassFor job class → WellFormed (job .setting .format .w) n → (r ≡ true) ↔ ClassAdmits job class n) ⌝ }
 {
     let asked = asking(job, n);
-    let top = Biased(wrapping_add_u64(job.setting.format.f, TOP_FIELD));
+    let top = Biased(wrapping_add_u64(reach(job), TOP_FIELD));
     if class.order == 0 {
         finite_admits(asked, top, class.low)
     } else {

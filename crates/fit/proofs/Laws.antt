@@ -17,12 +17,18 @@ use Rattle.job.specs.Job.{ValidSetting, Valid}
 use Rattle.job.proofs.Laws.{job-none}
 use Rattle.adder.specs.declared.Row as row
 use Rattle.adder.specs.declared.Row.the-variants.{Carries, NoRow}
+use Rattle.adder.specs.declared.Below as below
+use Rattle.adder.specs.declared.Below.the-variants.{Bits, NoBits}
 use Rattle.adder.proofs.Causes.{Fit}
-use Rattle.fit.specs.Fit.{resultIn, rowIn, Allowed, allowed, RowMeets, rowMeets, Satisfies, satisfies, Fits, fits, caseCause}
+use Rattle.fit.specs.Fit.{resultIn, rowIn, belowIn, Allowed, allowed, RowMeets, rowMeets, BelowMeets, belowMeets, Satisfies, satisfies, Fits, fits, caseCause}
 
 pub row-meets-true : (r : row.Row) (m : Mask) → rowMeets r m ≡ true ↔ RowMeets r m
 row-meets-true (Carries r) m = meets-true r m
 row-meets-true NoRow m = (λ e. eqb-true (m .care) 0 e, λ e. eq-eqb (m .care) 0 e)
+
+pub below-meets-true : (r : below.Below) (m : Mask) → belowMeets r m ≡ true ↔ BelowMeets r m
+below-meets-true (Bits r) m = meets-true r m
+below-meets-true NoBits m = (λ e. eqb-true (m .care) 0 e, λ e. eq-eqb (m .care) 0 e)
 
 pub allowed-true : (F : Format) (x : ℕ) (W : Wanted) → allowed F x W ≡ true ↔ Allowed F x W
 allowed-true F x W = (λ e. record { mask = meets-true x (W .mask) .0 e }, λ h. meets-true x (W .mask) .1 (h .mask))
@@ -31,7 +37,8 @@ pub satisfies-true : (j : Job) (a b c : ℕ) → satisfies j a b c ≡ true ↔ 
 unfolding satisfies
 satisfies-true j a b c = (
   λ e.
-      let p = and-eq-true-iff (A && B && C) R .0 e in
+      let d = and-eq-true-iff (A && B && C && R) D .0 e in
+      let p = and-eq-true-iff (A && B && C) R .0 (d .0) in
       let q = and-eq-true-iff (A && B) C .0 (p .0) in
       let o = and-eq-true-iff A B .0 (q .0) in
       record {
@@ -39,11 +46,13 @@ satisfies-true j a b c = (
         b-allowed = allowed-true F b (j .b) .0 (o .1);
         c-allowed = allowed-true F c (j .c) .0 (q .1);
         row = row-meets-true (rowIn (j .setting) a b) (j .carries) .0 (p .1);
+        dropped = below-meets-true (belowIn (j .setting) (j .dropped .g) a b) (j .dropped .mask) .0 (d .1);
       },
   λ h.
       let o = and-eq-true-iff A B .1 (allowed-true F a (j .a) .1 (h .a-allowed), allowed-true F b (j .b) .1 (h .b-allowed)) in
       let q = and-eq-true-iff (A && B) C .1 (o, allowed-true F c (j .c) .1 (h .c-allowed)) in
-      and-eq-true-iff (A && B && C) R .1 (q, row-meets-true (rowIn (j .setting) a b) (j .carries) .1 (h .row)),
+      let p = and-eq-true-iff (A && B && C) R .1 (q, row-meets-true (rowIn (j .setting) a b) (j .carries) .1 (h .row)) in
+      and-eq-true-iff (A && B && C && R) D .1 (p, below-meets-true (belowIn (j .setting) (j .dropped .g) a b) (j .dropped .mask) .1 (h .dropped)),
 )
   where
     F : Format
@@ -60,6 +69,9 @@ satisfies-true j a b c = (
 
     R : Bool
     R = rowMeets (rowIn (j .setting) a b) (j .carries)
+
+    D : Bool
+    D = belowMeets (belowIn (j .setting) (j .dropped .g) a b) (j .dropped .mask)
 
 -- three words of a format
 pub record Words (F : Format) (a b c : ℕ) : Type 0 where

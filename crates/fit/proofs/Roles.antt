@@ -24,13 +24,13 @@ module _ (j : Job) (a b c : ℕ) where
   pub fits-with : (role : Role) (w : Wanted) → Fits j a b c → Allowed (j .setting .format) (member role a b c) w → Fits (withWanted role j w) a b c
   fits-with A w f h = record {
     right = f .right;
-    satisfies = record { a-allowed = h; b-allowed = f .satisfies .b-allowed; c-allowed = f .satisfies .c-allowed; row = f .satisfies .row };
+    satisfies = record { a-allowed = h; b-allowed = f .satisfies .b-allowed; c-allowed = f .satisfies .c-allowed; row = f .satisfies .row; dropped = f .satisfies .dropped };
   }
   fits-with B w f h = record {
     right = f .right;
-    satisfies = record { a-allowed = f .satisfies .a-allowed; b-allowed = h; c-allowed = f .satisfies .c-allowed; row = f .satisfies .row };
+    satisfies = record { a-allowed = f .satisfies .a-allowed; b-allowed = h; c-allowed = f .satisfies .c-allowed; row = f .satisfies .row; dropped = f .satisfies .dropped };
   }
   fits-with C w f h = record {
     right = f .right;
-    satisfies = record { a-allowed = f .satisfies .a-allowed; b-allowed = f .satisfies .b-allowed; c-allowed = h; row = f .satisfies .row };
+    satisfies = record { a-allowed = f .satisfies .a-allowed; b-allowed = f .satisfies .b-allowed; c-allowed = h; row = f .satisfies .row; dropped = f .satisfies .dropped };
   }

@@ -16,8 +16,11 @@ use Rattle.job.specs.declared.Job.{Job}
 use Rattle.job.specs.Job.{jobCause}
 use Rattle.adder.specs.declared.Row as row
 use Rattle.adder.specs.declared.Row.the-variants.{Carries, NoRow}
+use Rattle.adder.specs.declared.Below as below
+use Rattle.adder.specs.declared.Below.the-variants.{Bits, NoBits}
 use Rattle.adder.specs.Result.{result}
 use Rattle.adder.specs.Row.{rowOf}
+use Rattle.adder.specs.Below.{belowOf}
 use Rattle.fit.specs.declared.Confirmed as reply
 use Rattle.fit.specs.declared.Confirmed.the-variants.{Yes, No, Refused}
 
@@ -30,6 +33,10 @@ resultIn S a b = result (S .format) (S .operation) (S .mode) a b
 -- the row of a and b in a setting
 abbrev pub rowIn : Setting → ℕ → ℕ → row.Row
 rowIn S a b = rowOf (S .format) (S .operation) a b
+
+-- the bits of their exact result below the last one in a setting, g of them and the sticky bit
+abbrev pub belowIn : Setting → ℕ → ℕ → ℕ → below.Below
+belowIn S g a b = belowOf (S .format) (S .operation) g a b
 
 -- three words of the format, and "c is the rounded result"
 pub record Right (S : Setting) (a b c : ℕ) : Type 0 where
@@ -56,18 +63,28 @@ abbrev pub rowMeets : row.Row → Mask → Bool
 rowMeets (Carries r) m = meets r m
 rowMeets NoRow m = eqb (m .care) 0
 
--- "its words and its row agree with every fixed bit"
+-- the same of the dropped bits and their sticky bit (document 02, W-206): "Other results meet only a mask that fixes nothing"
+abbrev pub BelowMeets : below.Below → Mask → Type 0
+BelowMeets (Bits r) m = Meets r m
+BelowMeets NoBits m = m .care ≡ 0
+
+abbrev pub belowMeets : below.Below → Mask → Bool
+belowMeets (Bits r) m = meets r m
+belowMeets NoBits m = eqb (m .care) 0
+
+-- "its words and its row agree with every fixed bit", and from W-206 on "the case meets everything that its job states"
 pub record Satisfies (j : Job) (a b c : ℕ) : Type 0 where
   pub a-allowed : Allowed (j .setting .format) a (j .a)
   pub b-allowed : Allowed (j .setting .format) b (j .b)
   pub c-allowed : Allowed (j .setting .format) c (j .c)
   pub row : RowMeets (rowIn (j .setting) a b) (j .carries)
+  pub dropped : BelowMeets (belowIn (j .setting) (j .dropped .g) a b) (j .dropped .mask)
 
 -- the same as a test
 unfoldable pub satisfies : Job → ℕ → ℕ → ℕ → Bool
 satisfies j a b c =
     allowed (j .setting .format) a (j .a) && allowed (j .setting .format) b (j .b) && allowed (j .setting .format) c (j .c)
-    && rowMeets (rowIn (j .setting) a b) (j .carries)
+    && rowMeets (rowIn (j .setting) a b) (j .carries) && belowMeets (belowIn (j .setting) (j .dropped .g) a b) (j .dropped .mask)
 
 -- ---- fits
 

@@ -1,13 +1,16 @@
 // Whether a proposed case fits a job.
+use adder::Below;
 use adder::Reply;
 use adder::Row;
 use adder::RowReply;
+use adder::below_last::below_last;
 use adder::carry_row::carry_row;
 use adder::result::rounded_result;
 use format::Format;
 use format::first;
 use format::format_cause;
 use format::word_cause;
+use job::Dropped;
 use job::Job;
 use job::Setting;
 use job::Wanted;
@@ -18,8 +21,9 @@ ghost use mathlib.Core.Path.{_≡_};
 ghost use Prim.Native.Nat.{_^_, _<_};
 ghost use lib.Dec.{eqb};
 ghost use Rattle.format.specs.Format.{wordBits};
+ghost use Rattle.job.specs.Dropped.{ValidDropped};
 ghost use Rattle.job.specs.Job.{ValidSetting, Valid};
-ghost use Rattle.fit.specs.Fit.{resultIn, rowIn, allowed, rowMeets, satisfies, fits, caseCause, confirmedReply};
+ghost use Rattle.fit.specs.Fit.{resultIn, rowIn, belowIn, allowed, rowMeets, belowMeets, satisfies, fits, caseCause, confirmedReply};
 
 // The answer about a proposed case: it fits, it does not, or the number of the refusal.
 pub enum Confirmed {
@@ -73,6 +77,25 @@ fn carries_meet(setting: Setting, carries: Mask, a: u64, b: u64) -> bool
     }
 }
 
+// Whether dropped bits and their sticky bit agree with a mask; where there are none, only a mask that fixes no bit does.
+fn below_meets(below: Below, mask: Mask) -> bool
+    ensures { λ r. ⌜ r ≡ belowMeets below mask ⌝ }
+{
+    match below {
+        Below::Bits(r) => meets(mask, r),
+        Below::NoBits => mask.care == 0,
+    }
+}
+
+// Whether the bits of a's and b's exact result below the last one are as wanted.
+fn dropped_meet(setting: Setting, dropped: Dropped, a: u64, b: u64) -> bool
+    requires { ⌜ ValidSetting setting × ValidDropped dropped ⌝ }
+    ensures { λ r. ⌜ r ≡ belowMeets (belowIn setting (dropped .g) a b) (dropped .mask) ⌝ }
+{
+    let below = below_last(setting.format, setting.operation, dropped.g, a, b);
+    below_meets(below, dropped.mask)
+}
+
 // Whether c is the rounded result of a and b.
 fn right(setting: Setting, a: u64, b: u64, c: u64) -> bool
     requires { ⌜ ValidSetting setting × (a < 2 ^ wordBits (setting .format)) × (b < 2 ^ wordBits (setting .format)) ⌝ }
@@ -94,6 +117,7 @@ fn satisfies(job: Job, a: u64, b: u64, c: u64) -> bool
         & allowed(setting.format, job.b, b)
         & allowed(setting.format, job.c, c)
         & carries_meet(setting, job.carries, a, b)
+        & dropped_meet(setting, job.dropped, a, b)
 }
 
 // Whether three words of the format fit.

@@ -55,6 +55,10 @@ thirdMask = 15
 abbrev pub carryMask : ℕ
 carryMask = 16
 
+-- W-206: g above 8, or the mask of the dropped bits malformed
+abbrev pub droppedMask : ℕ
+droppedMask = 17
+
 -- no cause where the test holds, else the number
 abbrev pub unless : Bool → ℕ → ℕ
 unless true n = 0

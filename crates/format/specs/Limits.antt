@@ -33,6 +33,10 @@ leastLength = 1
 abbrev pub mostLength : ℕ
 mostLength = 32
 
+-- g dropped bits (0 to 8: document 02, W-206)
+abbrev pub mostDropped : ℕ
+mostDropped = 8
+
 -- n lies between two limits, both included
 abbrev pub within : ℕ → ℕ → ℕ → Bool
 within least most n = leb least n && leb n most

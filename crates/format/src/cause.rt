@@ -16,7 +16,7 @@ pub const WORD: u64 = 6;
 pub const NO_CASE: u64 = 7;
 // record cut short
 pub const CUT: u64 = 8;
-// map bit 6 or 7 set
+// map bit 7 set
 pub const MAP_BITS: u64 = 9;
 // field that says its default
 pub const DEFAULT_FIELD: u64 = 10;
@@ -32,3 +32,5 @@ pub const SECOND_MASK: u64 = 14;
 pub const THIRD_MASK: u64 = 15;
 // the carry mask malformed
 pub const CARRY_MASK: u64 = 16;
+// g above 8, or the mask of the dropped bits malformed
+pub const DROPPED_MASK: u64 = 17;

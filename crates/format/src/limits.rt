@@ -14,3 +14,5 @@ pub const MOST_MODE: u64 = 4;
 pub const LEAST_LENGTH: u64 = 1;
 
 pub const MOST_LENGTH: u64 = 32;
+// The bits that rounding drops, the sticky bit not counted.
+pub const MOST_DROPPED: u64 = 8;

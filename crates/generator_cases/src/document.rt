@@ -1,72 +1,22 @@
 // The cases of document 01, "Cases, in hexadecimal", and its causes 1 to 6; of document 02 mode 4 (W-201), the widths of W-202, which mask
-// is malformed (W-203), and the borrows of equal exponents (W-205).
-use crate::line::ask;
-use crate::line::put_reply;
-use crate::same::same_reply;
-use adder::Row;
-use format::Format;
+// is malformed (W-203, W-206), and the borrows of equal exponents (W-205).
+use crate::jobs::adding;
+use crate::jobs::asked;
+use crate::jobs::both_words;
+use crate::jobs::dropping;
+use crate::jobs::eight;
+use crate::jobs::found;
+use crate::jobs::free;
+use crate::jobs::mask;
+use crate::jobs::none;
+use crate::jobs::numbers;
+use crate::jobs::open;
 use format::cause;
-use generator::Case;
 use generator::Reply;
-use job::Job;
 use job::Setting;
 use job::words::masked_job;
 use mask::Mask;
 use tally::Count;
-use tally::count_line;
-
-const ADD: u64 = 0;
-
-fn mask(care: u64, value: u64) -> Mask {
-    Mask { care, value }
-}
-
-fn free() -> Mask {
-    mask(0, 0)
-}
-
-// A line: the generator is asked, and its reply held against the one expected.
-fn asked(count: Count, job: Job, r1: u64, r2: u64, expected: Reply) -> Count {
-    ask(job, r1, r2);
-    let reply = generator::generate(job, r1, r2);
-    put_reply(reply);
-    count_line(count, same_reply(reply, expected))
-}
-
-fn found(a: u64, b: u64, c: u64, carries: u64) -> Reply {
-    Reply::Found(Case {
-        a,
-        b,
-        c,
-        row: Row::Carries(carries),
-    })
-}
-
-// Addition in a mode.
-fn adding(w: u64, f: u64, mode: u64) -> Setting {
-    Setting {
-        format: Format { w, f },
-        operation: ADD,
-        mode,
-    }
-}
-
-// The masks of the eight-bit format: a 0100x101, b 001x1011, c 010xx10x.
-fn eight(mode: u64, carries: Mask) -> Job {
-    let setting = adding(3, 4, mode);
-    masked_job(
-        setting,
-        mask(0xF7, 0x45),
-        mask(0xEF, 0x2B),
-        mask(0xE6, 0x44),
-        carries,
-    )
-}
-
-// Words 0, 0 and words 4D, 0.
-fn both_words(count: Count, job: Job, zeros: Reply, others: Reply) -> Count {
-    asked(asked(count, job, 0, 0, zeros), job, 0x4D, 0, others)
-}
 
 // 1 to 3. (45, 2B, 4C) row 04 and (4D, 3B, 55) row 1D in mode 0; the second in mode 3, the first in mode 2. W-201: mode 4 as mode 0.
 pub(crate) fn masked_cases(count: Count) -> Count {
@@ -80,21 +30,15 @@ pub(crate) fn masked_cases(count: Count) -> Count {
 
 // 4. Carry position 1 fixed to 1.
 pub(crate) fn carry_fixed(count: Count) -> Count {
-    let none = Reply::Refused(cause::NO_CASE);
-    both_words(count, eight(0, mask(0x02, 0x02)), none, none)
-}
-
-// Nothing fixed.
-fn open(w: u64, f: u64) -> Job {
-    masked_job(adding(w, f, 0), free(), free(), free(), free())
+    both_words(count, eight(0, mask(0x02, 0x02)), none(), none())
 }
 
 fn accepted(count: Count, w: u64, f: u64) -> Count {
-    asked(count, open(w, f), 0, 0, found(0, 0, 0, 0))
+    asked(count, open(adding(w, f, 0)), 0, 0, found(0, 0, 0, 0))
 }
 
 fn refused(count: Count, w: u64, f: u64, number: u64) -> Count {
-    asked(count, open(w, f), 0, 0, Reply::Refused(number))
+    asked(count, open(adding(w, f, 0)), 0, 0, Reply::Refused(number))
 }
 
 // 12, as W-202 moves it. w = 2 and 11 accepted, 1 and 12 refused; f = 2 and 52 accepted, 1 and 53 refused.
@@ -120,7 +64,7 @@ fn signs(count: Count, w: u64, f: u64, sign: u64, mode: u64) -> Count {
     let plus = mask(sign, 0);
     let minus = mask(sign, sign);
     let job = masked_job(adding(w, f, mode), plus, plus, minus, free());
-    asked(count, job, 0, 0, Reply::Refused(cause::NO_CASE))
+    asked(count, job, 0, 0, none())
 }
 
 // In each mode no case fits.
@@ -145,7 +89,7 @@ pub(crate) fn double_tie(count: Count) -> Count {
     let next = mask(0xFFFFFFFFFFFFFFFF, 0x3FF0000000000001);
     let even = masked_job(adding(11, 52, 0), unity, half, free(), free());
     let away = masked_job(adding(11, 52, 4), unity, half, next, free());
-    let none = masked_job(adding(11, 52, 0), unity, half, next, free());
+    let next_up = masked_job(adding(11, 52, 0), unity, half, next, free());
     let one = asked(
         count,
         even,
@@ -170,7 +114,7 @@ pub(crate) fn double_tie(count: Count) -> Count {
             0,
         ),
     );
-    asked(two, none, 0, 0, Reply::Refused(cause::NO_CASE))
+    asked(two, next_up, 0, 0, none())
 }
 
 // W-205. A difference of two numbers with the exponent 3 and any fractions: where every borrow is 1 b is the larger, and where none is and
@@ -180,25 +124,17 @@ pub(crate) fn borrows(count: Count) -> Count {
     let three = mask(0xF0, 0x30);
     let all = masked_job(setting, three, three, free(), mask(0x1F, 0x1F));
     let one = asked(count, all, 0, 0, found(0x30, 0x31, 0x84, 0x1F));
-    let none = masked_job(
+    let larger = masked_job(
         setting,
         mask(0xFF, 0x30),
         mask(0xF1, 0x31),
         free(),
         mask(0x1F, 0x00),
     );
-    let two = asked(one, none, 0, 0, Reply::Refused(cause::NO_CASE));
+    let two = asked(one, larger, 0, 0, none());
     let zero = mask(0xF0, 0x00);
     let some = masked_job(setting, zero, zero, free(), mask(0x1F, 0x1A));
     asked(two, some, 0x05, 0x0A, found(0x05, 0x0A, 0x85, 0x1A))
-}
-
-fn numbers(w: u64, f: u64, operation: u64, mode: u64) -> Setting {
-    Setting {
-        format: Format { w, f },
-        operation,
-        mode,
-    }
 }
 
 // The mask at a place: of the first masks, so many, each fixes nothing, and the others have a bit above every width.
@@ -219,6 +155,8 @@ fn wide(count: Count, setting: Setting, formed: u64, number: u64) -> Count {
         above_from(formed, 2),
         above_from(formed, 3),
     );
+    let last = above_from(formed, 4);
+    let job = dropping(job, 0, last.care, last.value);
     asked(count, job, 0x100, 0x100, Reply::Refused(number))
 }
 
@@ -236,12 +174,19 @@ fn first_mask(count: Count) -> Count {
     let two = wide(one, adding(3, 4, 0), 1, cause::SECOND_MASK);
     let three = wide(two, adding(3, 4, 0), 2, cause::THIRD_MASK);
     let four = wide(three, adding(3, 4, 0), 3, cause::CARRY_MASK);
-    wide(four, adding(3, 4, 0), 4, cause::WORD)
+    let five = wide(four, adding(3, 4, 0), 4, cause::DROPPED_MASK);
+    wide(five, adding(3, 4, 0), 5, cause::WORD)
 }
 
 // Words alone too wide.
 fn words(count: Count, r1: u64, r2: u64) -> Count {
-    asked(count, open(3, 4), r1, r2, Reply::Refused(cause::WORD))
+    asked(
+        count,
+        open(adding(3, 4, 0)),
+        r1,
+        r2,
+        Reply::Refused(cause::WORD),
+    )
 }
 
 // A value outside care, and a carry above the precision.

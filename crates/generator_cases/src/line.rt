@@ -2,6 +2,7 @@
 use adder::Row;
 use generator::Case;
 use generator::Reply;
+use job::Dropped;
 use job::Job;
 use libc::STDOUT_FILENO;
 use mask::Mask;
@@ -22,6 +23,17 @@ fn put_mask(name: &[u8], m: Mask) {
     put_word(m.value);
 }
 
+// g, and the care and the value of its mask; nothing where all are 0.
+fn put_dropped(dropped: Dropped) {
+    if (dropped.g == 0) & (dropped.mask.care == 0) & (dropped.mask.value == 0) {
+        return;
+    }
+    io::write_all(STDOUT_FILENO, b" dropped ");
+    io::print_decimal(STDOUT_FILENO, dropped.g);
+    put_word(dropped.mask.care);
+    put_word(dropped.mask.value);
+}
+
 fn put_numbers(job: Job) {
     io::write_all(STDOUT_FILENO, b"w ");
     io::print_decimal(STDOUT_FILENO, job.setting.format.w);
@@ -39,6 +51,7 @@ pub(crate) fn ask(job: Job, r1: u64, r2: u64) {
     put_mask(b" b", job.b.mask);
     put_mask(b" c", job.c.mask);
     put_mask(b" carries", job.carries);
+    put_dropped(job.dropped);
     io::write_all(STDOUT_FILENO, b" words");
     put_word(r1);
     put_word(r2);

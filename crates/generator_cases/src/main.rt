@@ -1,7 +1,10 @@
-// Cases 1 to 4, 12 and 13 of document 01, a tie in double precision, borrows of equal exponents and one job for each cause of bad input,
-// through the case generator.
+// Cases 1 to 4, 12 and 13 of document 01, a tie in double precision, borrows of equal exponents, dropped bits and one job for each cause of
+// bad input, through the case generator.
 mod document;
+mod dropped;
+mod jobs;
 mod line;
+mod near;
 mod same;
 
 use tally::Count;
@@ -13,5 +16,6 @@ fn main() {
     let signs = document::impossible_signs(limits);
     let double = document::double_tie(signs);
     let borrows = document::borrows(double);
-    tally::put_count(document::bad_input(borrows));
+    let ties = dropped::stated(near::ties(borrows));
+    tally::put_count(dropped::malformed(document::bad_input(ties)));
 }

@@ -8,6 +8,8 @@ use Rattle.format.proofs.Laws.{both-none, first-some, format-none, operation-no
 use Rattle.mask.proofs.Checks.{masks-none}
 use Rattle.job.specs.declared.Setting.{Setting}
 use Rattle.job.specs.declared.Job.{Job}
+use Rattle.job.proofs.DroppedLaws.{dropped-none, normalised-valid}
+use Rattle.job.specs.Dropped.{normalisedJob}
 use Rattle.job.specs.Job.{settingCause, jobCause, ValidSetting, Valid, requestCause, Request}
 
 pub setting-none : (S : Setting) → (settingCause S ≡ 0) ↔ ValidSetting S
@@ -23,12 +25,19 @@ unfolding jobCause
 job-none j =
     let F = j .setting .format in
     let masks = masks-none (wordBits F) (precision F) (j .a .mask) (j .b .mask) (j .c .mask) (j .carries) in
-    let law = both-none _ _ (setting-none (j .setting)) masks in (
+    let law = both-none _ _ (setting-none (j .setting)) (both-none _ _ masks (dropped-none (j .dropped))) in (
       (λ e.
           let v = law .0 e in
-          let m = v .1 in
-          record { setting = v .0; a = record { mask = m .0 }; b = record { mask = m .1 .0 }; c = record { mask = m .1 .1 .0 }; carries = m .1 .1 .1 }),
-      λ v. law .1 (v .setting, (v .a .mask, (v .b .mask, (v .c .mask, v .carries)))),
+          let m = v .1 .0 in
+          record {
+            setting = v .0;
+            a = record { mask = m .0 };
+            b = record { mask = m .1 .0 };
+            c = record { mask = m .1 .1 .0 };
+            carries = m .1 .1 .1;
+            dropped = v .1 .1;
+          }),
+      λ v. law .1 (v .setting, ((v .a .mask, (v .b .mask, (v .c .mask, v .carries))), v .dropped)),
     )
 
 -- in a format that is refused the job is too, and what is tested after it does not count
@@ -43,3 +52,13 @@ request-none j r1 r2 =
       (λ e. let p = law .0 e in record { valid = p .0; first-word = p .1 .0; second-word = p .1 .1 }),
       λ h. law .1 (h .valid, (h .first-word, h .second-word)),
     )
+
+-- a job that no cause stands against has none with its g taken as 0 where no dropped bit is fixed
+pub normalised-request : (j : Job) (r1 r2 : ℕ) → Request j r1 r2 → Request (normalisedJob j) r1 r2
+normalised-request j r1 r2 q =
+    let v = q .valid in
+    record {
+      valid = record { setting = v .setting; a = v .a; b = v .b; c = v .c; carries = v .carries; dropped = normalised-valid (j .dropped) (v .dropped) };
+      first-word = q .first-word;
+      second-word = q .second-word;
+    }

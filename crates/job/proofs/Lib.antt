@@ -1,2 +1,4 @@
+pub mod DroppedLaws
 pub mod Laws
 pub mod Roles
+pub mod GuardLaws

@@ -41,6 +41,6 @@ valid-wanted B j v = v .b
 valid-wanted C j v = v .c
 
 pub valid-with : (role : Role) (j : Job) (w : Wanted) → Valid j → ValidWanted (j .setting .format) w → Valid (withWanted role j w)
-valid-with A j w v h = record { setting = v .setting; a = h; b = v .b; c = v .c; carries = v .carries }
-valid-with B j w v h = record { setting = v .setting; a = v .a; b = h; c = v .c; carries = v .carries }
-valid-with C j w v h = record { setting = v .setting; a = v .a; b = v .b; c = h; carries = v .carries }
+valid-with A j w v h = record { setting = v .setting; a = h; b = v .b; c = v .c; carries = v .carries; dropped = v .dropped }
+valid-with B j w v h = record { setting = v .setting; a = v .a; b = h; c = v .c; carries = v .carries; dropped = v .dropped }
+valid-with C j w v h = record { setting = v .setting; a = v .a; b = v .b; c = h; carries = v .carries; dropped = v .dropped }

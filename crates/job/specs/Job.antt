@@ -1,6 +1,6 @@
--- A job: a setting (format, operation, mode), and what is wanted of the words a, b, c and of the carry row (document 01, "Masks and choice",
--- "Causes and replies"). `jobCause` is the first cause against it, 0 for none, and `requestCause` that against it and two random words;
--- `Valid` and `Request` say as facts that there is none. Assumes nothing.
+-- A job: a setting (format, operation, mode), and what is wanted of the words a, b, c, of the carry row (document 01, "Masks and choice",
+-- "Causes and replies") and of the dropped bits (document 02, W-206). `jobCause` is the first cause against it, 0 for none, and
+-- `requestCause` that against it and two random words; `Valid` and `Request` say as facts that there is none. Assumes nothing.
 use Prim.Native.Nat.{ℕ, _^_, _≤_, _<_}
 use Rattle.format.specs.declared.Format.{Format}
 use Rattle.format.specs.Cause.{first}
@@ -10,15 +10,18 @@ use Rattle.mask.specs.Mask.{WellFormed, masksCause}
 use Rattle.job.specs.declared.Setting.{Setting}
 use Rattle.job.specs.declared.Wanted.{Wanted}
 use Rattle.job.specs.declared.Job.{Job}
+use Rattle.job.specs.Dropped.{droppedCause, ValidDropped}
 
 -- "Order": 1 and 2, 3, 4
 unfoldable pub settingCause : Setting → ℕ
 settingCause S = first (formatCause (S .format)) (first (operationCause (S .operation)) (modeCause (S .mode)))
 
--- W-203: 5, 14 and 15 for the masks of a, b and c, whose width is the word's, and 16 for that of the carries, whose width is p
+-- W-203: 5, 14 and 15 for the masks of a, b and c, whose width is the word's, and 16 for that of the carries, whose width is p; then W-206:
+-- "17 .. after 16"
 abbrev pub jobMasksCause : Job → ℕ
 jobMasksCause j =
-    masksCause (wordBits (j .setting .format)) (precision (j .setting .format)) (j .a .mask) (j .b .mask) (j .c .mask) (j .carries)
+    first (masksCause (wordBits (j .setting .format)) (precision (j .setting .format)) (j .a .mask) (j .b .mask) (j .c .mask) (j .carries))
+    (droppedCause (j .dropped))
 
 -- "Order: 1 to 7, each where it applies": 1 to 4, then the masks
 unfoldable pub jobCause : Job → ℕ
@@ -41,6 +44,7 @@ pub record Valid (j : Job) : Type 0 where
   pub b : ValidWanted (j .setting .format) (j .b)
   pub c : ValidWanted (j .setting .format) (j .c)
   pub carries : WellFormed (precision (j .setting .format)) (j .carries)
+  pub dropped : ValidDropped (j .dropped)
 
 -- "Order": what stands against the job, then 6 against the two random words
 unfoldable pub requestCause : Job → ℕ → ℕ → ℕ

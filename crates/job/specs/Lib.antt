@@ -1,2 +1,4 @@
+pub mod Dropped
 pub mod Job
 pub mod Role
+pub mod Guards

@@ -6,6 +6,7 @@ use Rattle.job.specs.declared.Wanted.{Wanted}
 use Rattle.job.specs.declared.Job.{Job}
 use Rattle.job.specs.declared.Role.{Role}
 use Rattle.job.specs.declared.Role.the-variants.{A, B, C}
+use Rattle.job.specs.Dropped.{freeDropped}
 
 -- the word of a role in the case (a, b, c)
 abbrev pub member : Role → ℕ → ℕ → ℕ → ℕ
@@ -21,9 +22,9 @@ wanted C j = j .c
 
 -- the job with that replaced
 abbrev pub withWanted : Role → Job → Wanted → Job
-withWanted A j w = record { setting = j .setting; a = w; b = j .b; c = j .c; carries = j .carries }
-withWanted B j w = record { setting = j .setting; a = j .a; b = w; c = j .c; carries = j .carries }
-withWanted C j w = record { setting = j .setting; a = j .a; b = j .b; c = w; carries = j .carries }
+withWanted A j w = record { setting = j .setting; a = w; b = j .b; c = j .c; carries = j .carries; dropped = j .dropped }
+withWanted B j w = record { setting = j .setting; a = j .a; b = w; c = j .c; carries = j .carries; dropped = j .dropped }
+withWanted C j w = record { setting = j .setting; a = j .a; b = j .b; c = w; carries = j .carries; dropped = j .dropped }
 
 -- the same conditions with another mask
 abbrev pub withMask : Wanted → Mask → Wanted
@@ -39,4 +40,4 @@ onlyMask m = record { mask = m }
 
 -- the job that states four masks and nothing else
 abbrev pub maskedJob : Setting → Mask → Mask → Mask → Mask → Job
-maskedJob S a b c carries = record { setting = S; a = onlyMask a; b = onlyMask b; c = onlyMask c; carries = carries }
+maskedJob S a b c carries = record { setting = S; a = onlyMask a; b = onlyMask b; c = onlyMask c; carries = carries; dropped = freeDropped }

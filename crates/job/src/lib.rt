@@ -1,6 +1,9 @@
 // Jobs: what a case must meet, and whether a job is well made.
+pub mod below;
+pub mod guards;
 pub mod words;
 
+use below::dropped_cause;
 use format::Format;
 use format::first;
 use format::format_cause;
@@ -25,13 +28,20 @@ pub struct Wanted {
     pub mask: Mask,
 }
 
-// A setting, and what is wanted of the operands a and b, of the result c and of the carry row.
+// What is wanted of the bits that rounding drops: of g of them, and below them the sticky bit, bit 0 of the mask.
+pub struct Dropped {
+    pub g: u64,
+    pub mask: Mask,
+}
+
+// A setting, and what is wanted of the operands a and b, of the result c, of the carry row and of the dropped bits.
 pub struct Job {
     pub setting: Setting,
     pub a: Wanted,
     pub b: Wanted,
     pub c: Wanted,
     pub carries: Mask,
+    pub dropped: Dropped,
 }
 
 // The words of a case: two operands and their result.
@@ -50,24 +60,25 @@ pub fn setting_cause(setting: Setting) -> u64
     first(format_cause(setting.format), first(operation, mode))
 }
 
-// 5, 14, 15 or 16 where a mask is malformed, else 0. The format is supported, so its widths do not wrap.
+// 5, 14, 15, 16 or 17 where a mask is malformed, else 0. The format is supported, so its widths do not wrap.
 fn job_masks_cause(job: Job) -> u64
     requires { ⌜ Supported (job .setting .format) ⌝ }
     ensures { λ r. ⌜ r ≡ jobMasksCause job ⌝ }
 {
     let width = job.setting.format.w + job.setting.format.f + 1;
     let precision = job.setting.format.f + 1;
-    masks_cause(
+    let masks = masks_cause(
         width,
         precision,
         job.a.mask,
         job.b.mask,
         job.c.mask,
         job.carries,
-    )
+    );
+    first(masks, dropped_cause(job.dropped))
 }
 
-// The first of the causes 1 to 4 that stands against the job, or 5, 14, 15 or 16 for a malformed mask; else 0.
+// The first of the causes 1 to 4 that stands against the job, or 5, 14, 15, 16 or 17 for a malformed mask; else 0.
 pub fn job_cause(job: Job) -> u64
     ensures { λ r. ⌜ r ≡ jobCause job ⌝ }
 {

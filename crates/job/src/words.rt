@@ -3,6 +3,7 @@ use crate::Job;
 use crate::Role;
 use crate::Setting;
 use crate::Wanted;
+use crate::below::free_dropped;
 use mask::Mask;
 ghost use mathlib.Core.Path.{_≡_};
 ghost use Rattle.job.specs.Role.{wanted, withWanted, withMask, withWordMask, maskedJob};
@@ -58,5 +59,6 @@ pub fn masked_job(setting: Setting, a: Mask, b: Mask, c: Mask, carries: Mask) ->
         b: Wanted { mask: b },
         c: Wanted { mask: c },
         carries,
+        dropped: free_dropped(),
     }
 }

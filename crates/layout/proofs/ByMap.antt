@@ -186,7 +186,7 @@ last-or-below {A} c i h below last = go (decLt i c)
     go (no ge) = last (omega arith)
 
 -- where it fails, a field whose bit stands does not say its default
-no-default : (c m : ℕ) (ps : List Slot) (ns : List ℕ) → saysDefault c m ps ns ≡ false → (i : ℕ) → i < c → bit m i ≡ 1 → isDefault i ps ns ≡ false
+pub no-default : (c m : ℕ) (ps : List Slot) (ns : List ℕ) → saysDefault c m ps ns ≡ false → (i : ℕ) → i < c → bit m i ≡ 1 → isDefault i ps ns ≡ false
 unfolding saysDefault
 no-default zero m ps ns t i h e = absurd (omega arith)
 no-default (suc c) m ps ns t i h e =

@@ -51,10 +51,10 @@ module _ (F : Format) (m : ℕ) where
       (λ n. sizes-below 9 (layout 4) m refl (omega arith) i)
       (λ w. sizes-below 9 (layout 8) m refl (omega arith) i)
 
-  -- after the header the longest record has 81 bytes
-  pub total-most : total (fieldSizes (wordBytes F) m) ≤ 81
+  -- after the header the longest record has 86 bytes
+  pub total-most : total (fieldSizes (wordBytes F) m) ≤ 86
   unfolding layout total
   total-most =
-      by-width (λ (k : ℕ). total (fieldSizes k m) ≤ 81) F
+      by-width (λ (k : ℕ). total (fieldSizes k m) ≤ 86) F
       (λ n. let most : total (fieldSizes 4 m) ≤ total (counts (layout 4)) = sizes-most (layout 4) m in omega (arith, most))
       (λ w. let most : total (fieldSizes 8 m) ≤ total (counts (layout 8)) = sizes-most (layout 8) m in omega (arith, most))

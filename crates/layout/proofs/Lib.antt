@@ -1,2 +1,3 @@
 pub mod ByMap
 pub mod JobLayout
+pub mod Entries

@@ -1,15 +1,17 @@
 // The layout of a job record: which numbers it has, in which order, and by its map.
 use bits::bit_at;
 use format::Format;
+use job::Dropped;
 use job::Job;
 use job::Setting;
 use job::Wanted;
+use job::below::normalised;
 use mask::Mask;
 ghost use mathlib.Core.Path.{_≡_};
 ghost use Prim.Native.Nat.{_*_};
 ghost use Rattle.bits.specs.Bit.{bit};
 ghost use Rattle.layout.specs.Layout.{sizes, mapOf};
-ghost use Rattle.layout.specs.Fields.{wordBytes, layout, fieldSizes, entryNumbers, entryMap, entryWith};
+ghost use Rattle.layout.specs.Fields.{wordBytes, layout, fieldSizes, entryNumbers, entryMap, jobWith, entryWith};
 
 // A word of up to so many bits is narrow.
 const NARROW_BITS: u64 = 32;
@@ -18,9 +20,9 @@ const NARROW: usize = 4;
 // How many any other word has.
 const WIDE: usize = 8;
 // The map bits that stand for fields.
-pub const FIELDS: u64 = 6;
+pub const FIELDS: u64 = 7;
 // The numbers of all fields.
-pub const NUMBERS: usize = 11;
+pub const NUMBERS: usize = 14;
 
 // A job with its two random words: the content of a record.
 pub struct Entry {
@@ -49,7 +51,8 @@ pub fn word_bytes(format: Format) -> usize
     NARROW
 }
 
-// The numbers in bit order: care and value of the masks of a, b, c and carries, the mode, the random words.
+// The numbers in bit order: care and value of the masks of a, b, c and carries, the mode, the random words, g, care and value of the mask
+// of the dropped bits.
 fn layout(word: usize) -> [Slot; NUMBERS]
     ensures { λ r. ⌜ r ≡ layout word ⌝ }
 {
@@ -65,6 +68,9 @@ fn layout(word: usize) -> [Slot; NUMBERS]
         Slot { bit: 4, size: 1 },
         Slot { bit: 5, size: word },
         Slot { bit: 5, size: word },
+        Slot { bit: 6, size: 1 },
+        Slot { bit: 6, size: 2 },
+        Slot { bit: 6, size: 2 },
     ]
 }
 
@@ -110,10 +116,11 @@ fn map_of(word: usize, numbers: [u64; NUMBERS]) -> u64
     map
 }
 
-// The numbers of an entry, in the order of the layout.
+// The numbers of an entry, in the order of the layout; g is 0 where none of the dropped bits is fixed.
 pub fn entry_numbers(entry: Entry) -> [u64; NUMBERS]
     ensures { λ r. ⌜ r ≡ entryNumbers entry ⌝ }
 {
+    let dropped = normalised(entry.job.dropped);
     [
         entry.job.a.mask.care,
         entry.job.a.mask.value,
@@ -126,6 +133,9 @@ pub fn entry_numbers(entry: Entry) -> [u64; NUMBERS]
         entry.job.setting.mode,
         entry.r1,
         entry.r2,
+        dropped.g,
+        dropped.mask.care,
+        dropped.mask.value,
     ]
 }
 
@@ -136,15 +146,11 @@ pub fn entry_map(entry: Entry) -> u64
     map_of(word_bytes(entry.job.setting.format), entry_numbers(entry))
 }
 
-// The entry with these numbers.
-pub fn entry_with(format: Format, operation: u64, numbers: [u64; NUMBERS]) -> Entry
-    ensures { λ r. ⌜ r ≡ entryWith format operation numbers ⌝ }
+// The job with these numbers.
+fn job_with(format: Format, operation: u64, numbers: [u64; NUMBERS]) -> Job
+    ensures { λ r. ⌜ r ≡ jobWith format operation numbers ⌝ }
 {
-    let setting = Setting {
-        format,
-        operation,
-        mode: numbers[8],
-    };
+    let mode = numbers[8];
     let a = Mask {
         care: numbers[0],
         value: numbers[1],
@@ -161,15 +167,33 @@ pub fn entry_with(format: Format, operation: u64, numbers: [u64; NUMBERS]) -> En
         care: numbers[6],
         value: numbers[7],
     };
-    let job = Job {
-        setting,
+    let below = Mask {
+        care: numbers[12],
+        value: numbers[13],
+    };
+    Job {
+        setting: Setting {
+            format,
+            operation,
+            mode,
+        },
         a: Wanted { mask: a },
         b: Wanted { mask: b },
         c: Wanted { mask: c },
         carries,
-    };
+        dropped: Dropped {
+            g: numbers[11],
+            mask: below,
+        },
+    }
+}
+
+// The entry with these numbers.
+pub fn entry_with(format: Format, operation: u64, numbers: [u64; NUMBERS]) -> Entry
+    ensures { λ r. ⌜ r ≡ entryWith format operation numbers ⌝ }
+{
     Entry {
-        job,
+        job: job_with(format, operation, numbers),
         r1: numbers[9],
         r2: numbers[10],
     }

@@ -13,7 +13,7 @@ use Rattle.format.specs.Cause as cause
 use Rattle.job.specs.declared.Job.{Job}
 use Rattle.job.specs.Job.{requestCause}
 use Rattle.records.specs.Record.{firstIn, recordCause, recordLength}
-use Rattle.records.specs.File.{fileBytes, Reads, end as no-byte, next as record-first, Writable}
+use Rattle.records.specs.File.{fileBytes, normalisedEntries, Reads, end as no-byte, next as record-first, Writable, none as no-entry, more as entry-first}
 use Rattle.layout.specs.declared.Entry.{Entry}
 use Rattle.records.specs.declared.First.the-variants as found
 use Rattle.records.proofs.Causes.{first-job, first-none-left}
@@ -22,6 +22,7 @@ use Rattle.generator.specs.Promise.{Replied}
 use Rattle.generator.specs.declared.Reply.{Reply}
 use Rattle.generator.specs.declared.Reply.the-variants.{Found, Refused}
 use Rattle.generator.proofs.Replies.{reply-unique}
+use Rattle.generator.proofs.Normalised.{normalised-replied}
 use Rattle.lines.specs.Text.{replyLine, refusedLine}
 use Rattle.lines.specs.Listing.{longest, stops, Reading, Ended, Lists, long, end, refused, answered, Listed, last, more, Listing, Lines, none, next}
 use Rattle.lines.specs.declared.Place.{Place}
@@ -141,6 +142,14 @@ reads-listed s u at n short few within is (record-first {e = e} {n = k} {es = es
     more (answered r short place job replied)
     (subst (λ (b : Bool). Listed s (record { at = at + k; lines = n + 1; stopped = b }) t) (sym going) after)
 
+-- entries have the lines of the same with g taken as 0 where no dropped bit is fixed, as they are read
+normalised-lines : {n : ℕ} {es : List Entry} {t : List ℕ} → Writable es → Lines n es t → Lines n (normalisedEntries es) t
+unfolding normalisedEntries
+normalised-lines no-entry none = none
+normalised-lines (entry-first {e = e} ok rest) (next r replied lines) =
+    next r (normalised-replied (e .job) (e .r1) (e .r2) r ok replied) (normalised-lines rest lines)
+
 -- entries that are written list as the replies to them
 pub file-listed : {es : List Entry} {t : List ℕ} → Writable es → length (fileBytes es) ≤ longest → Lines 0 es t → Listing (fileBytes es) t
-file-listed {es} ok short lines = reads-listed (fileBytes es) (fileBytes es) 0 0 short (omega arith) (omega arith) refl (file-read ok) lines
+file-listed {es} ok short lines =
+    reads-listed (fileBytes es) (fileBytes es) 0 0 short (omega arith) (omega arith) refl (file-read ok) (normalised-lines ok lines)

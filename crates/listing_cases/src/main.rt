@@ -11,9 +11,9 @@ fn list(title: &[u8], file: &[u8]) {
 // Files by their length.
 fn lengths() {
     list(b"no byte\n", b"");
-    let longest = [64u8; 65536];
+    let longest = [128u8; 65536];
     list(b"65,536 bytes\n", &longest);
-    let long = [64u8; 65537];
+    let long = [128u8; 65537];
     list(b"65,537 bytes\n", &long);
 }
 
@@ -39,6 +39,14 @@ fn listed() {
     list(
         b"equal exponents\n",
         b"\x03\x03\x04\x01\xff\x00\x00\x00\x30\x00\x00\x00\xff\x00\x00\x00\x31\x00\x00\x00",
+    );
+}
+
+// 30 + 02 with three dropped bits and the sticky bit fixed: the tie that it is, then a number above a tie, then a g that is refused.
+fn dropped_bits() {
+    list(
+        b"dropped bits\n",
+        b"\x43\x03\x04\x00\xff\x00\x00\x00\x30\x00\x00\x00\xff\x00\x00\x00\x02\x00\x00\x00\x03\x0f\x00\x08\x00\x43\x03\x04\x00\xff\x00\x00\x00\x30\x00\x00\x00\xff\x00\x00\x00\x02\x00\x00\x00\x03\x0f\x00\x09\x00\x40\x03\x04\x00\x09\x01\x00\x00\x00",
     );
 }
 
@@ -84,8 +92,12 @@ fn refused() {
         b"\x20\x03\x04\x00\x00\x01\x00\x00\x00\x00\x00\x00",
     );
     list(b"cut short\n", b"\x10\x03\x04\x00");
-    list(b"map bit\n", b"\x40");
+    list(b"map bit\n", b"\x80");
     list(b"default said\n", b"\x10\x03\x04\x00\x00");
+    list(
+        b"no dropped bit fixed\n",
+        b"\x40\x03\x04\x00\x03\x00\x00\x00\x00",
+    );
     list(
         b"refused after found\n",
         b"\x00\x03\x04\x00\x00\x03\x04\x01\x80\x03\x04\x00\x00\x03\x04\x00",
@@ -95,6 +107,7 @@ fn refused() {
 fn main() {
     lengths();
     listed();
+    dropped_bits();
     word_sizes();
     refused();
 }

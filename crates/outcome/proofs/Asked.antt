@@ -5,13 +5,13 @@ use mathlib.Core.Logic.{_↔_}
 use mathlib.Core.Path.{_≡_, refl, sym, ap, ap₂, _∙_, subst}
 use mathlib.Core.Bool.{Bool, true, false, not, cond, false≢true}
 use Prim.Native.Nat.{ℕ, suc, _+_, _-_, _*_, _%_, _^_, _≤_, _<_}
-use native.Mathlib.Nat.{add-comm, mul-mod-left, zero-div, lt-of-lt-of-le, lt-of-le-of-lt, sub-le}
+use native.Mathlib.Nat.{add-comm, mul-comm, mul-mod-left, mul-lt-mul-of-pos-right, zero-div, lt-of-lt-of-le, lt-of-le-of-lt}
 use native.Mathlib.Decide.{decLt}
 use native.Mathlib.Omega.{arith}
 use package.borrow.Author.Tests.{not-true, eq-eqb}
 use lib.Bits.{bitAnd, and-zero-r}
 use lib.Dec.{eqb}
-use lib.Pow.{pow-pos, pow-mono, pow-add, add-lt-pow, shl-shr}
+use lib.Pow.{pow-pos, pow-mono, pow-add, shl-shr}
 use Rattle.bits.specs.Bit.{bit}
 use Rattle.bits.proofs.Laws.{bit-mod, bit-shr, bit-above}
 use Rattle.mask.specs.declared.Mask.{Mask}
@@ -22,9 +22,10 @@ use Rattle.chain.specs.declared.Wires.{Wires}
 use Rattle.columns.specs.Carry.{borrow, combined, carryOf}
 use Rattle.chain.specs.Chain.{Solved, Answered}
 use Rattle.outcome.specs.declared.Aligned as pair
-use Rattle.rounding.specs.Width.{guardBits, alignedBits, sumBits, columnsOf, mostRounded, shortBits, maskBits}
-use Rattle.rounding.proofs.Widths.{sum-width, columns-width, rounded-le}
-use Rattle.outcome.specs.Outcome.{rowCarry, mostAligned, Formed, Making}
+use Rattle.rounding.specs.Width.{alignedBits, maskBits}
+use Rattle.outcome.specs.Outcome.{rowCarry, columnsOf, Room, mostAligned, Formed, Making}
+use Rattle.outcome.specs.Question.{Added}
+use Rattle.outcome.proofs.Range.{most-digits-bounds, aligned-lt, made-lt}
 
 -- the wires of a question
 abbrev pub wiresOf : pair.Aligned → Mask → Mask → Mask → ℕ → ℕ → Wires
@@ -80,18 +81,17 @@ allows-back e m wire i allow =
     sym (allows-raised m e i (wire (i + e)))
     ∙ subst (λ (k : ℕ). allows (m .care * 2 ^ e) (m .value * 2 ^ e) k (wire (i + e)) ≡ true) (add-comm i e) allow
 
--- what is made has one bit more
-pub combined-lt : (subtract : Bool) (l t k : ℕ) → l < 2 ^ k → t < 2 ^ k → combined subtract l t < 2 ^ suc k
-combined-lt true l t k hl ht = lt-of-le-of-lt (sub-le l t) (lt-of-lt-of-le hl (pow-mono {i = k} {j = suc k} (omega arith)))
-combined-lt false l t k hl ht = add-lt-pow k hl ht
-
 -- the largest aligned significand has no more bits than an aligned significand
-pub most-aligned-lt : (f : ℕ) → mostAligned f < 2 ^ alignedBits f
-most-aligned-lt f = omega (arith, pow-pos f, pow-add 2 f 1, pow-add 2 f (1 + guardBits))
+pub most-aligned-lt : (q f : ℕ) → mostAligned q f < 2 ^ alignedBits q f
+most-aligned-lt q f =
+    let lt : 2 ^ (f + 1) - 1 < 2 ^ (f + 1) = omega (arith, pow-pos (f + 1)) in
+    let m = mul-lt-mul-of-pos-right lt (pow-pos q) in
+    let e : 2 ^ alignedBits q f ≡ 2 ^ (f + 1) * 2 ^ q = ap (λ (n : ℕ). 2 ^ n) (omega arith) ∙ pow-add 2 (f + 1) q in
+    omega (arith, m, e, mul-comm (2 ^ q) (2 ^ (f + 1) - 1))
 
 -- a number that fits the columns is one that a mask on aligned significands speaks of
-pub columns-below : (f : ℕ) → columnsOf f < 64 → (n : ℕ) → n < 2 ^ columnsOf f → n < 2 ^ maskBits
-columns-below f most n h = lt-of-lt-of-le h (pow-mono {i = columnsOf f} {j = maskBits} (omega arith))
+pub columns-below : (f : ℕ) (A : pair.Aligned) → Room f A → (n : ℕ) → n < 2 ^ columnsOf f A → n < 2 ^ maskBits
+columns-below f A room n h = lt-of-lt-of-le h (pow-mono {i = columnsOf f A} {j = maskBits} (omega (arith, room .columns)))
 
 -- what the carry mask allows in the row, said of the carries that the row has, reversed or not
 pub row-allowed : (A : pair.Aligned) (t : Bool) → A .reversed ≡ t → (H T k i : ℕ)
@@ -102,64 +102,61 @@ row-allowed A t is H T k i = (λ e. subst at (sym is) e, λ e. subst at is e)
     at : Bool → Type 0
     at b = allows (A .carries .care) (A .carries .value) i (cond b (borrow T H 0 k) (carryOf (not (A .like)) H T k)) ≡ true
 
-module _ (f : ℕ) (A : pair.Aligned) (forward : A .reversed ≡ false) (formed : Formed f A) (most : columnsOf f < 64) (x z : Mask) (constant carry : ℕ) where
-  pub asked-sound : (l t : ℕ) → Solved (wiresOf A (raised (1 + guardBits) (A .carries)) x z constant carry) (columnsOf f) l t → Making f A (λ (n : ℕ). Meets n x × Meets (n + constant + carry) z)
+module _ (f : ℕ) (A : pair.Aligned) (forward : A .reversed ≡ false) (formed : Formed f A) (x z : Mask) (constant carry : ℕ) where
+  wide : alignedBits (A .below) f ≤ columnsOf f A
+  wide = most-digits-bounds (A .below) f (A .like) .0
+
+  pub asked-sound : (l t : ℕ) → Solved (wiresOf A (raised (1 + A .below) (A .carries)) x z constant carry) (columnsOf f A) l t → Making f A (Added f A x z constant carry)
   asked-sound l t s = record {
     x = combined (not (A .like)) l t;
     made = record {
       H = l;
       T = t;
-      head-lt = lt-of-le-of-lt (formed .head l (columns-below f most l (s .l-lt)) (s .l-meets)) (most-aligned-lt f);
-      tail-lt = lt-of-le-of-lt (formed .tail t (columns-below f most t (s .t-lt)) (s .t-meets)) (most-aligned-lt f);
+      head-lt = lt-of-le-of-lt (formed .head l (columns-below f A (formed .room) l (s .l-lt)) (s .l-meets)) (most-aligned-lt (A .below) f);
+      tail-lt = lt-of-le-of-lt (formed .tail t (columns-below f A (formed .room) t (s .t-lt)) (s .t-meets)) (most-aligned-lt (A .below) f);
       head-meets = s .l-meets;
       tail-meets = s .t-meets;
       ordered = λ e. s .ordered (ap not e);
       less = λ e. absurd (false≢true (sym forward ∙ e));
-      carries-allow = λ i h. row-allowed A false forward l t (i + (1 + guardBits)) i .0 (allows-back (1 + guardBits) (A .carries) (carryOf (not (A .like)) l t) i (s .carries-allow (i + (1 + guardBits)) (omega arith)));
+      carries-allow = λ i h. row-allowed A false forward l t (i + (1 + A .below)) i .0 (allows-back (1 + A .below) (A .carries) (carryOf (not (A .like)) l t) i (s .carries-allow (i + (1 + A .below)) (omega (arith, wide))));
       makes = refl;
     };
-    holds = (s .x-meets, s .z-meets);
+    holds = record { number = s .x-meets; fits = s .z-lt; sum = s .z-meets };
   }
 
-  pub asked-complete : constant < 2 ^ mostRounded → carry < 2 → (m : Making f A (λ (n : ℕ). Meets n x × Meets (n + constant + carry) z))
-      → Solved (wiresOf A (raised (1 + guardBits) (A .carries)) x z constant carry) (columnsOf f) (m .made .H) (m .made .T)
-  asked-complete hc hg m =
+  pub asked-complete : (m : Making f A (Added f A x z constant carry))
+      → Solved (wiresOf A (raised (1 + A .below) (A .carries)) x z constant carry) (columnsOf f A) (m .made .H) (m .made .T)
+  asked-complete m =
       let w = m .made in
-      let n = combined-lt (not (A .like)) (w .H) (w .T) (alignedBits f) (w .head-lt) (w .tail-lt) in
-      let c : 2 ^ mostRounded ≤ 2 ^ alignedBits f = pow-mono (rounded-le f) in
-      let s : 2 ^ sumBits f ≡ 2 ^ suc (alignedBits f) = ap (λ (e : ℕ). 2 ^ e) (sym (sum-width f)) in
-      let p : 2 ^ columnsOf f ≡ 2 ^ suc (sumBits f) = ap (λ (e : ℕ). 2 ^ e) (sym (columns-width f)) in
+      let p = pow-mono {i = alignedBits (A .below) f} {j = columnsOf f A} wide in
       record {
         l-lt = omega (arith, w .head-lt);
         t-lt = omega (arith, w .tail-lt);
         ordered = λ e. w .ordered (not-true (A .like) e);
-        x-lt = omega arith;
-        z-lt = omega arith;
+        x-lt = rw (w .makes) (made-lt f A (m .x) w);
+        z-lt = rw (w .makes) (m .holds .fits);
         l-meets = w .head-meets;
         t-meets = w .tail-meets;
-        x-meets = rw (w .makes) (m .holds .0);
-        z-meets = rw (w .makes) (m .holds .1);
-        carries-allow = λ i h. allows-moved (f + 1) (1 + guardBits) (A .carries) (formed .carries) (carryOf (not (A .like)) (w .H) (w .T))
-            (λ k l. row-allowed A false forward (w .H) (w .T) (k + (1 + guardBits)) k .1 (w .carries-allow k l)) i;
+        x-meets = rw (w .makes) (m .holds .number);
+        z-meets = rw (w .makes) (m .holds .sum);
+        carries-allow = λ i h. allows-moved (f + 1) (1 + A .below) (A .carries) (formed .carries) (carryOf (not (A .like)) (w .H) (w .T))
+            (λ k l. row-allowed A false forward (w .H) (w .T) (k + (1 + A .below)) k .1 (w .carries-allow k l)) i;
       }
 
--- the question as it is put, where the carry mask is moved up above the guard bits unless that loses bits
-pub asked : (f : ℕ) (A : pair.Aligned) (carries x z : Mask) (constant carry : ℕ) → columnsOf f < 64 → (constant < 2 ^ mostRounded) × (carry < 2)
-    → (A .carries .care < 2 ^ shortBits → A .carries .value < 2 ^ shortBits → carries ≡ raised (1 + guardBits) (A .carries))
-    → A .reversed ≡ false → Formed f A → Answered (wiresOf A carries x z constant carry) (columnsOf f) ↔ Making f A (λ (n : ℕ). Meets n x × Meets (n + constant + carry) z)
-asked f A carries x z constant carry most small moved forward formed = (
-  (λ s. asked-sound f A forward formed most x z constant carry (s .l) (s .t) (rw same at (s .solved))),
+-- the question as it is put, where the carry mask is moved up above the bits below unless that loses bits
+pub asked : (f : ℕ) (A : pair.Aligned) (carries x z : Mask) (constant carry : ℕ) → carry < 2
+    → ((k : ℕ) → k + (1 + A .below) ≤ 64 → A .carries .care < 2 ^ k → A .carries .value < 2 ^ k → carries ≡ raised (1 + A .below) (A .carries))
+    → A .reversed ≡ false → Formed f A → Answered (wiresOf A carries x z constant carry) (columnsOf f A) ↔ Making f A (Added f A x z constant carry)
+asked f A carries x z constant carry small moved forward formed = (
+  (λ s. asked-sound f A forward formed x z constant carry (s .l) (s .t) (rw same at (s .solved))),
   λ m. record {
-    columns-lt = most;
-    carry-lt = small .1;
+    columns-lt = formed .room .columns;
+    carry-lt = small;
     l = m .made .H;
     t = m .made .T;
-    solved = rw same (asked-complete f A forward formed most x z constant carry (small .0) (small .1) m);
+    solved = rw same (asked-complete f A forward formed x z constant carry m);
   },
 )
   where
-    short : 2 ^ (f + 1) ≤ 2 ^ shortBits
-    short = pow-mono {i = f + 1} {j = shortBits} (omega arith)
-
-    same : carries ≡ raised (1 + guardBits) (A .carries)
-    same = moved (lt-of-lt-of-le (formed .carries .below) short) (lt-of-lt-of-le (value-below (f + 1) (A .carries) (formed .carries)) short)
+    same : carries ≡ raised (1 + A .below) (A .carries)
+    same = moved (f + 1) (omega (arith, aligned-lt f A (formed .room))) (formed .carries .below) (value-below (f + 1) (A .carries) (formed .carries))

@@ -4,13 +4,12 @@
 use mathlib.Core.Logic.{_↔_, _⊎_, inl, inr, ⊎-elim}
 use mathlib.Core.Path.{_≡_, refl, sym, ap, ap₂, _∙_, subst}
 use mathlib.Core.Bool.{Bool, true, false, false≢true}
-use Prim.Native.Nat.{ℕ, zero, suc, _+_, _/_, _%_, _^_, _≤_, _<_}
-use native.Mathlib.Nat.{mod-lt, lt-of-lt-of-le}
+use Prim.Native.Nat.{ℕ, zero, suc, _+_, _-_, _/_, _%_, _^_, _≤_, _<_}
+use native.Mathlib.Nat.{mod-lt}
 use native.Mathlib.Omega.{arith}
 use lib.Bits.{and-zero-r}
 use lib.Ieee.{size}
-use lib.Ieee.Digits.{size-lt}
-use lib.Pow.{pow-pos, pow-mono}
+use lib.Pow.{pow-pos}
 use Rattle.format.specs.declared.Format.{Format}
 use Rattle.mask.specs.declared.Mask.{Mask}
 use Rattle.mask.specs.Mask.{Meets, meets}
@@ -21,144 +20,179 @@ use Rattle.word.specs.declared.Unit as exponent
 use Rattle.word.specs.Word.{fieldOf, signed}
 use Rattle.rounding.specs.Rounding.{direction}
 use Rattle.rounding.proofs.Size.{size-zero}
+use Rattle.job.specs.Dropped.{ValidDropped}
 use Rattle.outcome.specs.declared.Aligned as pair
+use Rattle.outcome.specs.declared.Target.{Target}
 use Rattle.outcome.specs.declared.sought.Fractions as fractions-of
 use Rattle.rounding.specs.Sticky.{keptPart}
-use Rattle.rounding.specs.Width.{sumBits, columnsOf}
+use Rattle.rounding.specs.Width.{sumBits}
 use Rattle.rounding.specs.Outcome.{roundedUnit, keptOf, boundedHeld, zeroSign, outcome}
-use Rattle.outcome.specs.Outcome.{Made, Making}
-use Rattle.outcome.specs.Question.{leastQuotient, NextQuotient, topped, OfDigits, wordOrOverflow, Seeks}
-use Rattle.outcome.proofs.Topped.{topped-meets, size-none, anything}
+use Rattle.outcome.specs.Outcome.{Serves, Making, columnsOf}
+use Rattle.outcome.specs.Question.{anything, leastQuotient, NextQuotient, Added, OnlyDigits, topped, OfDigits, wordOrOverflow, Seeks}
+use Rattle.outcome.specs.Choices.{choicesOf, InWay}
+use Rattle.outcome.proofs.Topped.{topped-meets, size-none}
 use Rattle.outcome.proofs.Kept.{kept-lt, quotient-low, quotient-high, least-known}
 use Rattle.outcome.proofs.Fields.{held-word}
 use Rattle.outcome.proofs.Making.{some-made, none-made, making-map, making-answer}
-use Rattle.outcome.proofs.Range.{made-most}
+use Rattle.outcome.proofs.Range.{made-lt}
+use Rattle.outcome.proofs.Choices.{drops-in-way}
 
--- what is made has fewer bits than the chain has columns
-pub made-lt : (f : ℕ) (A : pair.Aligned) (n : ℕ) → Made f A n → n < 2 ^ columnsOf f
-made-lt f A n made = lt-of-lt-of-le (size-lt n) (pow-mono {i = size n} {j = columnsOf f} (omega (arith, made-most f A n made)))
-
-module _ (f : ℕ) (d : Direction) (u : exponent.Unit) (q : ℕ) (fraction : Mask) (hc : fraction .care < 2 ^ f) (hv : fraction .value < 2 ^ f) where
+module _ (q f : ℕ) (d : Direction) (u : exponent.Unit) (h : ℕ) (fraction : Mask) (hc : fraction .care < 2 ^ f) (hv : fraction .value < 2 ^ f) where
   -- for one number
-  kept-meets : (n count : ℕ) → 0 < count → count ≤ sumBits f → size n ≡ count
-      → ((keptOf f d n u / 2 ^ f ≡ q) × Meets (keptOf f d n u % 2 ^ f) fraction) ↔ Meets (keptPart d n (u .0) (roundedUnit f count u .0)) (topped 2 f q fraction)
+  kept-meets : (n count : ℕ) → 0 < count → count ≤ sumBits q f → size n ≡ count
+      → ((keptOf q f d n u / 2 ^ f ≡ h) × Meets (keptOf q f d n u % 2 ^ f) fraction) ↔ Meets (keptPart q d n (u .0) (roundedUnit q f count u .0)) (topped 2 f h fraction)
   kept-meets n zero some most digits = absurd (omega arith)
   kept-meets n (suc m) some most digits =
-      let top = topped-meets 2 f q (keptOf f d n u) fraction hc hv (kept-lt f d n u m digits most) in
-      let e : keptOf f d n u ≡ keptPart d n (u .0) (roundedUnit f (suc m) u .0) = ap (λ (k : ℕ). keptPart d n (u .0) (roundedUnit f k u .0)) digits in (
-        (λ p. subst (λ (y : ℕ). Meets y (topped 2 f q fraction)) e (top .1 p)),
-        λ p. top .0 (subst (λ (y : ℕ). Meets y (topped 2 f q fraction)) (sym e) p),
+      let top = topped-meets 2 f h (keptOf q f d n u) fraction hc hv (kept-lt q f d n u m digits most) in
+      let e : keptOf q f d n u ≡ keptPart q d n (u .0) (roundedUnit q f (suc m) u .0) = ap (λ (k : ℕ). keptPart q d n (u .0) (roundedUnit q f k u .0)) digits in (
+        (λ p. subst (λ (y : ℕ). Meets y (topped 2 f h fraction)) e (top .1 p)),
+        λ p. top .0 (subst (λ (y : ℕ). Meets y (topped 2 f h fraction)) (sym e) p),
       )
 
-  -- for any number
-  pub counted-asked : (A : pair.Aligned) (count : ℕ) (possible : Bool) (k : exponent.Unit) (x m : Mask) (r : Bool) → 0 < count → count ≤ sumBits f
-      → possible ≡ true → k ≡ roundedUnit f count u → OfDigits (columnsOf f) count x → m ≡ topped 2 f q fraction
-      → ((r ≡ true) ↔ Making f A (λ (n : ℕ). Meets n x × Meets (keptPart d n (u .0) (k .0)) m))
-      → (r ≡ true) ↔ Making f A (λ (n : ℕ). (size n ≡ count) × (keptOf f d n u / 2 ^ f ≡ q) × (possible ≡ true) × Meets (keptOf f d n u % 2 ^ f) fraction)
-  counted-asked A count possible k x m r some most able ek digits em asks =
-      making-answer f A (λ (n : ℕ). Meets n x × Meets (keptPart d n (u .0) (k .0)) m)
-      (λ (n : ℕ). (size n ≡ count) × (keptOf f d n u / 2 ^ f ≡ q) × (possible ≡ true) × Meets (keptOf f d n u % 2 ^ f) fraction) r
-      (λ n made.
-      let g = digits n (made-lt f A n made) in (
-        (λ p. let s = g .0 (p .0) in let t = kept-meets n count some most s .1 (rw (ek, em) at (p .1)) in (s, t .0, able, t .1)),
-        λ p. (g .1 (p .0), rw (ek, em) (kept-meets n count some most (p .0) .0 (p .1, p .3))),
+-- for any number that meets x, which asks for so many digits
+module _ (f : ℕ) (d : Direction) (u : exponent.Unit) (h : ℕ) (fraction : Mask) (hc : fraction .care < 2 ^ f) (hv : fraction .value < 2 ^ f) (A : pair.Aligned) (count : ℕ) (x : Mask)
+    (only : OnlyDigits f A count x) where
+  pub counted-asked : (possible : Bool) (k : exponent.Unit) (m : Mask) (r : Bool) → 0 < count → count ≤ sumBits (A .below) f
+      → possible ≡ true → k ≡ roundedUnit (A .below) f count u → m ≡ topped 2 f h fraction
+      → ((r ≡ true) ↔ Making f A (λ (n : ℕ). Meets n x × Meets (keptPart (A .below) d n (u .0) (k .0)) m))
+      → (r ≡ true) ↔ Making f A (λ (n : ℕ). Meets n x × (keptOf (A .below) f d n u / 2 ^ f ≡ h) × (possible ≡ true) × Meets (keptOf (A .below) f d n u % 2 ^ f) fraction)
+  counted-asked possible k m r some most able ek em asks =
+      making-answer f A (λ (n : ℕ). Meets n x × Meets (keptPart (A .below) d n (u .0) (k .0)) m)
+      (λ (n : ℕ). Meets n x × (keptOf (A .below) f d n u / 2 ^ f ≡ h) × (possible ≡ true) × Meets (keptOf (A .below) f d n u % 2 ^ f) fraction) r
+      (λ n made. (
+        (λ p.
+            let t = kept-meets (A .below) f d u h fraction hc hv n count some most (only n (made-lt f A n made) (p .0)) .1 (rw (ek, em) at (p .1)) in
+            (p .0, t .0, able, t .1)),
+        λ p. (p .0, rw (ek, em) (kept-meets (A .below) f d u h fraction hc hv n count some most (only n (made-lt f A n made) (p .0)) .0 (p .1, p .3))),
       ))
       asks
 
 -- the word of a number of so many digits with a quotient above the fraction
-pub quotient-asked : (F : Format) (d : Direction) (s : ℕ) (u : exponent.Unit) (A : pair.Aligned) (c : Mask) (count q : ℕ) (e : Biased) (so : fractions-of.Fractions) (r : Bool)
-    → e ≡ fieldOf (roundedUnit (F .f) count u) q → Seeks F d s c e so
-    → ((r ≡ true) ↔ Making (F .f) A (λ (n : ℕ). (size n ≡ count) × (keptOf (F .f) d n u / 2 ^ F .f ≡ q) × (so .possible ≡ true) × Meets (keptOf (F .f) d n u % 2 ^ F .f) (so .fraction)))
-    → (r ≡ true) ↔ Making (F .f) A (λ (n : ℕ). (size n ≡ count) × (keptOf (F .f) d n u / 2 ^ F .f ≡ q) × Meets (signed F s (boundedHeld F d n u)) c)
-quotient-asked F d s u A c count q e so r ee seeks asks =
+pub quotient-asked : (F : Format) (d : Direction) (s : ℕ) (u : exponent.Unit) (A : pair.Aligned) (c : Mask) (count h : ℕ) (x : Mask) → OnlyDigits (F .f) A count x
+    → (e : Biased) (so : fractions-of.Fractions) (r : Bool) → e ≡ fieldOf (roundedUnit (A .below) (F .f) count u) h → Seeks F d s c e so
+    → ((r ≡ true) ↔ Making (F .f) A (λ (n : ℕ). Meets n x × (keptOf (A .below) (F .f) d n u / 2 ^ F .f ≡ h) × (so .possible ≡ true) × Meets (keptOf (A .below) (F .f) d n u % 2 ^ F .f) (so .fraction)))
+    → (r ≡ true) ↔ Making (F .f) A (λ (n : ℕ). Meets n x × (keptOf (A .below) (F .f) d n u / 2 ^ F .f ≡ h) × Meets (signed F s (boundedHeld (A .below) F d n u)) c)
+quotient-asked F d s u A c count h x only e so r ee seeks asks =
     making-answer (F .f) A
-    (λ (n : ℕ). (size n ≡ count) × (keptOf (F .f) d n u / 2 ^ F .f ≡ q) × (so .possible ≡ true) × Meets (keptOf (F .f) d n u % 2 ^ F .f) (so .fraction))
-    (λ (n : ℕ). (size n ≡ count) × (keptOf (F .f) d n u / 2 ^ F .f ≡ q) × Meets (signed F s (boundedHeld F d n u)) c) r
-    (λ n made. (
-      (λ p. (p .0, p .1, rw (word n (p .0) (p .1)) (fields n .1 (p .2, p .3)))),
-      λ p. let k = fields n .0 (rw (word n (p .0) (p .1)) at (p .2)) in (p .0, p .1, k .0, k .1),
+    (λ (n : ℕ). Meets n x × (keptOf (A .below) (F .f) d n u / 2 ^ F .f ≡ h) × (so .possible ≡ true) × Meets (keptOf (A .below) (F .f) d n u % 2 ^ F .f) (so .fraction))
+    (λ (n : ℕ). Meets n x × (keptOf (A .below) (F .f) d n u / 2 ^ F .f ≡ h) × Meets (signed F s (boundedHeld (A .below) F d n u)) c) r
+    (λ n made.
+    let digits : Meets n x → size n ≡ count = only n (made-lt (F .f) A n made) in (
+      (λ p. (p .0, p .1, rw (word n (digits (p .0)) (p .1)) (fields n .1 (p .2, p .3)))),
+      λ p. let k = fields n .0 (rw (word n (digits (p .0)) (p .1)) at (p .2)) in (p .0, p .1, k .0, k .1),
     ))
     asks
   where
-    fields : (n : ℕ) → Meets (wordOrOverflow F d s e (keptOf (F .f) d n u % 2 ^ F .f)) c ↔ ((so .possible ≡ true) × Meets (keptOf (F .f) d n u % 2 ^ F .f) (so .fraction))
-    fields n = seeks .meets (keptOf (F .f) d n u % 2 ^ F .f) (mod-lt (keptOf (F .f) d n u) (pow-pos (F .f)))
+    fields : (n : ℕ) → Meets (wordOrOverflow F d s e (keptOf (A .below) (F .f) d n u % 2 ^ F .f)) c ↔ ((so .possible ≡ true) × Meets (keptOf (A .below) (F .f) d n u % 2 ^ F .f) (so .fraction))
+    fields n = seeks .meets (keptOf (A .below) (F .f) d n u % 2 ^ F .f) (mod-lt (keptOf (A .below) (F .f) d n u) (pow-pos (F .f)))
 
-    word : (n : ℕ) → size n ≡ count → keptOf (F .f) d n u / 2 ^ F .f ≡ q → signed F s (boundedHeld F d n u) ≡ wordOrOverflow F d s e (keptOf (F .f) d n u % 2 ^ F .f)
+    word : (n : ℕ) → size n ≡ count → keptOf (A .below) (F .f) d n u / 2 ^ F .f ≡ h → signed F s (boundedHeld (A .below) F d n u) ≡ wordOrOverflow F d s e (keptOf (A .below) (F .f) d n u % 2 ^ F .f)
     word n es eq =
-        held-word F d s n u
-        ∙ ap (λ (k : Biased). wordOrOverflow F d s k (keptOf (F .f) d n u % 2 ^ F .f)) (ap₂ (λ (m k : ℕ). fieldOf (roundedUnit (F .f) m u) k) es eq ∙ sym ee)
+        held-word (A .below) F d s n u
+        ∙ ap (λ (k : Biased). wordOrOverflow F d s k (keptOf (A .below) (F .f) d n u % 2 ^ F .f)) (ap₂ (λ (m k : ℕ). fieldOf (roundedUnit (A .below) (F .f) m u) k) es eq ∙ sym ee)
 
 -- the two quotients
-module _ (f : ℕ) (d : Direction) (u : exponent.Unit) (least : ℕ) where
-  quotients : (n count : ℕ) → 0 < count → count ≤ sumBits f → size n ≡ count → least ≡ leastQuotient f count u
-      → (keptOf f d n u / 2 ^ f ≡ least) ⊎ (keptOf f d n u / 2 ^ f ≡ least + 1)
+module _ (f : ℕ) (d : Direction) (u : exponent.Unit) (least : ℕ) (A : pair.Aligned) (count : ℕ) (x : Mask) (only : OnlyDigits f A count x) where
+  quotients : (n count : ℕ) → 0 < count → count ≤ sumBits (A .below) f → size n ≡ count → least ≡ leastQuotient (A .below) f count u
+      → (keptOf (A .below) f d n u / 2 ^ f ≡ least) ⊎ (keptOf (A .below) f d n u / 2 ^ f ≡ least + 1)
   quotients n zero some most digits e = absurd (omega arith)
   quotients n (suc m) some most digits e =
       ⊎-elim
-      (λ l. ⊎-elim (λ z. inl (omega arith)) (λ z. inr (omega arith)) (quotient-low f d n u m digits most (l .0)))
-      (λ l. ⊎-elim (λ z. inl (omega arith)) (λ z. inr (omega arith)) (quotient-high f d n u m digits most (l .0)))
-      (least-known f (suc m) u)
+      (λ l. ⊎-elim (λ z. inl (omega arith)) (λ z. inr (omega arith)) (quotient-low (A .below) f d n u m digits most (l .0)))
+      (λ l. ⊎-elim (λ z. inl (omega arith)) (λ z. inr (omega arith)) (quotient-high (A .below) f d n u m digits most (l .0)))
+      (least-known (A .below) f (suc m) u)
 
-  module _ (A : pair.Aligned) (count : ℕ) (W : ℕ → Type 0) (some : 0 < count) (most : count ≤ sumBits f) (e : least ≡ leastQuotient f count u) (r : Bool)
-      (asks : (r ≡ true) ↔ Making f A (λ (n : ℕ). (size n ≡ count) × (keptOf f d n u / 2 ^ f ≡ least) × W n)) where
-    pub first-quotient : r ≡ true → (true ≡ true) ↔ Making f A (λ (n : ℕ). (size n ≡ count) × W n)
-    first-quotient t = some-made f A (λ (n : ℕ). (size n ≡ count) × W n) (making-map f A (λ (n : ℕ). (size n ≡ count) × (keptOf f d n u / 2 ^ f ≡ least) × W n) (λ (n : ℕ). (size n ≡ count) × W n) (λ n p. (p .0, p .2)) (asks .0 t))
+  module _ (W : ℕ → Type 0) (some : 0 < count) (most : count ≤ sumBits (A .below) f) (e : least ≡ leastQuotient (A .below) f count u) (r : Bool)
+      (asks : (r ≡ true) ↔ Making f A (λ (n : ℕ). Meets n x × (keptOf (A .below) f d n u / 2 ^ f ≡ least) × W n)) where
+    pub first-quotient : r ≡ true → (true ≡ true) ↔ Making f A (λ (n : ℕ). Meets n x × W n)
+    first-quotient t = some-made f A (λ (n : ℕ). Meets n x × W n) (making-map f A (λ (n : ℕ). Meets n x × (keptOf (A .below) f d n u / 2 ^ f ≡ least) × W n) (λ (n : ℕ). Meets n x × W n) (λ n p. (p .0, p .2)) (asks .0 t))
 
-    pub second-quotient : r ≡ false → (r′ : Bool) → ((r′ ≡ true) ↔ Making f A (λ (n : ℕ). (size n ≡ count) × (keptOf f d n u / 2 ^ f ≡ least + 1) × W n))
-        → (r′ ≡ true) ↔ Making f A (λ (n : ℕ). (size n ≡ count) × W n)
+    pub second-quotient : r ≡ false → (r′ : Bool) → ((r′ ≡ true) ↔ Making f A (λ (n : ℕ). Meets n x × (keptOf (A .below) f d n u / 2 ^ f ≡ least + 1) × W n))
+        → (r′ ≡ true) ↔ Making f A (λ (n : ℕ). Meets n x × W n)
     second-quotient t r′ asks′ = (
-      (λ z. making-map f A (λ (n : ℕ). (size n ≡ count) × (keptOf f d n u / 2 ^ f ≡ least + 1) × W n) (λ (n : ℕ). (size n ≡ count) × W n) (λ n p. (p .0, p .2)) (asks′ .0 z)),
+      (λ z. making-map f A (λ (n : ℕ). Meets n x × (keptOf (A .below) f d n u / 2 ^ f ≡ least + 1) × W n) (λ (n : ℕ). Meets n x × W n) (λ n p. (p .0, p .2)) (asks′ .0 z)),
       λ p. ⊎-elim
           (λ k. absurd (false≢true (sym t ∙ asks .1 (record { x = p .x; made = p .made; holds = (p .holds .0, k, p .holds .1) }))))
           (λ k. asks′ .1 (record { x = p .x; made = p .made; holds = (p .holds .0, k, p .holds .1) }))
-          (quotients (p .x) count some most (p .holds .0) e),
+          (quotients (p .x) count some most (only (p .x) (made-lt f A (p .x) (p .made)) (p .holds .0)) e),
     )
 
     -- where none has the next quotient, that is not asked
     pub only-quotient : r ≡ false → (NextQuotient f d u A count → ⊥)
-        → (false ≡ true) ↔ Making f A (λ (n : ℕ). (size n ≡ count) × W n)
+        → (false ≡ true) ↔ Making f A (λ (n : ℕ). Meets n x × W n)
     only-quotient t never =
         second-quotient t false
-        (none-made f A (λ (n : ℕ). (size n ≡ count) × (keptOf f d n u / 2 ^ f ≡ least + 1) × W n)
-        (λ p. never (record { x = p .x; made = p .made; holds = (p .holds .0, p .holds .1 ∙ ap (λ (k : ℕ). k + 1) e) })))
+        (none-made f A (λ (n : ℕ). Meets n x × (keptOf (A .below) f d n u / 2 ^ f ≡ least + 1) × W n)
+        (λ p. never (record {
+          x = p .x;
+          made = p .made;
+          holds = (only (p .x) (made-lt f A (p .x) (p .made)) (p .holds .0), p .holds .1 ∙ ap (λ (k : ℕ). k + 1) e);
+        })))
 
 -- the word of 0, and of any other number
-module _ (F : Format) (mode : ℕ) (like : Bool) (s : ℕ) (u : exponent.Unit) where
-  pub outcome-zero : (n : ℕ) → size n ≡ 0 → outcome F mode like s u n ≡ signed F (zeroSign mode like s) 0
+module _ (q : ℕ) (F : Format) (mode : ℕ) (like : Bool) (s : ℕ) (u : exponent.Unit) where
+  pub outcome-zero : (n : ℕ) → size n ≡ 0 → outcome q F mode like s u n ≡ signed F (zeroSign mode like s) 0
   unfolding outcome
-  outcome-zero n e = ap (outcome F mode like s u) (size-none n .0 e)
+  outcome-zero n e = ap (outcome q F mode like s u) (size-none n .0 e)
 
-  pub outcome-some : (n : ℕ) → 0 < size n → outcome F mode like s u n ≡ signed F s (boundedHeld F (direction mode s) n u)
+  pub outcome-some : (n : ℕ) → 0 < size n → outcome q F mode like s u n ≡ signed F s (boundedHeld q F (direction mode s) n u)
   unfolding outcome
   outcome-some zero h = absurd (omega (arith, size-zero))
   outcome-some (suc n) h = refl
 
-  module _ (A : pair.Aligned) (c : Mask) where
-    pub zero-asked : (word : ℕ) (x : Mask) (r : Bool) → word ≡ signed F (zeroSign mode like s) 0 → meets word c ≡ true → OfDigits (columnsOf (F .f)) 0 x
-        → ((r ≡ true) ↔ Making (F .f) A (λ (n : ℕ). Meets n x × Meets (n + 0 + 0) anything))
-        → (r ≡ true) ↔ Making (F .f) A (λ (n : ℕ). (size n ≡ 0) × Meets (outcome F mode like s u n) c)
-    zero-asked word x r ew met digits asks =
-        making-answer (F .f) A (λ (n : ℕ). Meets n x × Meets (n + 0 + 0) anything) (λ (n : ℕ). (size n ≡ 0) × Meets (outcome F mode like s u n) c) r
-        (λ n made.
-        let g = digits n (made-lt (F .f) A n made) in (
-          (λ p. let e = g .0 (p .0) in (e, rw (outcome-zero n e ∙ sym ew) (meets-true word c .0 met))),
-          λ p. (g .1 (p .0), and-zero-r (n + 0 + 0)),
-        ))
-        asks
+-- what is wanted of the result
+module _ (F : Format) (mode s : ℕ) (u : exponent.Unit) (A : pair.Aligned) (T : Target) where
+  -- 0 has no dropped bits
+  pub zero-asked : (word : ℕ) (x : Mask) (r : Bool) → T .dropped .mask .care ≡ 0 → word ≡ signed F (zeroSign mode (A .like) s) 0 → meets word (T .c) ≡ true
+      → OfDigits (columnsOf (F .f) A) 0 x → ((r ≡ true) ↔ Making (F .f) A (Added (F .f) A x anything 0 0))
+      → (r ≡ true) ↔ Making (F .f) A (λ (n : ℕ). (size n ≡ 0) × Serves F mode s u A T n)
+  zero-asked word x r free ew met digits asks =
+      making-answer (F .f) A (Added (F .f) A x anything 0 0) (λ (n : ℕ). (size n ≡ 0) × Serves F mode s u A T n) r
+      (λ n made.
+      let g = digits n (made-lt (F .f) A n made) in (
+        (λ p.
+            let e = g .0 (p .number) in
+            (e, record { word = rw (outcome-zero (A .below) F mode (A .like) s u n e ∙ sym ew) (meets-true word (T .c) .0 met); drops = inl free })),
+        λ p. record { number = g .1 (p .0); fits = omega (arith, made-lt (F .f) A n made); sum = and-zero-r (n + 0 + 0) },
+      ))
+      asks
 
-    pub zero-refused : (word : ℕ) → word ≡ signed F (zeroSign mode like s) 0 → meets word c ≡ false
-        → (false ≡ true) ↔ Making (F .f) A (λ (n : ℕ). (size n ≡ 0) × Meets (outcome F mode like s u n) c)
-    zero-refused word ew never =
-        none-made (F .f) A (λ (n : ℕ). (size n ≡ 0) × Meets (outcome F mode like s u n) c)
-        (λ p. false≢true (sym never ∙ meets-true word c .1 (rw (outcome-zero (p .x) (p .holds .0) ∙ sym ew) at (p .holds .1))))
+  pub zero-refused : (word : ℕ) → word ≡ signed F (zeroSign mode (A .like) s) 0 → meets word (T .c) ≡ false
+      → (false ≡ true) ↔ Making (F .f) A (λ (n : ℕ). (size n ≡ 0) × Serves F mode s u A T n)
+  zero-refused word ew never =
+      none-made (F .f) A (λ (n : ℕ). (size n ≡ 0) × Serves F mode s u A T n)
+      (λ p. false≢true (sym never ∙ meets-true word (T .c) .1 (rw (outcome-zero (A .below) F mode (A .like) s u (p .x) (p .holds .0) ∙ sym ew) at (p .holds .1 .word))))
 
-    pub some-asked : (d : Direction) (count : ℕ) (r : Bool) → d ≡ direction mode s → 0 < count
-        → ((r ≡ true) ↔ Making (F .f) A (λ (n : ℕ). (size n ≡ count) × Meets (signed F s (boundedHeld F d n u)) c))
-        → (r ≡ true) ↔ Making (F .f) A (λ (n : ℕ). (size n ≡ count) × Meets (outcome F mode like s u n) c)
-    some-asked d count r ed some asks =
-        making-answer (F .f) A (λ (n : ℕ). (size n ≡ count) × Meets (signed F s (boundedHeld F d n u)) c) (λ (n : ℕ). (size n ≡ count) × Meets (outcome F mode like s u n) c) r
-        (λ n made. ((λ p. (p .0, rw (word n (p .0)) (p .1))), λ p. (p .0, rw (word n (p .0)) at (p .1))))
-        asks
-      where
-        word : (n : ℕ) → size n ≡ count → outcome F mode like s u n ≡ signed F s (boundedHeld F d n u)
-        word n e = outcome-some n (omega arith) ∙ ap (λ (k : Direction). signed F s (boundedHeld F k n u)) (sym ed)
+  pub zero-fixed : (T .dropped .mask .care ≡ 0 → ⊥) → (false ≡ true) ↔ Making (F .f) A (λ (n : ℕ). (size n ≡ 0) × Serves F mode s u A T n)
+  zero-fixed fixed =
+      none-made (F .f) A (λ (n : ℕ). (size n ≡ 0) × Serves F mode s u A T n)
+      (λ p. ⊎-elim fixed (λ r. omega (arith, r .0 .some, size-none (p .x) .0 (p .holds .0))) (p .holds .1 .drops))
+
+  -- a number of so many digits, not 0, serves exactly in one of the ways that are left
+  module _ (valid : ValidDropped (T .dropped)) (count : ℕ) (some : 0 < count) (d : Direction) (ed : d ≡ direction mode s) where
+    -- it is in one way, and its word meets c
+    pub record InOne (t n : ℕ) : Type 0 where
+      pub digits : size n ≡ count
+      pub in-way : InWay (T .dropped) (count - (F .f + 1)) t n
+      pub word : Meets (signed F s (boundedHeld (A .below) F d n u)) (T .c)
+
+    word-is : (n : ℕ) → size n ≡ count → outcome (A .below) F mode (A .like) s u n ≡ signed F s (boundedHeld (A .below) F d n u)
+    word-is n e = outcome-some (A .below) F mode (A .like) s u n (omega arith) ∙ ap (λ (k : Direction). signed F s (boundedHeld (A .below) F k n u)) (sym ed)
+
+    positive : (n : ℕ) → size n ≡ count → 0 < n
+    positive zero e = absurd (omega (arith, e, size-zero))
+    positive (suc n) e = omega arith
+
+    pub in-one-serves : (t n : ℕ) → t < choicesOf (A .below) (F .f) u (T .dropped) count → InOne t n → (size n ≡ count) × Serves F mode s u A T n
+    in-one-serves t n lt p = (
+      p .digits,
+      record {
+        word = rw (word-is n (p .digits)) (p .word);
+        drops = drops-in-way F (A .below) u (T .dropped) count valid n (positive n (p .digits)) (p .digits) .1 (t, lt, p .in-way);
+      },
+    )
+
+    pub serves-in-one : (n : ℕ) → (size n ≡ count) × Serves F mode s u A T n → (t : ℕ) × (t < choicesOf (A .below) (F .f) u (T .dropped) count) × InOne t n
+    serves-in-one n p =
+        let w = drops-in-way F (A .below) u (T .dropped) count valid n (positive n (p .0)) (p .0) .0 (p .1 .drops) in
+        (w .0, w .1, record { digits = p .0; in-way = w .2; word = rw (word-is n (p .0)) at (p .1 .word) })

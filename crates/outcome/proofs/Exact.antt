@@ -20,10 +20,11 @@ use Rattle.rounding.specs.Width.{sumBits}
 use Rattle.rounding.specs.Outcome.{keptOf}
 use Rattle.outcome.specs.declared.Aligned as pair
 use Rattle.outcome.specs.Outcome.{Made, Making}
-use Rattle.outcome.specs.Question.{NextQuotient, KeepAlike}
+use Rattle.outcome.specs.Question.{NextQuotient, KeepAlike, OnlyDigits}
 use Rattle.outcome.proofs.Topped.{and-ones}
 use Rattle.outcome.proofs.Kept.{roundedBits, addedZeros, kept-shifted}
 use Rattle.outcome.proofs.Making.{making-answer}
+use Rattle.outcome.proofs.Range.{made-lt}
 
 -- a mask that fixes the low j bits to 0
 pub zeros-meets-low : (j : ℕ) (m l : Mask) → l ≡ low j m → l .value ≡ 0 → l .care ≡ 2 ^ j - 1 → (n : ℕ) → Meets n m → n % 2 ^ j ≡ 0
@@ -50,26 +51,30 @@ made-zeros A j head tail f x made =
     (combined-zeros (not (A .like)) (made .H) (made .T) j (head (made .H) (made .head-meets)) (tail (made .T) (made .tail-meets)))
 
 -- then all directions keep the same part
-pub exact-alike : (f : ℕ) (d e : Direction) (u : exponent.Unit) (A : pair.Aligned) (N : ℕ) → 0 < N → N ≤ sumBits f
-    → ((x : ℕ) → Made f A x → size x ≡ N → x % 2 ^ roundedBits f N u ≡ 0) → KeepAlike f d e u A N
+pub exact-alike : (f : ℕ) (d e : Direction) (u : exponent.Unit) (A : pair.Aligned) (N : ℕ) → 0 < N → N ≤ sumBits (A .below) f
+    → ((x : ℕ) → Made f A x → size x ≡ N → x % 2 ^ roundedBits (A .below) f N u ≡ 0) → KeepAlike f d e u A N
 exact-alike f d e u A zero some most zeros = absurd (omega arith)
 exact-alike f d e u A (suc n) some most zeros = λ x made digits.
+    let q = A .below in
     let whole = zeros x made digits in
-    kept-shifted f d x u n digits most
-    ∙ ap (λ (k : ℕ). k * 2 ^ addedZeros f (suc n) u) (round-off-exact d x (roundedBits f (suc n) u) whole ∙ sym (round-off-exact e x (roundedBits f (suc n) u) whole))
-    ∙ sym (kept-shifted f e x u n digits most)
+    kept-shifted q f d x u n digits most
+    ∙ ap (λ (k : ℕ). k * 2 ^ addedZeros q f (suc n) u) (round-off-exact d x (roundedBits q f (suc n) u) whole ∙ sym (round-off-exact e x (roundedBits q f (suc n) u) whole))
+    ∙ sym (kept-shifted q f e x u n digits most)
 
--- a question on the part that is kept, put in a direction that keeps the same
+-- a question on the part that is kept, put in a direction that keeps the same; x asks for N digits
 module _ (f : ℕ) (d e : Direction) (u : exponent.Unit) (A : pair.Aligned) (N : ℕ) (alike : KeepAlike f d e u A N) where
-  pub alike-asked : (q : ℕ) (possible : Bool) (fraction : Mask) (r : Bool)
-      → ((r ≡ true) ↔ Making f A (λ (x : ℕ). (size x ≡ N) × (keptOf f d x u / 2 ^ f ≡ q) × (possible ≡ true) × Meets (keptOf f d x u % 2 ^ f) fraction))
-      → (r ≡ true) ↔ Making f A (λ (x : ℕ). (size x ≡ N) × (keptOf f e x u / 2 ^ f ≡ q) × (possible ≡ true) × Meets (keptOf f e x u % 2 ^ f) fraction)
-  alike-asked q possible fraction r asks =
-      making-answer f A (λ (x : ℕ). (size x ≡ N) × (keptOf f d x u / 2 ^ f ≡ q) × (possible ≡ true) × Meets (keptOf f d x u % 2 ^ f) fraction)
-      (λ (x : ℕ). (size x ≡ N) × (keptOf f e x u / 2 ^ f ≡ q) × (possible ≡ true) × Meets (keptOf f e x u % 2 ^ f) fraction) r
-      (λ x made. (
-        (λ p. (p .0, rw (alike x made (p .0)) at (p .1), p .2, rw (alike x made (p .0)) at (p .3))),
-        λ p. (p .0, rw (alike x made (p .0)) (p .1), p .2, rw (alike x made (p .0)) (p .3)),
+  abbrev Keeps : Mask → Direction → ℕ → Bool → Mask → ℕ → Type 0
+  Keeps x way h possible fraction n =
+      Meets n x × (keptOf (A .below) f way n u / 2 ^ f ≡ h) × (possible ≡ true) × Meets (keptOf (A .below) f way n u % 2 ^ f) fraction
+
+  pub alike-asked : (x : Mask) → OnlyDigits f A N x → (h : ℕ) (possible : Bool) (fraction : Mask) (r : Bool)
+      → ((r ≡ true) ↔ Making f A (Keeps x d h possible fraction)) → (r ≡ true) ↔ Making f A (Keeps x e h possible fraction)
+  alike-asked x only h possible fraction r asks =
+      making-answer f A (Keeps x d h possible fraction) (Keeps x e h possible fraction) r
+      (λ n made.
+      let same : Meets n x → keptOf (A .below) f d n u ≡ keptOf (A .below) f e n u = λ met. alike n made (only n (made-lt f A n made) met) in (
+        (λ p. (p .0, rw (same (p .0)) at (p .1), p .2, rw (same (p .0)) at (p .3))),
+        λ p. (p .0, rw (same (p .0)) (p .1), p .2, rw (same (p .0)) (p .3)),
       ))
       asks
 

@@ -25,8 +25,7 @@ use Rattle.word.specs.declared.Unit as exponent
 use Rattle.word.specs.Word.{fieldOf, allOnes, signed, infinityWord}
 use Rattle.rounding.specs.Rounding.{overflowWord}
 use Rattle.rounding.specs.Outcome.{roundedUnit, keptOf, heldWord, boundedHeld}
-use Rattle.outcome.specs.Question.{wordOrOverflow, Seeks}
-use Rattle.outcome.proofs.Topped.{anything}
+use Rattle.outcome.specs.Question.{anything, wordOrOverflow, Seeks}
 
 -- k and a part Y make the exponent field k + Y / 2^f and the fraction Y % 2^f
 apart : (f k Y : ℕ) → k * 2 ^ f + Y ≡ (k + Y / 2 ^ f) * 2 ^ f + Y % 2 ^ f
@@ -35,37 +34,37 @@ apart f k Y =
     let m = add-mul k (Y / 2 ^ f) (2 ^ f) in
     omega arith
 
-pub held-word : (F : Format) (d : Direction) (s x : ℕ) (u : exponent.Unit)
-    → signed F s (boundedHeld F d x u) ≡ wordOrOverflow F d s (fieldOf (roundedUnit (F .f) (size x) u) (keptOf (F .f) d x u / 2 ^ F .f)) (keptOf (F .f) d x u % 2 ^ F .f)
+pub held-word : (q : ℕ) (F : Format) (d : Direction) (s x : ℕ) (u : exponent.Unit)
+    → signed F s (boundedHeld q F d x u) ≡ wordOrOverflow F d s (fieldOf (roundedUnit q (F .f) (size x) u) (keptOf q (F .f) d x u / 2 ^ F .f)) (keptOf q (F .f) d x u % 2 ^ F .f)
 unfolding boundedHeld
-held-word F d s x u = ap (signed F s) (go (decLt e (allOnes F)))
+held-word q F d s x u = ap (signed F s) (go (decLt e (allOnes F)))
   where
     Y : ℕ
-    Y = keptOf (F .f) d x u
+    Y = keptOf q (F .f) d x u
 
     k : ℕ
-    k = roundedUnit (F .f) (size x) u .0
+    k = roundedUnit q (F .f) (size x) u .0
 
     e : ℕ
     e = k + Y / 2 ^ F .f
 
-    whole : heldWord F d x u ≡ e * 2 ^ F .f + Y % 2 ^ F .f
+    whole : heldWord q F d x u ≡ e * 2 ^ F .f + Y % 2 ^ F .f
     whole = apart (F .f) k Y
 
-    quotient : heldWord F d x u / 2 ^ F .f ≡ e
+    quotient : heldWord q F d x u / 2 ^ F .f ≡ e
     quotient = mul-add-div-right (pow-pos (F .f)) k Y
 
     go : Dec (e < allOnes F)
-        → cond (ltb (heldWord F d x u) (infinityWord F)) (heldWord F d x u) (overflowWord F d)
+        → cond (ltb (heldWord q F d x u) (infinityWord F)) (heldWord q F d x u) (overflowWord F d)
         ≡ cond (ltb e (allOnes F)) (e * 2 ^ F .f + Y % 2 ^ F .f) (overflowWord F d)
     go (yes h) =
-        let l = div-lt-iff-lt-mul {k = 2 ^ F .f} {x = heldWord F d x u} {y = allOnes F} (pow-pos (F .f)) .0 (rw quotient h) in
-        rw (lt-ltb (heldWord F d x u) (infinityWord F) l, lt-ltb e (allOnes F) h) whole
-    go (no h) = rw (le-ltb (heldWord F d x u) (infinityWord F) (past (decLt (heldWord F d x u) (infinityWord F))), le-ltb e (allOnes F) (omega arith))
+        let l = div-lt-iff-lt-mul {k = 2 ^ F .f} {x = heldWord q F d x u} {y = allOnes F} (pow-pos (F .f)) .0 (rw quotient h) in
+        rw (lt-ltb (heldWord q F d x u) (infinityWord F) l, lt-ltb e (allOnes F) h) whole
+    go (no h) = rw (le-ltb (heldWord q F d x u) (infinityWord F) (past (decLt (heldWord q F d x u) (infinityWord F))), le-ltb e (allOnes F) (omega arith))
       where
-        past : Dec (heldWord F d x u < infinityWord F) → infinityWord F ≤ heldWord F d x u
+        past : Dec (heldWord q F d x u < infinityWord F) → infinityWord F ≤ heldWord q F d x u
         past (yes l) =
-            let q = div-lt-iff-lt-mul {k = 2 ^ F .f} {x = heldWord F d x u} {y = allOnes F} (pow-pos (F .f)) .1 l in
+            let lt = div-lt-iff-lt-mul {k = 2 ^ F .f} {x = heldWord q F d x u} {y = allOnes F} (pow-pos (F .f)) .1 l in
             absurd (omega (arith, quotient))
         past (no l) = omega arith
 

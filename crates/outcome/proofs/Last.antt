@@ -12,11 +12,7 @@ use Rattle.mask.specs.Mask.{Meets, fixed}
 use Rattle.mask.specs.Join.{join}
 use Rattle.mask.proofs.Fixing.{fixed-meets}
 use Rattle.mask.proofs.Replies.{join-meets, join-refused}
-use Rattle.outcome.proofs.Topped.{anything}
-
--- bit j fixed to b, and no other
-abbrev pub oneBit : ℕ → ℕ → Mask
-oneBit j b = record { care = 2 ^ j; value = b * 2 ^ j }
+use Rattle.outcome.specs.Question.{anything, oneBit}
 
 module _ (j b : ℕ) (h : b < 2) where
   none : bit 0 j ≡ 0

@@ -5,8 +5,9 @@ pub mod Fields
 pub mod Rounds
 pub mod Making
 pub mod Last
-pub mod Asked
+pub mod Choices
 pub mod Range
+pub mod Asked
 pub mod Carried
 pub mod Exact
 pub mod Reversed

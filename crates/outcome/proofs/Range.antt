@@ -4,24 +4,22 @@
 use mathlib.Core.Path.{_≡_, refl, sym, ap, _∙_, subst}
 use mathlib.Core.Bool.{Bool, true, false, not, true≢false}
 use Prim.Native.Nat.{ℕ, zero, suc, _+_, _-_, _*_, _/_, _^_, _≤_, _<_}
-use native.Mathlib.Nat.{lt-of-le-of-lt, sub-le, div-eq-of-lt, div-lt-iff-lt-mul}
+use native.Mathlib.Nat.{div-eq-of-lt, div-lt-iff-lt-mul}
 use native.Mathlib.Decide.{decLt}
 use native.Mathlib.Omega.{arith}
 use lib.Ieee.{size}
 use lib.Ieee.Digits.{size-le}
-use lib.Pow.{pow-pos, pow-add, shr-lt}
+use lib.Pow.{pow-pos, pow-add, add-lt-pow, shr-lt}
 use Rattle.mask.specs.declared.Mask.{Mask}
 use Rattle.mask.specs.Mask.{Meets, meets, high}
 use Rattle.mask.proofs.ByParts.{meets-parts}
 use Rattle.mask.proofs.Checks.{meets-true}
-use Rattle.rounding.specs.Width.{guardBits, alignedBits, smallBits, sumBits}
+use Rattle.rounding.specs.Width.{alignedBits, sumBits}
 use Rattle.rounding.proofs.Widths.{sum-width}
 use Rattle.rounding.proofs.Size.{size-least}
 use Rattle.columns.specs.Carry.{combined}
 use Rattle.outcome.specs.declared.Aligned as pair
-use Rattle.outcome.specs.Outcome.{Made}
-use Rattle.outcome.specs.Question.{mostDigits}
-use Rattle.outcome.proofs.Asked.{combined-lt}
+use Rattle.outcome.specs.Outcome.{Made, mostDigits, columnsOf, Room}
 
 -- a test of the high part
 pub high-tested : (v k : ℕ) (m h : Mask) (r b : Bool) → h ≡ high k m → r ≡ meets v h → r ≡ b → meets v (high k m) ≡ b
@@ -50,18 +48,15 @@ module _ (k n : ℕ) (m : Mask) (met : Meets n m) where
       go (suc (suc (suc (suc v)))) e l = absurd (omega arith)
 
 -- a sum has one digit more
-pub most-digits-bounds : (f : ℕ) (like : Bool) → (alignedBits f ≤ mostDigits f like) × (mostDigits f like ≤ sumBits f)
-most-digits-bounds f true = omega arith
-most-digits-bounds f false = omega arith
+pub most-digits-bounds : (q f : ℕ) (like : Bool) → (alignedBits q f ≤ mostDigits q f like) × (mostDigits q f like ≤ sumBits q f)
+most-digits-bounds q f true = omega arith
+most-digits-bounds q f false = omega arith
+
+-- so the columns of a question leave a bit of a word
+pub aligned-lt : (f : ℕ) (A : pair.Aligned) → Room f A → alignedBits (A .below) f < 64
+aligned-lt f A room = omega (arith, room .columns, most-digits-bounds (A .below) f (A .like) .0)
 
 module _ (f : ℕ) (A : pair.Aligned) (x : ℕ) (made : Made f A x) where
-  pub made-most : size x ≤ sumBits f
-  made-most =
-      size-le x (sumBits f)
-      (subst (λ (n : ℕ). n < 2 ^ sumBits f) (made .makes)
-      (subst (λ (k : ℕ). combined (not (A .like)) (made .H) (made .T) < 2 ^ k) (sum-width f)
-      (combined-lt (not (A .like)) (made .H) (made .T) (alignedBits f) (made .head-lt) (made .tail-lt))))
-
   -- the parts are added
   pub made-sum : A .like ≡ true → made .H + made .T ≡ x
   made-sum e = sym (ap (λ (b : Bool). combined (not b) (made .H) (made .T)) e) ∙ made .makes
@@ -70,22 +65,27 @@ module _ (f : ℕ) (A : pair.Aligned) (x : ℕ) (made : Made f A x) where
   pub made-difference : A .like ≡ false → made .H - made .T ≡ x
   made-difference e = sym (ap (λ (b : Bool). combined (not b) (made .H) (made .T)) e) ∙ made .makes
 
-  pub made-difference-most : A .like ≡ false → size x ≤ alignedBits f
-  made-difference-most e = size-le x (alignedBits f) (subst (λ (n : ℕ). n < 2 ^ alignedBits f) (made-difference e) (lt-of-le-of-lt (sub-le (made .H) (made .T)) (made .head-lt)))
-
-  pub made-digits : size x ≤ mostDigits f (A .like)
-  made-digits = go (A .like) refl
+  -- what is made fits the columns
+  pub made-lt : x < 2 ^ columnsOf f A
+  made-lt = go (A .like) refl
     where
-      go : (like : Bool) → A .like ≡ like → size x ≤ mostDigits f like
-      go true e = made-most
-      go false e = made-difference-most e
+      go : (like : Bool) → A .like ≡ like → x < 2 ^ mostDigits (A .below) f like
+      go true e =
+          let s = subst (λ (k : ℕ). made .H + made .T < 2 ^ k) (sum-width (A .below) f) (add-lt-pow (alignedBits (A .below) f) (made .head-lt) (made .tail-lt)) in
+          omega (arith, s, made-sum e)
+      go false e = omega (arith, made .head-lt, made-difference e)
 
-  pub made-like : A .like ≡ true → 2 ^ (f + guardBits) ≤ made .H → alignedBits f ≤ size x
-  made-like e h = let s = size-least x (f + guardBits) (omega (arith, made-sum e)) in omega arith
+  pub made-digits : size x ≤ columnsOf f A
+  made-digits = size-le x (columnsOf f A) made-lt
 
-  pub made-unlike : A .like ≡ false → 2 ^ (f + guardBits) ≤ made .H → made .T < 2 ^ smallBits f → f + guardBits ≤ size x
-  made-unlike e h t =
-      let p : 2 ^ (f + guardBits) ≡ 2 ^ f * 2 ^ guardBits = pow-add 2 f guardBits in
-      let q : 2 ^ smallBits f ≡ 2 ^ f * 2 ^ (guardBits - 1) = pow-add 2 f (guardBits - 1) in
-      let s = size-least x (smallBits f) (omega (arith, made-difference e)) in
+  pub made-most : size x ≤ sumBits (A .below) f
+  made-most = omega (arith, made-digits, most-digits-bounds (A .below) f (A .like) .1)
+
+  pub made-like : A .like ≡ true → 2 ^ (f + A .below) ≤ made .H → alignedBits (A .below) f ≤ size x
+  made-like e h = let s = size-least x (f + A .below) (omega (arith, made-sum e)) in omega arith
+
+  pub made-unlike : 0 < A .below → A .like ≡ false → 2 ^ (f + A .below) ≤ made .H → made .T < 2 ^ (f + A .below - 1) → f + A .below ≤ size x
+  made-unlike some e h t =
+      let p : 2 ^ (f + A .below) ≡ 2 ^ (f + A .below - 1) * 2 = ap (λ (k : ℕ). 2 ^ k) (omega arith) ∙ pow-add 2 (f + A .below - 1) 1 in
+      let s = size-least x (f + A .below - 1) (omega (arith, made-difference e)) in
       omega arith

@@ -3,13 +3,13 @@
 use mathlib.Core.Logic.{_↔_}
 use mathlib.Core.Path.{_≡_, refl, sym, ap, ap₂, _∙_, subst}
 use mathlib.Core.Bool.{Bool, true, not}
-use Prim.Native.Nat.{ℕ, zero, suc, _+_, _-_, _/_, _%_, _^_, _≤_, _<_}
+use Prim.Native.Nat.{ℕ, zero, suc, _+_, _-_, _*_, _/_, _%_, _^_, _≤_, _<_}
 use native.Mathlib.Nat.{lt-of-lt-of-le, lt-of-le-of-lt}
 use native.Mathlib.Omega.{arith}
 use lib.Bits.{bitAnd, bitXor, and-zero-r, and-mask}
 use lib.Dec.{eqb}
 use lib.Ieee.{size}
-use lib.Pow.{pow-mono, mod-mod-pow}
+use lib.Pow.{pow-pos, pow-add, pow-mono, mod-mod-pow}
 use Rattle.bits.specs.Bit.{bit}
 use Rattle.bits.proofs.Laws.{bit-lt}
 use Rattle.bits.proofs.Logic.{bit-xor}
@@ -23,14 +23,13 @@ use Rattle.columns.proofs.Borrow.{borrow-reversed, borrow-even}
 use Rattle.chain.specs.declared.Wires.{Wires}
 use Rattle.chain.specs.Chain.{Solved, Answered}
 use Rattle.word.specs.declared.Unit as exponent
-use Rattle.rounding.specs.Width.{guardBits, alignedBits, columnsOf, shortBits}
+use Rattle.rounding.specs.Width.{alignedBits}
 use Rattle.outcome.specs.declared.Aligned as pair
-use Rattle.outcome.specs.Outcome.{Made, Making, GuardsZero, Formed}
-use Rattle.outcome.specs.Question.{opposite, oneAbove}
-use Rattle.outcome.proofs.Topped.{anything}
+use Rattle.outcome.specs.Outcome.{Made, Making, mostDigits, columnsOf, ZerosBelow, Formed}
+use Rattle.outcome.specs.Question.{anything, opposite, oneAbove}
 use Rattle.outcome.proofs.Kept.{roundedBits}
 use Rattle.outcome.proofs.Asked.{allows-moved, allows-back, most-aligned-lt, columns-below, row-allowed}
-use Rattle.outcome.proofs.Range.{made-difference, made-difference-most}
+use Rattle.outcome.proofs.Range.{most-digits-bounds, aligned-lt, made-difference, made-digits}
 use Rattle.outcome.proofs.Exact.{zeros-meets-low, made-zeros}
 
 -- ---- the fixed bits turned over
@@ -96,19 +95,24 @@ module _ (m : Mask) (care : m .care % 2 ≡ 1) (value : m .value % 2 ≡ 0) wher
       high-back : Meets (n / 2) (high 1 m) → Meets ((n + 1) / 2) (high 1 (oneAbove m))
       high-back e = ap (λ (k : ℕ). bitAnd k (m .care / 2)) half ∙ e ∙ sym half-value
 
--- the guard bits have the lowest one among them
-lowest-guard : (n r : ℕ) → n % 2 ^ guardBits ≡ r → n % 2 ≡ r % 2
-lowest-guard n r e = sym (mod-mod-pow n (guardBits - 1) 1) ∙ ap (λ (k : ℕ). k % 2) e
+-- the low q bits have the lowest one among them
+module _ (q : ℕ) (some : 0 < q) where
+  lowest : (n r : ℕ) → n % 2 ^ q ≡ r → n % 2 ≡ r % 2
+  lowest n r e =
+      let up : q - 1 + 1 ≡ q = omega arith in
+      sym (mod-mod-pow n (q - 1) 1) ∙ ap (λ (k : ℕ). n % 2 ^ k % 2) up ∙ ap (λ (k : ℕ). k % 2) e
 
--- a mask that fixes them to 0 fixes that
-lowest-fixed : (m : Mask) → GuardsZero m → m .care % 2 ≡ 1
-lowest-fixed m u = lowest-guard (m .care) (2 ^ guardBits - 1) (u .0)
+  -- a mask that fixes them to 0 fixes that
+  lowest-fixed : (m : Mask) → ZerosBelow q m → m .care % 2 ≡ 1
+  lowest-fixed m u =
+      let half : 2 ^ q ≡ 2 ^ (q - 1) * 2 = ap (λ (k : ℕ). 2 ^ k) (omega arith) ∙ pow-add 2 (q - 1) 1 in
+      lowest (m .care) (2 ^ q - 1) (u .0) ∙ omega (arith, half, pow-pos (q - 1))
 
-lowest-zero : (m : Mask) → GuardsZero m → m .value % 2 ≡ 0
-lowest-zero m u = lowest-guard (m .value) 0 (u .1)
+  lowest-zero : (m : Mask) → ZerosBelow q m → m .value % 2 ≡ 0
+  lowest-zero m u = lowest (m .value) 0 (u .1)
 
-guards-zero : (m : Mask) → GuardsZero m → (n : ℕ) → Meets n m → n % 2 ^ guardBits ≡ 0
-guards-zero m u = zeros-meets-low guardBits m (low guardBits m) refl (u .1) (u .0)
+zeros-below : (q : ℕ) (m : Mask) → ZerosBelow q m → (n : ℕ) → Meets n m → n % 2 ^ q ≡ 0
+zeros-below q m u = zeros-meets-low q m (low q m) refl (u .1) (u .0)
 
 -- ---- the question
 
@@ -126,36 +130,36 @@ reversedWires A tail carries z = record {
 }
 
 -- H - (T + 1) and the row of T - H
-other-borrow : (H T i : ℕ) → T % 2 ≡ 0 → borrow H (T + 1) 0 (i + (1 + guardBits)) + borrow T H 0 (i + (1 + guardBits)) ≡ 1
-other-borrow H T i even =
-    let up : i + guardBits + 1 ≡ i + (1 + guardBits) = omega arith in
-    let e : borrow H (T + 1) 0 (i + (1 + guardBits)) ≡ borrow H T 1 (i + (1 + guardBits)) =
-    subst (λ (k : ℕ). borrow H (T + 1) 0 k ≡ borrow H T 1 k) up (borrow-even H T (i + guardBits) even) in
-    omega (arith, e, borrow-reversed H T (i + (1 + guardBits)))
+other-borrow : (q H T i : ℕ) → T % 2 ≡ 0 → borrow H (T + 1) 0 (i + (1 + q)) + borrow T H 0 (i + (1 + q)) ≡ 1
+other-borrow q H T i even =
+    let up : i + q + 1 ≡ i + (1 + q) = omega arith in
+    let e : borrow H (T + 1) 0 (i + (1 + q)) ≡ borrow H T 1 (i + (1 + q)) =
+    subst (λ (k : ℕ). borrow H (T + 1) 0 k ≡ borrow H T 1 k) up (borrow-even H T (i + q) even) in
+    omega (arith, e, borrow-reversed H T (i + (1 + q)))
 
-module _ (f : ℕ) (A : pair.Aligned) (formed : Formed f A) (most : columnsOf f < 64) (reversed : A .reversed ≡ true) (z : Mask) where
+module _ (f : ℕ) (A : pair.Aligned) (formed : Formed f A) (reversed : A .reversed ≡ true) (z : Mask) where
   even-tail : (T : ℕ) → Meets T (A .tail) → T % 2 ≡ 0
-  even-tail T met = lowest-guard T 0 (guards-zero (A .tail) (formed .one-unit reversed .tail) T met)
+  even-tail T met = lowest (A .below) (formed .room .some) T 0 (zeros-below (A .below) (A .tail) (formed .one-unit reversed .tail) T met)
 
   tail-above : (T : ℕ) → T % 2 ≡ 0 → Meets (T + 1) (oneAbove (A .tail)) ↔ Meets T (A .tail)
   tail-above =
-      above-meets (A .tail) (lowest-fixed (A .tail) (formed .one-unit reversed .tail)) (lowest-zero (A .tail) (formed .one-unit reversed .tail))
+      above-meets (A .tail) (lowest-fixed (A .below) (formed .room .some) (A .tail) (formed .one-unit reversed .tail)) (lowest-zero (A .below) (formed .room .some) (A .tail) (formed .one-unit reversed .tail))
 
-  pub reversed-sound : (l t : ℕ) → Solved (reversedWires A (oneAbove (A .tail)) (raised (1 + guardBits) (opposite (A .carries))) z) (columnsOf f) l t → Making f A (λ (n : ℕ). Meets n z)
+  pub reversed-sound : (l t : ℕ) → Solved (reversedWires A (oneAbove (A .tail)) (raised (1 + A .below) (opposite (A .carries))) z) (columnsOf f A) l t → Making f A (λ (n : ℕ). Meets n z)
   reversed-sound l t s = record {
     x = l - T;
     made = record {
       H = l;
       T = T;
-      head-lt = lt-of-le-of-lt (formed .head l (columns-below f most l (s .l-lt)) (s .l-meets)) (most-aligned-lt f);
-      tail-lt = lt-of-le-of-lt (formed .tail T (columns-below f most T (omega (arith, s .t-lt))) T-meets) (most-aligned-lt f);
+      head-lt = lt-of-le-of-lt (formed .head l (columns-below f A (formed .room) l (s .l-lt)) (s .l-meets)) (most-aligned-lt (A .below) f);
+      tail-lt = lt-of-le-of-lt (formed .tail T (columns-below f A (formed .room) T (omega (arith, s .t-lt))) T-meets) (most-aligned-lt (A .below) f);
       head-meets = s .l-meets;
       tail-meets = T-meets;
       ordered = λ e. omega (arith, s .ordered refl);
       less = λ e. omega (arith, s .ordered refl, is);
-      carries-allow = λ i h. row-allowed A true reversed l T (i + (1 + guardBits)) i .0
-          (sym (allows-opposite (A .carries) (formed .carries .inside) i (borrow l t 0 (i + (1 + guardBits))) (borrow T l 0 (i + (1 + guardBits))) (one i))
-          ∙ allows-back (1 + guardBits) (opposite (A .carries)) (carryOf true l t) i (s .carries-allow (i + (1 + guardBits)) (omega (arith, h))));
+      carries-allow = λ i h. row-allowed A true reversed l T (i + (1 + A .below)) i .0
+          (sym (allows-opposite (A .carries) (formed .carries .inside) i (borrow l t 0 (i + (1 + A .below))) (borrow T l 0 (i + (1 + A .below))) (one i))
+          ∙ allows-back (1 + A .below) (opposite (A .carries)) (carryOf true l t) i (s .carries-allow (i + (1 + A .below)) (omega (arith, h, most-digits-bounds (A .below) f (A .like) .0))));
       makes = ap (λ (b : Bool). Rattle.columns.specs.Carry.combined (not b) l T) (formed .one-unit reversed .unlike);
     };
     holds = subst (λ (n : ℕ). Meets n z) again (s .z-meets);
@@ -165,7 +169,7 @@ module _ (f : ℕ) (A : pair.Aligned) (formed : Formed f A) (most : columnsOf f 
       T = t - 1
 
       odd : t % 2 ≡ 1
-      odd = above-odd (A .tail) (lowest-fixed (A .tail) (formed .one-unit reversed .tail)) (lowest-zero (A .tail) (formed .one-unit reversed .tail)) t (s .t-meets)
+      odd = above-odd (A .tail) (lowest-fixed (A .below) (formed .room .some) (A .tail) (formed .one-unit reversed .tail)) (lowest-zero (A .below) (formed .room .some) (A .tail) (formed .one-unit reversed .tail)) t (s .t-meets)
 
       is : t - 1 + 1 ≡ t
       is = omega (arith, odd)
@@ -179,11 +183,11 @@ module _ (f : ℕ) (A : pair.Aligned) (formed : Formed f A) (most : columnsOf f 
       T-meets : Meets (t - 1) (A .tail)
       T-meets = tail-above (t - 1) even .0 (subst (λ (n : ℕ). Meets n (oneAbove (A .tail))) (sym is) (s .t-meets))
 
-      one : (i : ℕ) → borrow l t 0 (i + (1 + guardBits)) + borrow (t - 1) l 0 (i + (1 + guardBits)) ≡ 1
-      one i = subst (λ (n : ℕ). borrow l n 0 (i + (1 + guardBits)) + borrow (t - 1) l 0 (i + (1 + guardBits)) ≡ 1) is (other-borrow l (t - 1) i even)
+      one : (i : ℕ) → borrow l t 0 (i + (1 + A .below)) + borrow (t - 1) l 0 (i + (1 + A .below)) ≡ 1
+      one i = subst (λ (n : ℕ). borrow l n 0 (i + (1 + A .below)) + borrow (t - 1) l 0 (i + (1 + A .below)) ≡ 1) is (other-borrow (A .below) l (t - 1) i even)
 
   pub reversed-complete : (m : Making f A (λ (n : ℕ). Meets n z))
-      → Solved (reversedWires A (oneAbove (A .tail)) (raised (1 + guardBits) (opposite (A .carries))) z) (columnsOf f) (m .made .H) (m .made .T + 1)
+      → Solved (reversedWires A (oneAbove (A .tail)) (raised (1 + A .below) (opposite (A .carries))) z) (columnsOf f A) (m .made .H) (m .made .T + 1)
   reversed-complete m = record {
     l-lt = omega (arith, w .head-lt, wide);
     t-lt = omega (arith, w .head-lt, wide, strict);
@@ -194,10 +198,10 @@ module _ (f : ℕ) (A : pair.Aligned) (formed : Formed f A) (most : columnsOf f 
     t-meets = tail-above (w .T) even .1 (w .tail-meets);
     x-meets = and-zero-r (w .H - (w .T + 1));
     z-meets = subst (λ (n : ℕ). Meets n z) (sym (made-difference f A (m .x) (m .made) (formed .one-unit reversed .unlike)) ∙ again) (m .holds);
-    carries-allow = λ i h. allows-moved (f + 1) (1 + guardBits) (opposite (A .carries)) (opposite-formed (f + 1) (A .carries) (formed .carries)) (carryOf true (w .H) (w .T + 1))
+    carries-allow = λ i h. allows-moved (f + 1) (1 + A .below) (opposite (A .carries)) (opposite-formed (f + 1) (A .carries) (formed .carries)) (carryOf true (w .H) (w .T + 1))
         (λ k l.
-        allows-opposite (A .carries) (formed .carries .inside) k (borrow (w .H) (w .T + 1) 0 (k + (1 + guardBits))) (borrow (w .T) (w .H) 0 (k + (1 + guardBits))) (other-borrow (w .H) (w .T) k even)
-        ∙ row-allowed A true reversed (w .H) (w .T) (k + (1 + guardBits)) k .1 (w .carries-allow k l))
+        allows-opposite (A .carries) (formed .carries .inside) k (borrow (w .H) (w .T + 1) 0 (k + (1 + A .below))) (borrow (w .T) (w .H) 0 (k + (1 + A .below))) (other-borrow (A .below) (w .H) (w .T) k even)
+        ∙ row-allowed A true reversed (w .H) (w .T) (k + (1 + A .below)) k .1 (w .carries-allow k l))
         i;
   }
     where
@@ -213,48 +217,46 @@ module _ (f : ℕ) (A : pair.Aligned) (formed : Formed f A) (most : columnsOf f 
       even : m .made .T % 2 ≡ 0
       even = even-tail (m .made .T) (m .made .tail-meets)
 
-      wide : 2 ^ alignedBits f ≤ 2 ^ columnsOf f
-      wide = pow-mono {i = alignedBits f} {j = columnsOf f} (omega arith)
+      wide : 2 ^ alignedBits (A .below) f ≤ 2 ^ columnsOf f A
+      wide = pow-mono {i = alignedBits (A .below) f} {j = columnsOf f A} (most-digits-bounds (A .below) f (A .like) .0)
 
--- the question as it is put, where the carry mask is moved up above the guard bits unless that loses bits
-pub reversed-asked : (f : ℕ) (A : pair.Aligned) (tail over carries z : Mask) → columnsOf f < 64
+-- the question as it is put, where the carry mask is moved up above the bits below unless that loses bits
+pub reversed-asked : (f : ℕ) (A : pair.Aligned) (tail over carries z : Mask)
     → (A .tail .value % 2 ≡ 0 → tail ≡ oneAbove (A .tail)) → over ≡ opposite (A .carries)
-    → (over .care < 2 ^ shortBits → over .value < 2 ^ shortBits → carries ≡ raised (1 + guardBits) over)
-    → A .reversed ≡ true → Formed f A → Answered (reversedWires A tail carries z) (columnsOf f) ↔ Making f A (λ (n : ℕ). Meets n z)
-reversed-asked f A tail over carries z most above turned moved reversed formed = (
-  (λ s. reversed-sound f A formed most reversed z (s .l) (s .t) (rw (tail-is, carries-are) at (s .solved))),
+    → ((k : ℕ) → k + (1 + A .below) ≤ 64 → over .care < 2 ^ k → over .value < 2 ^ k → carries ≡ raised (1 + A .below) over)
+    → A .reversed ≡ true → Formed f A → Answered (reversedWires A tail carries z) (columnsOf f A) ↔ Making f A (λ (n : ℕ). Meets n z)
+reversed-asked f A tail over carries z above turned moved reversed formed = (
+  (λ s. reversed-sound f A formed reversed z (s .l) (s .t) (rw (tail-is, carries-are) at (s .solved))),
   λ m. record {
-    columns-lt = most;
+    columns-lt = formed .room .columns;
     carry-lt = omega arith;
     l = m .made .H;
     t = m .made .T + 1;
-    solved = rw (tail-is, carries-are) (reversed-complete f A formed most reversed z m);
+    solved = rw (tail-is, carries-are) (reversed-complete f A formed reversed z m);
   },
 )
   where
-    short : 2 ^ (f + 1) ≤ 2 ^ shortBits
-    short = pow-mono {i = f + 1} {j = shortBits} (omega arith)
-
     tail-is : tail ≡ oneAbove (A .tail)
-    tail-is = above (lowest-zero (A .tail) (formed .one-unit reversed .tail))
+    tail-is = above (lowest-zero (A .below) (formed .room .some) (A .tail) (formed .one-unit reversed .tail))
 
     own : WellFormed (f + 1) (opposite (A .carries))
     own = opposite-formed (f + 1) (A .carries) (formed .carries)
 
-    carries-are : carries ≡ raised (1 + guardBits) (opposite (A .carries))
+    carries-are : carries ≡ raised (1 + A .below) (opposite (A .carries))
     carries-are =
-        moved (rw turned (lt-of-lt-of-le (own .below) short)) (rw turned (lt-of-lt-of-le (value-below (f + 1) (opposite (A .carries)) own) short))
-        ∙ ap (raised (1 + guardBits)) turned
+        moved (f + 1) (omega (arith, aligned-lt f A (formed .room))) (rw turned (own .below)) (rw turned (value-below (f + 1) (opposite (A .carries)) own))
+        ∙ ap (raised (1 + A .below)) turned
 
 -- ---- such a difference is exact: it has only zeros where bits are rounded off
-pub reversed-zeros : (f : ℕ) (u : exponent.Unit) (A : pair.Aligned) (N : ℕ) → Formed f A → A .reversed ≡ true → (x : ℕ) → Made f A x → size x ≡ N → x % 2 ^ roundedBits f N u ≡ 0
+pub reversed-zeros : (f : ℕ) (u : exponent.Unit) (A : pair.Aligned) (N : ℕ) → Formed f A → A .reversed ≡ true → (x : ℕ) → Made f A x → size x ≡ N → x % 2 ^ roundedBits (A .below) f N u ≡ 0
 reversed-zeros f u A N formed reversed x made digits =
+    let q = A .below in
     let one = formed .one-unit reversed in
-    let most = made-difference-most f A x made (one .unlike) in
-    let few : roundedBits f N u ≤ guardBits = omega (arith, most, digits) in
-    let back : guardBits - roundedBits f N u + roundedBits f N u ≡ guardBits = omega (arith, few) in
-    let all : x % 2 ^ guardBits ≡ 0 = made-zeros A guardBits (guards-zero (A .head) (one .head)) (guards-zero (A .tail) (one .tail)) f x made in
-    sym (mod-mod-pow x (guardBits - roundedBits f N u) (roundedBits f N u))
-    ∙ ap (λ (k : ℕ). x % 2 ^ k % 2 ^ roundedBits f N u) back
-    ∙ ap (λ (k : ℕ). k % 2 ^ roundedBits f N u) all
-    ∙ native.Mathlib.Nat.zero-mod (2 ^ roundedBits f N u)
+    let most : size x ≤ alignedBits q f = subst (λ (b : Bool). size x ≤ mostDigits q f b) (one .unlike) (made-digits f A x made) in
+    let few : roundedBits q f N u ≤ q = omega (arith, most, digits) in
+    let back : q - roundedBits q f N u + roundedBits q f N u ≡ q = omega (arith, few) in
+    let all : x % 2 ^ q ≡ 0 = made-zeros A q (zeros-below q (A .head) (one .head)) (zeros-below q (A .tail) (one .tail)) f x made in
+    sym (mod-mod-pow x (q - roundedBits q f N u) (roundedBits q f N u))
+    ∙ ap (λ (k : ℕ). x % 2 ^ k % 2 ^ roundedBits q f N u) back
+    ∙ ap (λ (k : ℕ). k % 2 ^ roundedBits q f N u) all
+    ∙ native.Mathlib.Nat.zero-mod (2 ^ roundedBits q f N u)

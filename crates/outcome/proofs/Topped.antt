@@ -14,7 +14,7 @@ use Rattle.mask.specs.declared.Mask.{Mask}
 use Rattle.mask.specs.Mask.{Meets}
 use Rattle.mask.proofs.ByParts.{meets-parts}
 use Rattle.rounding.proofs.Size.{size-zero, size-between}
-use Rattle.outcome.specs.Question.{topped, OfDigits, Below}
+use Rattle.outcome.specs.Question.{anything, topped, OfDigits, Below}
 
 -- all bits of a number below 2^r
 pub and-ones : (r y : ℕ) → y < 2 ^ r → bitAnd y (2 ^ r - 1) ≡ y
@@ -58,10 +58,6 @@ size-none x = (
   (λ e. let g : x < 2 ^ 0 = subst (λ (s : ℕ). x < 2 ^ s) e (size-lt x) in omega arith),
   λ e. ap size e ∙ size-zero,
 )
-
--- a mask that fixes nothing
-abbrev pub anything : Mask
-anything = record { care = 0; value = 0 }
 
 -- the masks of no digit, and of k + 1 digits
 pub digits-none : (n : ℕ) → OfDigits n 0 (record { care = 2 ^ n - 1; value = 0 })

@@ -18,14 +18,23 @@ use Rattle.rounding.specs.declared.Direction as way
 use Rattle.rounding.specs.declared.Direction.the-variants.{TowardZero}
 use Rattle.word.specs.Word.{allOnes, signed}
 use Rattle.rounding.specs.Rounding.{overflowWord}
-use Rattle.rounding.specs.Width.{alignedBits, sumBits}
+use Rattle.rounding.specs.Width.{alignedBits}
 use Rattle.rounding.specs.Sticky.{keptPart}
-use Rattle.rounding.specs.Outcome.{keptOf, outcome}
+use Rattle.rounding.specs.Outcome.{keptOf}
 use Rattle.outcome.specs.declared.Aligned as pair
+use Rattle.outcome.specs.declared.Target.{Target}
 use Rattle.outcome.specs.declared.sought.Fractions as fractions-of
 use Rattle.outcome.specs.declared.subnormal.Known as reply
 use Rattle.outcome.specs.declared.subnormal.Known.the-variants.{Found, AtLeast}
-use Rattle.outcome.specs.Outcome.{Made, Making, Admits}
+use Rattle.outcome.specs.Outcome.{Made, Making, Serves, Admits, columnsOf}
+
+-- no bit is fixed
+abbrev pub anything : Mask
+anything = record { care = 0; value = 0 }
+
+-- bit j fixed to b, and no other
+abbrev pub oneBit : ℕ → ℕ → Mask
+oneBit j b = record { care = 2 ^ j; value = b * 2 ^ j }
 
 -- the mask m on the low k bits, and the number h on r bits above them
 abbrev pub topped : ℕ → ℕ → ℕ → Mask → Mask
@@ -39,22 +48,31 @@ opposite m = record { care = m .care; value = bitXor (m .care) (m .value) }
 abbrev pub oneAbove : Mask → Mask
 oneAbove m = record { care = m .care; value = m .value + 1 }
 
--- the most digits that a sum has, or else a difference
-abbrev pub mostDigits : ℕ → Bool → ℕ
-mostDigits f true = sumBits f
-mostDigits f false = alignedBits f
-
 -- the smaller of the two numbers that can stand above the fraction of what is made, rounded, where that has N digits
-abbrev pub leastQuotient : ℕ → ℕ → exponent.Unit → ℕ
-leastQuotient f N u = cond (ltb (N + u .0) (alignedBits f)) 0 1
+abbrev pub leastQuotient : ℕ → ℕ → ℕ → exponent.Unit → ℕ
+leastQuotient q f N u = cond (ltb (N + u .0) (alignedBits q f)) 0 1
 
 -- they make a number of N digits whose kept part has the other one
 abbrev pub NextQuotient : ℕ → way.Direction → exponent.Unit → pair.Aligned → ℕ → Type 0
-NextQuotient f d u A N = Making f A (λ (x : ℕ). (size x ≡ N) × (keptOf f d x u / 2 ^ f ≡ leastQuotient f N u + 1))
+NextQuotient f d u A N = Making f A (λ (x : ℕ). (size x ≡ N) × (keptOf (A .below) f d x u / 2 ^ f ≡ leastQuotient (A .below) f N u + 1))
 
 -- rounded in the directions d and e, the numbers of N digits that they make keep the same part
 abbrev pub KeepAlike : ℕ → way.Direction → way.Direction → exponent.Unit → pair.Aligned → ℕ → Type 0
-KeepAlike f d e u A N = (x : ℕ) → Made f A x → size x ≡ N → keptOf f d x u ≡ keptOf f e x u
+KeepAlike f d e u A N = (x : ℕ) → Made f A x → size x ≡ N → keptOf (A .below) f d x u ≡ keptOf (A .below) f e x u
+
+-- n meets x, and with a constant and a carry added it fits the columns and meets z
+pub record Added (f : ℕ) (A : pair.Aligned) (x z : Mask) (constant carry n : ℕ) : Type 0 where
+  pub number : Meets n x
+  pub fits : n + constant + carry < 2 ^ columnsOf f A
+  pub sum : Meets (n + constant + carry) z
+
+-- what they make and meets x leaves room in the columns for what rounding off j bits adds
+abbrev pub Leaves : ℕ → pair.Aligned → ℕ → Mask → Type 0
+Leaves f A j x = (n : ℕ) → Made f A n → Meets n x → n + 2 ^ j ≤ 2 ^ columnsOf f A
+
+-- only numbers of N digits meet x, of those that fit the columns
+abbrev pub OnlyDigits : ℕ → pair.Aligned → ℕ → Mask → Type 0
+OnlyDigits f A N x = (n : ℕ) → n < 2 ^ columnsOf f A → Meets n x → size n ≡ N
 
 -- m is met by exactly those numbers of n bits that have N binary digits
 abbrev pub OfDigits : ℕ → ℕ → Mask → Type 0
@@ -76,10 +94,10 @@ pub record Seeks (F : Format) (d : way.Direction) (s : ℕ) (c : Mask) (e : Bias
 
 -- the word of the sign s and a number x below the smallest normal one, where u is the exponent of its unit: what stands below a smallest step
 -- is dropped
-abbrev pub subnormalWord : Format → ℕ → exponent.Unit → ℕ → ℕ
-subnormalWord F s u x = signed F s (keptPart TowardZero x (u .0) 0)
+abbrev pub subnormalWord : ℕ → Format → ℕ → exponent.Unit → ℕ → ℕ
+subnormalWord q F s u x = signed F s (keptPart q TowardZero x (u .0) 0)
 
--- what is known of the numbers of k digits or more whose words meet c: one is made, or they have n digits at least
-abbrev pub Tells : Format → ℕ → ℕ → exponent.Unit → pair.Aligned → Mask → ℕ → reply.Known → Type 0
-Tells F mode s u A c k Found = Admits F mode s u A c
-Tells F mode s u A c k (AtLeast n) = (x : ℕ) → Made (F .f) A x → k ≤ size x → Meets (outcome F mode (A .like) s u x) c → n ≤ size x
+-- what is known of the numbers of k digits or more that serve: one is made, or they have n digits at least
+abbrev pub Tells : Format → ℕ → ℕ → exponent.Unit → pair.Aligned → Target → ℕ → reply.Known → Type 0
+Tells F mode s u A T k Found = Admits F mode s u A T
+Tells F mode s u A T k (AtLeast n) = (x : ℕ) → Made (F .f) A x → k ≤ size x → Serves F mode s u A T x → n ≤ size x

@@ -1,5 +1,6 @@
 // Questions about what two aligned significands make, put to the chain of two adders.
 use crate::Aligned;
+use crate::columns;
 use crate::masks::both;
 use crate::masks::one_above;
 use crate::masks::opposite;
@@ -11,30 +12,29 @@ use mask::Mask;
 use rounding::Direction;
 use rounding::addend::carry;
 use rounding::addend::constant;
-use rounding::width::COLUMNS;
-use rounding::width::GUARD_BITS;
 use word::Unit;
 ghost use mathlib.Core.Bool.{true};
 ghost use mathlib.Core.Logic.{_↔_};
 ghost use mathlib.Core.Path.{_≡_};
-ghost use Prim.Native.Nat.{ℕ, _+_, _^_, _≤_, _<_};
+ghost use Prim.Native.Nat.{ℕ, _+_, _-_, _^_, _≤_, _<_};
 ghost use Rattle.bits.specs.Bit.{bit};
 ghost use Rattle.mask.specs.Mask.{Meets};
 ghost use Rattle.rounding.specs.declared.Direction.the-variants.{TowardZero};
 ghost use Rattle.rounding.specs.Rounding.{roundOff};
 ghost use Rattle.rounding.specs.Sticky.{keptPart};
-ghost use Rattle.rounding.specs.Width.{columnsOf, mostRounded, shortBits};
 ghost use Rattle.chain.specs.Chain.{Answered};
-ghost use Rattle.outcome.specs.Outcome.{Formed, Making};
+ghost use Rattle.outcome.specs.Outcome.{columnsOf, Room, Formed, Making};
+ghost use Rattle.outcome.specs.Question.{Added, Leaves};
 
 // The wires that ask whether they make a number that meets z, where the row is reversed. With T + 1 in T's place the first adder gives one
 // less than they make, and its borrows are the other ones of the row's; the second adder adds the one again.
 fn reversed_wires(aligned: Aligned, z: Mask) -> Wires
-    ensures { λ r. ⌜ ((f : ℕ) → columnsOf f < 64 → aligned .reversed ≡ true → Formed f aligned → Answered r (columnsOf f) ↔ Making f aligned (λ (n : ℕ). Meets n z)) ⌝ }
+    requires { ⌜ aligned .below < 63 ⌝ }
+    ensures { λ r. ⌜ ((f : ℕ) → aligned .reversed ≡ true → Formed f aligned → Answered r (columnsOf f aligned) ↔ Making f aligned (λ (n : ℕ). Meets n z)) ⌝ }
 {
     let head = aligned.head;
     let tail = one_above(aligned.tail);
-    let carries = raised(opposite(aligned.carries), 1 + GUARD_BITS);
+    let carries = raised(opposite(aligned.carries), 1 + aligned.below);
     Wires {
         subtract: true,
         l: head,
@@ -48,17 +48,17 @@ fn reversed_wires(aligned: Aligned, z: Mask) -> Wires
 }
 
 // The wires that ask whether they make a number that meets x and, with a constant and a carry added, z; where the row is reversed nothing
-// is added. The carry out of bit i of the larger significand is the one into column i + 1 above the guard bits.
+// is added. The carry out of bit i of the larger significand is the one into column i + 1 above the bits below it.
 fn wires_of(aligned: Aligned, x: Mask, z: Mask, constant: u64, carry: u64) -> Wires
-    requires { ⌜ (constant < 2 ^ mostRounded) × (carry < 2) × (aligned .reversed ≡ true → constant + carry ≡ 0) ⌝ }
-    ensures { λ r. ⌜ ((f : ℕ) → columnsOf f < 64 → Formed f aligned → Answered r (columnsOf f) ↔ Making f aligned (λ (n : ℕ). Meets n x × Meets (n + constant + carry) z)) ⌝ }
+    requires { ⌜ (aligned .below < 63) × (carry < 2) × (aligned .reversed ≡ true → constant + carry ≡ 0) ⌝ }
+    ensures { λ r. ⌜ ((f : ℕ) → Formed f aligned → Answered r (columnsOf f aligned) ↔ Making f aligned (Added f aligned x z constant carry)) ⌝ }
 {
     if aligned.reversed {
         return reversed_wires(aligned, both(x, z));
     }
     let head = aligned.head;
     let tail = aligned.tail;
-    let carries = raised(aligned.carries, 1 + GUARD_BITS);
+    let carries = raised(aligned.carries, 1 + aligned.below);
     Wires {
         subtract: !aligned.like,
         l: head,
@@ -73,11 +73,11 @@ fn wires_of(aligned: Aligned, x: Mask, z: Mask, constant: u64, carry: u64) -> Wi
 
 // Whether they make a number that meets x and, with a constant and a carry added, z; where the row is reversed nothing is added.
 pub(crate) fn ask(aligned: Aligned, f: u64, x: Mask, z: Mask, constant: u64, carry: u64) -> bool
-    requires { ⌜ (columnsOf f < 64) × (constant < 2 ^ mostRounded) × (carry < 2) × (aligned .reversed ≡ true → constant + carry ≡ 0) ⌝ }
-    ensures { λ r. ⌜ (Formed f aligned → (r ≡ true) ↔ Making f aligned (λ (n : ℕ). Meets n x × Meets (n + constant + carry) z)) ⌝ }
+    requires { ⌜ Room f aligned × (carry < 2) × (aligned .reversed ≡ true → constant + carry ≡ 0) ⌝ }
+    ensures { λ r. ⌜ (Formed f aligned → (r ≡ true) ↔ Making f aligned (Added f aligned x z constant carry)) ⌝ }
 {
     let wires = wires_of(aligned, x, z, constant, carry);
-    chain::possible(wires, f + COLUMNS)
+    chain::possible(wires, columns(aligned, f))
 }
 
 // The same for a number whose bit j, the last one kept, is `last`.
@@ -91,8 +91,8 @@ fn ask_last(
     constant: u64,
     carry: u64,
 ) -> bool
-    requires { ⌜ (columnsOf f < 64) × (j ≤ mostRounded) × (last < 2) × (constant < 2 ^ mostRounded) × (carry < 2) × (aligned .reversed ≡ true → constant + carry ≡ 0) ⌝ }
-    ensures { λ r. ⌜ (Formed f aligned → (r ≡ true) ↔ Making f aligned (λ (n : ℕ). (Meets n x × (bit n j ≡ last)) × Meets (n + constant + carry) z)) ⌝ }
+    requires { ⌜ Room f aligned × (j < 64) × (last < 2) × (carry < 2) × (aligned .reversed ≡ true → constant + carry ≡ 0) ⌝ }
+    ensures { λ r. ⌜ (Formed f aligned → (r ≡ true) ↔ Making f aligned (λ (n : ℕ). (bit n j ≡ last) × Added f aligned x z constant carry n)) ⌝ }
 {
     let kept = Mask {
         care: 1 << j,
@@ -108,7 +108,7 @@ fn ask_last(
 // Whether they make a number that meets x and, with j bits rounded off, y. Rounding off adds a constant and a carry; where the carry depends
 // on the last kept bit, a question is put for each value of that.
 fn rounds(aligned: Aligned, f: u64, direction: Direction, j: u64, x: Mask, y: Mask) -> bool
-    requires { ⌜ (columnsOf f < 64) × (j ≤ mostRounded) × (y .care < 2 ^ shortBits) × (y .value < 2 ^ shortBits) × (aligned .reversed ≡ true → direction ≡ TowardZero) ⌝ }
+    requires { ⌜ Room f aligned × (j + f + 1 ≤ columnsOf f aligned) × (y .care < 2 ^ (2 + f)) × (y .value < 2 ^ (2 + f)) × (aligned .reversed ≡ true → direction ≡ TowardZero) × (Formed f aligned → Leaves f aligned j x) ⌝ }
     ensures { λ r. ⌜ (Formed f aligned → (r ≡ true) ↔ Making f aligned (λ (n : ℕ). Meets n x × Meets (roundOff direction n j) y)) ⌝ }
 {
     let z = raised(y, j);
@@ -135,10 +135,11 @@ pub(crate) fn rounds_at(
     x: Mask,
     kept: Mask,
 ) -> bool
-    requires { ⌜ (columnsOf f < 64) × (unit .0 < 2 ^ 63) × (rounded .0 ≤ unit .0 + 1) × (kept .care < 2 ^ shortBits) × (kept .value < 2 ^ shortBits) × (aligned .reversed ≡ true → direction ≡ TowardZero) ⌝ }
-    ensures { λ r. ⌜ (Formed f aligned → (r ≡ true) ↔ Making f aligned (λ (n : ℕ). Meets n x × Meets (keptPart direction n (unit .0) (rounded .0)) kept)) ⌝ }
+    requires { ⌜ Room f aligned × (unit .0 < 2 ^ 63) × (rounded .0 ≤ unit .0 + 1) × (kept .care < 2 ^ (2 + f)) × (kept .value < 2 ^ (2 + f)) × (aligned .reversed ≡ true → direction ≡ TowardZero)
+        × (rounded .0 + aligned .below - unit .0 + f + 1 ≤ columnsOf f aligned) × (Formed f aligned → Leaves f aligned (rounded .0 + aligned .below - unit .0) x) ⌝ }
+    ensures { λ r. ⌜ (Formed f aligned → (r ≡ true) ↔ Making f aligned (λ (n : ℕ). Meets n x × Meets (keptPart (aligned .below) direction n (unit .0) (rounded .0)) kept)) ⌝ }
 {
-    let place = rounded.0 + GUARD_BITS;
+    let place = rounded.0 + aligned.below;
     let up = minus(unit.0, place);
     if bits::low(kept.value, up) != 0 {
         return false;

@@ -1,9 +1,12 @@
-// Whether two aligned significands make a number of so many binary digits whose word meets a mask.
+// Whether two aligned significands make a number of so many binary digits that serves.
 use crate::Aligned;
+use crate::Target;
 use crate::ask::ask;
 use crate::ask::rounds_at;
+use crate::columns;
+use crate::dropped::choices;
+use crate::dropped::numbers;
 use crate::masks;
-use crate::most;
 use crate::sought::Fractions;
 use crate::sought::sought;
 use bits::minus;
@@ -12,9 +15,6 @@ use mask::Mask;
 use rounding::Direction;
 use rounding::mode::direction;
 use rounding::mode::zero_sign;
-use rounding::width::ALIGNED;
-use rounding::width::COLUMNS;
-use rounding::width::GUARD_BITS;
 use word::Unit;
 use word::exponent::field_of;
 use word::pack::signed;
@@ -24,34 +24,40 @@ ghost use mathlib.Core.Path.{_≡_};
 ghost use Prim.Native.Nat.{ℕ, _+_, _/_, _%_, _^_, _≤_, _<_};
 ghost use lib.Ieee.{size};
 ghost use Rattle.format.specs.Format.{Supported};
+ghost use Rattle.format.specs.Limits.{mostDropped};
 ghost use Rattle.mask.specs.Mask.{Meets};
+ghost use Rattle.job.specs.Dropped.{ValidDropped};
 ghost use Rattle.word.specs.declared.Unit.{Unit};
 ghost use Rattle.word.specs.Word.{signed};
 ghost use Rattle.rounding.specs.declared.Direction.the-variants.{TowardZero};
-ghost use Rattle.rounding.specs.Width.{sumBits, columnsOf, mostRounded};
-ghost use Rattle.rounding.specs.Outcome.{roundedUnit, keptOf, boundedHeld, outcome};
-ghost use Rattle.outcome.specs.Outcome.{Made, InFormat, Formed, Making};
-ghost use Rattle.outcome.specs.Question.{leastQuotient, NextQuotient, KeepAlike};
+ghost use Rattle.rounding.specs.Width.{alignedBits, sumBits};
+ghost use Rattle.rounding.specs.Outcome.{roundedUnit, keptOf, boundedHeld};
+ghost use Rattle.outcome.specs.Outcome.{Made, Serves, InFormat, columnsOf, Room, Formed, Making};
+ghost use Rattle.outcome.specs.Question.{leastQuotient, NextQuotient, KeepAlike, OnlyDigits};
 
 // The exponent of the unit of what they make, rounded, where that has so many digits.
-fn rounded_unit(f: u64, count: u64, unit: Unit) -> Unit
-    requires { ⌜ (columnsOf f < 64) × (unit .0 < 2 ^ 63) × (count ≤ sumBits f) ⌝ }
-    ensures { λ r. ⌜ r ≡ roundedUnit f count unit ⌝ }
+fn rounded_unit(f: u64, below: u64, count: u64, unit: Unit) -> Unit
+    requires { ⌜ (alignedBits below f < 64) × (unit .0 < 2 ^ 63) × (count ≤ sumBits below f) ⌝ }
+    ensures { λ r. ⌜ r ≡ roundedUnit below f count unit ⌝ }
 {
-    Unit(minus(count + unit.0, f + ALIGNED))
+    Unit(minus(count + unit.0, f + (1 + below)))
 }
 
 // The smaller of the two numbers that can stand above the fraction.
-fn least_quotient(f: u64, unit: Unit, count: u64) -> u64
-    requires { ⌜ (columnsOf f < 64) × (unit .0 < 2 ^ 63) × (count ≤ sumBits f) ⌝ }
-    ensures { λ r. ⌜ r ≡ leastQuotient f count unit ⌝ }
+fn least_quotient(f: u64, below: u64, unit: Unit, count: u64) -> u64
+    requires { ⌜ (alignedBits below f < 64) × (unit .0 < 2 ^ 63) × (count ≤ sumBits below f) ⌝ }
+    ensures { λ r. ⌜ r ≡ leastQuotient below f count unit ⌝ }
 {
-    if count + unit.0 < f + ALIGNED { 0 } else { 1 }
+    if count + unit.0 < f + (1 + below) {
+        0
+    } else {
+        1
+    }
 }
 
 // Whether the masks fix the low j bits of both to 0: what they make has these bits 0 too.
 pub(crate) fn exact(aligned: Aligned, j: u64) -> bool
-    requires { ⌜ j ≤ mostRounded ⌝ }
+    requires { ⌜ j < 64 ⌝ }
     ensures { λ r. ⌜ (r ≡ true → (f : ℕ) → (x : ℕ) → Made f aligned x → x % 2 ^ j ≡ 0) ⌝ }
 {
     if !masks::zeros(aligned.head, j) {
@@ -69,14 +75,15 @@ fn asked_direction(
     aligned: Aligned,
     count: u64,
 ) -> Direction
-    requires { ⌜ (columnsOf f < 64) × (unit .0 < 2 ^ 63) × (0 < count) × (count ≤ sumBits f) ⌝ }
+    requires { ⌜ Room f aligned × (unit .0 < 2 ^ 63) × (0 < count) × (count ≤ columnsOf f aligned) ⌝ }
     ensures alike { λ r. ⌜ (Formed f aligned → KeepAlike f r direction unit aligned count) ⌝ }
     ensures reversed { λ r. ⌜ (aligned .reversed ≡ true → r ≡ TowardZero) ⌝ }
 {
     if aligned.reversed {
         return Direction::TowardZero;
     }
-    let j = minus(rounded_unit(f, count, unit).0 + GUARD_BITS, unit.0);
+    let unit_of_kept = rounded_unit(f, aligned.below, count, unit);
+    let j = minus(unit_of_kept.0 + aligned.below, unit.0);
     if exact(aligned, j) {
         Direction::TowardZero
     } else {
@@ -84,30 +91,30 @@ fn asked_direction(
     }
 }
 
-// Whether they make a number of so many digits whose kept part is `quotient` and below it one of the fractions.
+// Whether they make a number that meets x, which asks for so many digits, whose kept part is `quotient` and below it one of the fractions.
 fn rounds_to(
     aligned: Aligned,
     f: u64,
     direction: Direction,
     unit: Unit,
     count: u64,
+    x: Mask,
     quotient: u64,
     fractions: Fractions,
 ) -> bool
-    requires { ⌜ (columnsOf f < 64) × (unit .0 < 2 ^ 63) × (0 < count) × (count ≤ sumBits f) × (quotient < 4) × (fractions .fraction .care < 2 ^ f) × (fractions .fraction .value < 2 ^ f) × (aligned .reversed ≡ true → direction ≡ TowardZero) ⌝ }
-    ensures { λ r. ⌜ (Formed f aligned → (r ≡ true) ↔ Making f aligned (λ (x : ℕ). (size x ≡ count) × (keptOf f direction x unit / 2 ^ f ≡ quotient) × (fractions .possible ≡ true) × Meets (keptOf f direction x unit % 2 ^ f) (fractions .fraction))) ⌝ }
+    requires { ⌜ Room f aligned × (unit .0 < 2 ^ 63) × (0 < count) × (count ≤ columnsOf f aligned) × (quotient < 4) × (fractions .fraction .care < 2 ^ f) × (fractions .fraction .value < 2 ^ f) × (aligned .reversed ≡ true → direction ≡ TowardZero) × OnlyDigits f aligned count x ⌝ }
+    ensures { λ r. ⌜ (Formed f aligned → (r ≡ true) ↔ Making f aligned (λ (n : ℕ). Meets n x × (keptOf (aligned .below) f direction n unit / 2 ^ f ≡ quotient) × (fractions .possible ≡ true) × Meets (keptOf (aligned .below) f direction n unit % 2 ^ f) (fractions .fraction))) ⌝ }
 {
     if !fractions.possible {
         return false;
     }
-    let x = masks::digits(f + COLUMNS, count);
-    let rounded = rounded_unit(f, count, unit);
+    let rounded = rounded_unit(f, aligned.below, count, unit);
     let kept = masks::topped(2, f, quotient, fractions.fraction);
     rounds_at(aligned, f, direction, unit, rounded, x, kept)
 }
 
-// Whether they make a number of so many digits with `quotient` above the fraction, whose word meets c. It is asked about in the direction
-// `way`, which keeps the same part of it.
+// Whether they make a number that meets x, of so many digits and with `quotient` above the fraction, whose word meets c. It is asked about
+// in the direction `way`, which keeps the same part of it.
 fn at_quotient(
     format: Format,
     direction: Direction,
@@ -117,32 +124,33 @@ fn at_quotient(
     aligned: Aligned,
     c: Mask,
     count: u64,
+    x: Mask,
     quotient: u64,
 ) -> bool
-    requires { ⌜ InFormat format sign unit × (0 < count) × (count ≤ sumBits (format .f)) × (quotient < 4) × (Formed (format .f) aligned → KeepAlike (format .f) way direction unit aligned count) × (aligned .reversed ≡ true → way ≡ TowardZero) ⌝ }
-    ensures { λ r. ⌜ (Formed (format .f) aligned → (r ≡ true) ↔ Making (format .f) aligned (λ (x : ℕ). (size x ≡ count) × (keptOf (format .f) direction x unit / 2 ^ format .f ≡ quotient) × Meets (signed format sign (boundedHeld format direction x unit)) c)) ⌝ }
+    requires { ⌜ InFormat format sign unit × Room (format .f) aligned × (0 < count) × (count ≤ columnsOf (format .f) aligned) × (quotient < 4) × (Formed (format .f) aligned → KeepAlike (format .f) way direction unit aligned count) × (aligned .reversed ≡ true → way ≡ TowardZero) × OnlyDigits (format .f) aligned count x ⌝ }
+    ensures { λ r. ⌜ (Formed (format .f) aligned → (r ≡ true) ↔ Making (format .f) aligned (λ (n : ℕ). Meets n x × (keptOf (aligned .below) (format .f) direction n unit / 2 ^ format .f ≡ quotient) × Meets (signed format sign (boundedHeld (aligned .below) format direction n unit)) c)) ⌝ }
 {
     let f = format.f;
-    let exponent = field_of(rounded_unit(f, count, unit), quotient);
+    let exponent = field_of(rounded_unit(f, aligned.below, count, unit), quotient);
     let fractions = sought(format, direction, sign, c, exponent);
-    rounds_to(aligned, f, way, unit, count, quotient, fractions)
+    rounds_to(aligned, f, way, unit, count, x, quotient, fractions)
 }
 
 // Whether rounding may carry into the next quotient. It never does toward zero, nor in the longest sum or difference: that is at most the
 // largest significand with zeros below it, and so is rounded to no more than this significand.
 fn may_carry(f: u64, direction: Direction, aligned: Aligned, count: u64) -> bool
-    requires { ⌜ (columnsOf f < 64) × (0 < count) × (count ≤ sumBits f) ⌝ }
+    requires { ⌜ Room f aligned × (0 < count) × (count ≤ columnsOf f aligned) ⌝ }
     ensures { λ r. ⌜ (r ≡ false → Formed f aligned → (unit : Unit) → NextQuotient f direction unit aligned count → ⊥) ⌝ }
 {
     match direction {
         Direction::TowardZero => false,
         Direction::NearestEven | Direction::NearestAway | Direction::Away => {
-            count != most(aligned.like, f)
+            count != columns(aligned, f)
         }
     }
 }
 
-// Whether they make a number of so many digits, not 0, whose word meets c.
+// Whether they make a number that meets x, which asks for so many digits, whose word meets c.
 fn at_count(
     format: Format,
     direction: Direction,
@@ -151,18 +159,21 @@ fn at_count(
     aligned: Aligned,
     c: Mask,
     count: u64,
+    x: Mask,
 ) -> bool
-    requires { ⌜ InFormat format sign unit × (0 < count) × (count ≤ sumBits (format .f)) ⌝ }
-    ensures { λ r. ⌜ (Formed (format .f) aligned → (r ≡ true) ↔ Making (format .f) aligned (λ (x : ℕ). (size x ≡ count) × Meets (signed format sign (boundedHeld format direction x unit)) c)) ⌝ }
+    requires { ⌜ InFormat format sign unit × Room (format .f) aligned × (0 < count) × (count ≤ columnsOf (format .f) aligned) × OnlyDigits (format .f) aligned count x ⌝ }
+    ensures { λ r. ⌜ (Formed (format .f) aligned → (r ≡ true) ↔ Making (format .f) aligned (λ (n : ℕ). Meets n x × Meets (signed format sign (boundedHeld (aligned .below) format direction n unit)) c)) ⌝ }
 {
-    let least = least_quotient(format.f, unit, count);
-    let way = asked_direction(format.f, direction, unit, aligned, count);
-    if at_quotient(format, direction, way, sign, unit, aligned, c, count, least) {
+    let f = format.f;
+    let h = least_quotient(f, aligned.below, unit, count);
+    let way = asked_direction(f, direction, unit, aligned, count);
+    if at_quotient(format, direction, way, sign, unit, aligned, c, count, x, h) {
         return true;
     }
-    if !may_carry(format.f, way, aligned, count) {
+    if !may_carry(f, way, aligned, count) {
         return false;
     }
+    let next = h + 1;
     at_quotient(
         format,
         direction,
@@ -172,39 +183,71 @@ fn at_count(
         aligned,
         c,
         count,
-        least + 1,
+        x,
+        next,
     )
 }
 
-// Whether they make 0, and the word of a zero sum meets c.
-fn at_zero(format: Format, mode: u64, sign: u64, aligned: Aligned, c: Mask) -> bool
-    requires { ⌜ Supported format × (sign < 2) ⌝ }
-    ensures { λ r. ⌜ (Formed (format .f) aligned → (unit : Unit) → (r ≡ true) ↔ Making (format .f) aligned (λ (x : ℕ). (size x ≡ 0) × Meets (outcome format mode (aligned .like) sign unit x) c)) ⌝ }
+// Whether they make 0, and the word of a zero sum meets c. A zero has no dropped bits.
+fn at_zero(format: Format, mode: u64, sign: u64, aligned: Aligned, target: Target) -> bool
+    requires { ⌜ Supported format × (sign < 2) × Room (format .f) aligned ⌝ }
+    ensures { λ r. ⌜ (Formed (format .f) aligned → (unit : Unit) → (r ≡ true) ↔ Making (format .f) aligned (λ (x : ℕ). (size x ≡ 0) × Serves format mode sign unit aligned target x)) ⌝ }
 {
-    if mask::meets(c, signed(format, zero_sign(mode, aligned.like, sign), 0)) {
-        let x = masks::digits(format.f + COLUMNS, 0);
+    if target.dropped.mask.care != 0 {
+        return false;
+    }
+    if mask::meets(
+        target.c,
+        signed(format, zero_sign(mode, aligned.like, sign), 0),
+    ) {
+        let x = masks::digits(columns(aligned, format.f), 0);
         let z = Mask { care: 0, value: 0 };
         return ask(aligned, format.f, x, z, 0, 0);
     }
     false
 }
 
-// Whether they make a number of so many digits whose word meets c.
+// Whether they make a number of so many digits, not 0, that serves: for each way in which it may have the dropped bits.
+fn at_digits(
+    format: Format,
+    mode: u64,
+    sign: u64,
+    unit: Unit,
+    aligned: Aligned,
+    target: Target,
+    count: u64,
+) -> bool
+    requires { ⌜ InFormat format sign unit × Room (format .f) aligned × (target .dropped .g ≤ mostDropped) × (0 < count) × (count ≤ columnsOf (format .f) aligned) ⌝ }
+    ensures { λ r. ⌜ (Formed (format .f) aligned → ValidDropped (target .dropped) → (r ≡ true) ↔ Making (format .f) aligned (λ (x : ℕ). (size x ≡ count) × Serves format mode sign unit aligned target x)) ⌝ }
+{
+    let direction = direction(mode, sign);
+    let ways = choices(aligned, format.f, unit, target.dropped, count);
+    let mut way = 0;
+    while way < ways {
+        let x = numbers(aligned, format.f, target.dropped, count, way);
+        if at_count(format, direction, sign, unit, aligned, target.c, count, x) {
+            return true;
+        }
+        way += 1;
+    }
+    false
+}
+
+// Whether they make a number of so many digits that serves.
 pub(crate) fn fits(
     format: Format,
     mode: u64,
     sign: u64,
     unit: Unit,
     aligned: Aligned,
-    c: Mask,
+    target: Target,
     count: u64,
 ) -> bool
-    requires { ⌜ InFormat format sign unit × (count ≤ sumBits (format .f)) ⌝ }
-    ensures { λ r. ⌜ (Formed (format .f) aligned → (r ≡ true) ↔ Making (format .f) aligned (λ (x : ℕ). (size x ≡ count) × Meets (outcome format mode (aligned .like) sign unit x) c)) ⌝ }
+    requires { ⌜ InFormat format sign unit × Room (format .f) aligned × (target .dropped .g ≤ mostDropped) × (count ≤ columnsOf (format .f) aligned) ⌝ }
+    ensures { λ r. ⌜ (Formed (format .f) aligned → ValidDropped (target .dropped) → (r ≡ true) ↔ Making (format .f) aligned (λ (x : ℕ). (size x ≡ count) × Serves format mode sign unit aligned target x)) ⌝ }
 {
     if count == 0 {
-        return at_zero(format, mode, sign, aligned, c);
+        return at_zero(format, mode, sign, aligned, target);
     }
-    let direction = direction(mode, sign);
-    at_count(format, direction, sign, unit, aligned, c, count)
+    at_digits(format, mode, sign, unit, aligned, target, count)
 }

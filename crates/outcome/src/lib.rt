@@ -1,17 +1,16 @@
-// Whether two aligned significands make a word that meets a mask.
+// Whether two aligned significands make a word that meets a mask, with dropped bits that meet another.
 use digits::fits;
 use format::Format;
+use format::limits::MOST_DROPPED;
+use job::Dropped;
 use mask::Mask;
-use rounding::width::ALIGNED;
-use rounding::width::GUARD_BITS;
-use rounding::width::SMALL;
-use rounding::width::SUM;
 use subnormal::Known;
 use subnormal::first_count;
 use word::Unit;
 
 mod ask;
 mod digits;
+mod dropped;
 mod masks;
 mod sought;
 mod subnormal;
@@ -19,30 +18,49 @@ mod subnormal;
 ghost use mathlib.Core.Bool.{true};
 ghost use mathlib.Core.Logic.{_↔_};
 ghost use mathlib.Core.Path.{_≡_};
-ghost use Prim.Native.Nat.{ℕ, _^_, _≤_, _<_};
+ghost use Prim.Native.Nat.{ℕ, _+_, _-_, _^_, _≤_, _<_};
 ghost use lib.Ieee.{size};
 ghost use Rattle.mask.specs.Mask.{Meets};
-ghost use Rattle.rounding.specs.Width.{alignedBits, smallBits, columnsOf};
-ghost use Rattle.rounding.specs.Outcome.{outcome};
-ghost use Rattle.outcome.specs.Outcome.{Made, Making, Admits, InFormat, Formed};
-ghost use Rattle.outcome.specs.Question.{mostDigits};
+ghost use Rattle.format.specs.Limits.{mostDropped};
+ghost use Rattle.job.specs.Dropped.{ValidDropped};
+ghost use Rattle.rounding.specs.Width.{alignedBits};
+ghost use Rattle.outcome.specs.Outcome.{Made, Making, Serves, Admits, InFormat, columnsOf, Room, Formed};
 
 // The masks of two aligned significands and of their carries; like tells whether they are added, reversed whether the carries are those
-// of the smaller one less the larger.
+// of the smaller one less the larger, below how many bits stand below the larger one's last.
 pub struct Aligned {
     pub like: bool,
     pub reversed: bool,
+    pub below: u64,
     pub head: Mask,
     pub tail: Mask,
     pub carries: Mask,
 }
 
-// Whether a significand's mask keeps its two top bits 0.
-fn small(m: Mask, f: u64) -> bool
-    requires { ⌜ columnsOf f < 64 ⌝ }
-    ensures { λ r. ⌜ (r ≡ true → (n : ℕ) → n < 2 ^ alignedBits f → Meets n m → n < 2 ^ smallBits f) ⌝ }
+// What is wanted of the result: of its word, and of the bits that rounding drops.
+pub struct Target {
+    pub c: Mask,
+    pub dropped: Dropped,
+}
+
+// The columns of a question: the most digits that what they make has, a sum's where they are like, else a difference's.
+pub(crate) fn columns(aligned: Aligned, f: u64) -> u64
+    requires { ⌜ columnsOf f aligned < 64 ⌝ }
+    ensures { λ r. ⌜ r ≡ columnsOf f aligned ⌝ }
 {
-    let above = mask::high(m, f + SMALL);
+    if aligned.like {
+        f + (2 + aligned.below)
+    } else {
+        f + (1 + aligned.below)
+    }
+}
+
+// Whether an aligned significand's mask keeps its two top bits 0.
+fn small(m: Mask, f: u64, below: u64) -> bool
+    requires { ⌜ (0 < below) × (alignedBits below f < 64) ⌝ }
+    ensures { λ r. ⌜ (r ≡ true → (n : ℕ) → n < 2 ^ alignedBits below f → Meets n m → n < 2 ^ (f + below - 1)) ⌝ }
+{
+    let above = mask::high(m, f + below - 1);
     if mask::meets(above, 1) {
         return false;
     }
@@ -55,46 +73,38 @@ fn small(m: Mask, f: u64) -> bool
 // A number of digits that what they make has at least: nearly all of them where the larger significand has its top bit, and the other is
 // added to it or is small.
 pub(crate) fn fewest(aligned: Aligned, f: u64) -> u64
-    requires { ⌜ columnsOf f < 64 ⌝ }
+    requires { ⌜ Room f aligned ⌝ }
     ensures { λ r. ⌜ ((x : ℕ) → Made f aligned x → r ≤ size x) ⌝ }
 {
-    if mask::meets(mask::high(aligned.head, f + GUARD_BITS), 0) {
+    if mask::meets(mask::high(aligned.head, f + aligned.below), 0) {
         return 0;
     }
     if aligned.like {
-        return f + ALIGNED;
+        return f + (1 + aligned.below);
     }
-    if small(aligned.tail, f) {
-        return f + GUARD_BITS;
+    if small(aligned.tail, f, aligned.below) {
+        return f + aligned.below;
     }
     0
 }
 
-// The most digits that what they make has: a sum's where they are like, else a difference's.
-pub(crate) fn most(like: bool, f: u64) -> u64
-    requires { ⌜ columnsOf f < 64 ⌝ }
-    ensures { λ r. ⌜ r ≡ mostDigits f like ⌝ }
-{
-    if like { f + SUM } else { f + ALIGNED }
-}
-
-// Whether they make a number of at least so many digits whose word meets c.
+// Whether they make a number of at least so many digits that serves.
 fn some_from(
     format: Format,
     mode: u64,
     sign: u64,
     unit: Unit,
     aligned: Aligned,
-    c: Mask,
+    target: Target,
     first: u64,
 ) -> bool
-    requires { ⌜ InFormat format sign unit ⌝ }
-    ensures { λ r. ⌜ (Formed (format .f) aligned → (r ≡ true) ↔ Making (format .f) aligned (λ (x : ℕ). (first ≤ size x) × Meets (outcome format mode (aligned .like) sign unit x) c)) ⌝ }
+    requires { ⌜ InFormat format sign unit × Room (format .f) aligned × (target .dropped .g ≤ mostDropped) ⌝ }
+    ensures { λ r. ⌜ (Formed (format .f) aligned → ValidDropped (target .dropped) → (r ≡ true) ↔ Making (format .f) aligned (λ (x : ℕ). (first ≤ size x) × Serves format mode sign unit aligned target x)) ⌝ }
 {
-    let last = most(aligned.like, format.f);
+    let last = columns(aligned, format.f);
     let mut count = first;
     while count <= last {
-        if fits(format, mode, sign, unit, aligned, c, count) {
+        if fits(format, mode, sign, unit, aligned, target, count) {
             return true;
         }
         count += 1;
@@ -102,24 +112,57 @@ fn some_from(
     false
 }
 
-// Whether they make a number whose word meets c.
-fn some_count(format: Format, mode: u64, sign: u64, unit: Unit, aligned: Aligned, c: Mask) -> bool
-    requires { ⌜ InFormat format sign unit ⌝ }
-    ensures { λ r. ⌜ (Formed (format .f) aligned → (r ≡ true) ↔ Admits format mode sign unit aligned c) ⌝ }
+// Whether they make a number that serves.
+fn some_count(
+    format: Format,
+    mode: u64,
+    sign: u64,
+    unit: Unit,
+    aligned: Aligned,
+    target: Target,
+) -> bool
+    requires { ⌜ InFormat format sign unit × Room (format .f) aligned × (target .dropped .g ≤ mostDropped) ⌝ }
+    ensures { λ r. ⌜ (Formed (format .f) aligned → ValidDropped (target .dropped) → (r ≡ true) ↔ Admits format mode sign unit aligned target) ⌝ }
 {
-    let known = first_count(format, mode, sign, unit, aligned, c);
+    let known = first_count(format, mode, sign, unit, aligned, target);
     match known {
         Known::Found => true,
-        Known::AtLeast(first) => some_from(format, mode, sign, unit, aligned, c, first),
+        Known::AtLeast(first) => some_from(format, mode, sign, unit, aligned, target, first),
     }
 }
 
-// Whether two aligned significands that meet their masks make a word that meets c, for the sign of the larger one and the exponent of its
-// unit; false for a format that is not supported, a sign above 1 and a unit that is too large. Where the masks are not those of aligned
-// significands the answer is free: a caller forms them by crate significand, from masks that it has tested.
-pub fn admits(format: Format, mode: u64, sign: u64, unit: Unit, aligned: Aligned, c: Mask) -> bool
+// Whether some bit stands below and the columns fit a word; the fraction's bits are few.
+fn roomy(aligned: Aligned, f: u64) -> bool
+    requires { ⌜ f < 64 ⌝ }
+    ensures { λ r. ⌜ (r ≡ true) ↔ Room f aligned ⌝ }
+{
+    if aligned.below == 0 {
+        return false;
+    }
+    if 63 <= aligned.below {
+        return false;
+    }
+    if aligned.like {
+        f + (2 + aligned.below) < 64
+    } else {
+        f + (1 + aligned.below) < 64
+    }
+}
+
+// Whether two aligned significands that meet their masks make a word that meets c, with dropped bits as they are wanted, for the sign of the
+// larger one and the exponent of its unit; false for a format that is not supported, a sign above 1, a unit that is too large and bits below
+// that leave no room. Where the masks are not those of aligned significands, or that of the dropped bits is malformed, the answer is free: a
+// caller forms them by crate significand, from masks that it has tested.
+pub fn admits(
+    format: Format,
+    mode: u64,
+    sign: u64,
+    unit: Unit,
+    aligned: Aligned,
+    target: Target,
+) -> bool
     ensures in_format { λ r. ⌜ (r ≡ true → InFormat format sign unit) ⌝ }
-    ensures exact { λ r. ⌜ (InFormat format sign unit → Formed (format .f) aligned → (r ≡ true) ↔ Admits format mode sign unit aligned c) ⌝ }
+    ensures exact { λ r. ⌜ (InFormat format sign unit → Formed (format .f) aligned → ValidDropped (target .dropped) → (r ≡ true) ↔ Admits format mode sign unit aligned target) ⌝ }
 {
     if format::format_cause(format) != 0 {
         return false;
@@ -130,5 +173,11 @@ pub fn admits(format: Format, mode: u64, sign: u64, unit: Unit, aligned: Aligned
     if bits::power(format.w) <= unit.0 {
         return false;
     }
-    some_count(format, mode, sign, unit, aligned, c)
+    if MOST_DROPPED < target.dropped.g {
+        return false;
+    }
+    if !roomy(aligned, format.f) {
+        return false;
+    }
+    some_count(format, mode, sign, unit, aligned, target)
 }

@@ -6,13 +6,12 @@ ghost use mathlib.Core.Logic.{_↔_};
 ghost use mathlib.Core.Path.{_≡_};
 ghost use Prim.Native.Nat.{ℕ, _+_, _%_, _^_, _≤_, _<_};
 ghost use Rattle.mask.specs.Mask.{Meets, raised};
-ghost use Rattle.rounding.specs.Width.{mostRounded, shortBits};
 ghost use Rattle.outcome.specs.Question.{opposite, oneAbove, topped, OfDigits, Below};
 
 // The mask moved up by d places.
 pub(crate) fn raised(m: Mask, d: u64) -> Mask
-    requires { ⌜ d ≤ mostRounded ⌝ }
-    ensures { λ r. ⌜ (m .care < 2 ^ shortBits → m .value < 2 ^ shortBits → r ≡ raised d m) ⌝ }
+    requires { ⌜ d < 64 ⌝ }
+    ensures { λ r. ⌜ ((k : ℕ) → k + d ≤ 64 → m .care < 2 ^ k → m .value < 2 ^ k → r ≡ raised d m) ⌝ }
 {
     Mask {
         care: m.care << d,

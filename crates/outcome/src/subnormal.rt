@@ -1,6 +1,8 @@
 // The numbers below the smallest normal one: where nothing is rounded off, one question serves for all of them.
 use crate::Aligned;
+use crate::Target;
 use crate::ask::rounds_at;
+use crate::columns;
 use crate::digits::exact;
 use crate::digits::fits;
 use crate::fewest;
@@ -10,17 +12,16 @@ use bits::minus;
 use format::Format;
 use mask::Mask;
 use rounding::Direction;
-use rounding::width::COLUMNS;
-use rounding::width::GUARD_BITS;
 use word::Biased;
 use word::Unit;
 ghost use mathlib.Core.Bool.{true};
 ghost use mathlib.Core.Logic.{_↔_};
 ghost use mathlib.Core.Path.{_≡_};
-ghost use Prim.Native.Nat.{ℕ, _+_, _^_, _<_};
+ghost use Prim.Native.Nat.{ℕ, _+_, _^_, _≤_, _<_};
 ghost use Rattle.mask.specs.Mask.{Meets};
-ghost use Rattle.rounding.specs.Width.{guardBits};
-ghost use Rattle.outcome.specs.Outcome.{InFormat, Formed, Making};
+ghost use Rattle.format.specs.Limits.{mostDropped};
+ghost use Rattle.job.specs.Dropped.{ValidDropped};
+ghost use Rattle.outcome.specs.Outcome.{InFormat, Room, Formed, Making};
 ghost use Rattle.outcome.specs.Question.{subnormalWord, Tells};
 
 // What is known of the numbers whose words meet c: one is made, or they have so many digits at least.
@@ -32,15 +33,15 @@ pub enum Known {
 // Whether they make a number of at most `small` digits, those of a subnormal one, whose word meets c where nothing is rounded off. 0 is
 // taken for a number of this sign.
 fn subnormal(format: Format, sign: u64, unit: Unit, aligned: Aligned, c: Mask, small: u64) -> bool
-    requires { ⌜ InFormat format sign unit × (small + unit .0 ≡ format .f + guardBits) ⌝ }
-    ensures { λ r. ⌜ (Formed (format .f) aligned → (r ≡ true) ↔ Making (format .f) aligned (λ (x : ℕ). (x < 2 ^ small) × Meets (subnormalWord format sign unit x) c)) ⌝ }
+    requires { ⌜ InFormat format sign unit × Room (format .f) aligned × (small + unit .0 ≡ format .f + aligned .below) ⌝ }
+    ensures { λ r. ⌜ (Formed (format .f) aligned → (r ≡ true) ↔ Making (format .f) aligned (λ (x : ℕ). (x < 2 ^ small) × Meets (subnormalWord (aligned .below) format sign unit x) c)) ⌝ }
 {
     let f = format.f;
     let fractions = sought(format, Direction::TowardZero, sign, c, Biased(0));
     if !fractions.possible {
         return false;
     }
-    let x = masks::below(f + COLUMNS, small);
+    let x = masks::below(columns(aligned, f), small);
     rounds_at(
         aligned,
         f,
@@ -52,27 +53,38 @@ fn subnormal(format: Format, sign: u64, unit: Unit, aligned: Aligned, c: Mask, s
     )
 }
 
-// What is known of the numbers other than 0, before they are asked about by their digits. Where no subnormal number is found, none serves.
-// One that is found may be 0, and the word of a zero sum of unlike operands has a sign of its own; but 0 meets no mask that wants a bit of
-// the fraction to be 1.
-fn past_zero(format: Format, mode: u64, sign: u64, unit: Unit, aligned: Aligned, c: Mask) -> Known
-    requires { ⌜ InFormat format sign unit ⌝ }
-    ensures { λ r. ⌜ (Formed (format .f) aligned → Tells format mode sign unit aligned c 1 r) ⌝ }
+// What is known of the numbers other than 0, before they are asked about by their digits. Where dropped bits are fixed, none below the
+// smallest normal number serves. Else, where no subnormal number is found, none serves. One that is found may be 0, and the word of a zero
+// sum of unlike operands has a sign of its own; but 0 meets no mask that wants a bit of the fraction to be 1.
+fn past_zero(
+    format: Format,
+    mode: u64,
+    sign: u64,
+    unit: Unit,
+    aligned: Aligned,
+    target: Target,
+) -> Known
+    requires { ⌜ InFormat format sign unit × Room (format .f) aligned ⌝ }
+    ensures { λ r. ⌜ (Formed (format .f) aligned → Tells format mode sign unit aligned target 1 r) ⌝ }
 {
-    if format.f + GUARD_BITS <= unit.0 {
+    let place = format.f + aligned.below;
+    if place <= unit.0 {
         return Known::AtLeast(1);
     }
-    if !exact(aligned, minus(GUARD_BITS, unit.0)) {
+    let small = place - unit.0;
+    if target.dropped.mask.care != 0 {
+        return Known::AtLeast(small + 1);
+    }
+    if !exact(aligned, minus(aligned.below, unit.0)) {
         return Known::AtLeast(1);
     }
-    let small = format.f + GUARD_BITS - unit.0;
-    if !subnormal(format, sign, unit, aligned, c, small) {
+    if !subnormal(format, sign, unit, aligned, target.c, small) {
         return Known::AtLeast(small + 1);
     }
     if aligned.like {
         return Known::Found;
     }
-    if mask::low(c, format.f).value != 0 {
+    if mask::low(target.c, format.f).value != 0 {
         return Known::Found;
     }
     Known::AtLeast(1)
@@ -85,17 +97,17 @@ pub(crate) fn first_count(
     sign: u64,
     unit: Unit,
     aligned: Aligned,
-    c: Mask,
+    target: Target,
 ) -> Known
-    requires { ⌜ InFormat format sign unit ⌝ }
-    ensures { λ r. ⌜ (Formed (format .f) aligned → Tells format mode sign unit aligned c 0 r) ⌝ }
+    requires { ⌜ InFormat format sign unit × Room (format .f) aligned × (target .dropped .g ≤ mostDropped) ⌝ }
+    ensures { λ r. ⌜ (Formed (format .f) aligned → ValidDropped (target .dropped) → Tells format mode sign unit aligned target 0 r) ⌝ }
 {
     let few = fewest(aligned, format.f);
     if few != 0 {
         return Known::AtLeast(few);
     }
-    if fits(format, mode, sign, unit, aligned, c, 0) {
+    if fits(format, mode, sign, unit, aligned, target, 0) {
         return Known::Found;
     }
-    past_zero(format, mode, sign, unit, aligned, c)
+    past_zero(format, mode, sign, unit, aligned, target)
 }

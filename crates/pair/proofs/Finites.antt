@@ -14,6 +14,8 @@ use Rattle.job.specs.Job.{Valid}
 use Rattle.word.specs.declared.Biased.{Biased}
 use Rattle.word.specs.declared.Finite as record-of
 use Rattle.adder.specs.declared.Row as row
+use Rattle.adder.specs.declared.Below as below
+use Rattle.adder.specs.Below.{finiteBelow}
 use Rattle.adder.specs.declared.Row.the-variants.{Carries}
 use Rattle.word.specs.Word.{fraction, biased, sign, signed, allOnes}
 use Rattle.word.specs.Operand.{finiteOf}
@@ -21,8 +23,8 @@ use Rattle.adder.specs.Result.{finiteSum, result}
 use Rattle.adder.specs.Row.{finiteRow}
 use Rattle.word.proofs.Fields.{together-sign, together-biased, together-fraction, together-lt, signed-lt}
 use Rattle.adder.proofs.ResultLaws.{result-lt}
-use Rattle.adder.proofs.Aligned.{turnedOf, result-finite, row-finite}
-use Rattle.fit.specs.Fit.{RowMeets}
+use Rattle.adder.proofs.Aligned.{below-finite, turnedOf, result-finite, row-finite}
+use Rattle.fit.specs.Fit.{RowMeets, BelowMeets}
 use Rattle.word.specs.Masks.{signMask, exponentMask, fractionMask}
 use Rattle.special.specs.Asked.{fieldIs, PairFits}
 use Rattle.pair.specs.Pair.{FiniteSide, sideA, sideB, SomeSigns, FinitePair}
@@ -66,6 +68,7 @@ module _ (j : Job) (valid : Valid j) (ea eb : Biased) (fin : FinitePair (j .sett
           p-meets = ma .2;
           q-meets = mb .2;
           row-meets = subst (λ (r : row.Row). RowMeets r (j .carries)) (row-finite F (j .setting .operation) (j .setting .mode) a b na nb ∙ ap₂ (λ (x y : record-of.Finite). Carries (finiteRow F x y)) x-is y-is) (P .fits .satisfies .row);
+          below-meets = subst (λ (r : below.Below). BelowMeets r (j .dropped .mask)) (below-finite F (j .setting .operation) (j .setting .mode) a b na nb (j .dropped .g) ∙ ap₂ (finiteBelow F (j .dropped .g)) x-is y-is) (P .fits .satisfies .dropped);
           sum-meets = subst (λ (n : ℕ). Meets n (j .c .mask)) (P .fits .right .sum ∙ result-finite F (j .setting .operation) (j .setting .mode) a b na nb ∙ ap₂ (finiteSum F (j .setting .mode)) x-is y-is) (P .fits .satisfies .c-allowed .mask);
         });
       };
@@ -120,6 +123,7 @@ module _ (j : Job) (valid : Valid j) (ea eb : Biased) (fin : FinitePair (j .sett
         b-allowed = record { mask = meets-fields (F .w) (F .f) (j .b .mask) (valid .b .mask) b .1 (rw b-sign msb, rw b-exponent mb, rw b-fraction (N .q-meets)) };
         c-allowed = record { mask = subst (λ (n : ℕ). Meets n (j .c .mask)) (sym (result-finite F (j .setting .operation) (j .setting .mode) a b na nb ∙ ap₂ (finiteSum F (j .setting .mode)) x-is y-is)) (N .sum-meets) };
         row = subst (λ (r : row.Row). RowMeets r (j .carries)) (sym (row-finite F (j .setting .operation) (j .setting .mode) a b na nb ∙ ap₂ (λ (x y : record-of.Finite). Carries (finiteRow F x y)) x-is y-is)) (N .row-meets);
+        dropped = subst (λ (r : below.Below). BelowMeets r (j .dropped .mask)) (sym (below-finite F (j .setting .operation) (j .setting .mode) a b na nb (j .dropped .g) ∙ ap₂ (finiteBelow F (j .dropped .g)) x-is y-is)) (N .below-meets);
       };
     };
     a-exponent = ap fieldIs a-exponent;

@@ -25,42 +25,43 @@ use Rattle.word.proofs.Bounds.{infinity-lt}
 use Rattle.rounding.proofs.Rounded.{overflow-le}
 use Rattle.word.proofs.Fields.{signed-sign}
 use Rattle.outcome.specs.declared.Aligned as pair
+use Rattle.outcome.specs.declared.Target.{Target}
 use Rattle.rounding.specs.Outcome.{heldWord, boundedHeld, outcome}
 use Rattle.outcome.specs.Outcome.{Admits}
 use Rattle.word.specs.Masks.{signMask}
 use Rattle.special.specs.Asked.{PairFits}
 use Rattle.pair.specs.declared.Side.{Side}
-use Rattle.pair.specs.Pair.{Larger, turned, sideA, sideB, Posed, FinitePair}
+use Rattle.pair.specs.Pair.{targetOf, Larger, turned, sideA, sideB, Posed, FinitePair}
 use Rattle.pair.specs.Signs.{signLeft, signsLeft}
 use Rattle.pair.proofs.Finites.{pair-finite}
 
 module _ (F : Format) (ok : Supported F) where
-  bounded-lt : (d : Direction) (x : ℕ) (u : exponent.Unit) → boundedHeld F d x u < 2 ^ (F .w + F .f)
+  bounded-lt : (q : ℕ) (d : Direction) (x : ℕ) (u : exponent.Unit) → boundedHeld q F d x u < 2 ^ (F .w + F .f)
   unfolding boundedHeld
-  bounded-lt d x u = go (ltb (heldWord F d x u) (infinityWord F)) refl
+  bounded-lt q d x u = go (ltb (heldWord q F d x u) (infinityWord F)) refl
     where
-      go : (t : Bool) → ltb (heldWord F d x u) (infinityWord F) ≡ t → cond t (heldWord F d x u) (overflowWord F d) < 2 ^ (F .w + F .f)
-      go true q = lt-trans (ltb-true (heldWord F d x u) (infinityWord F) q) (infinity-lt F ok)
-      go false q = lt-of-le-of-lt (overflow-le F d) (infinity-lt F ok)
+      go : (t : Bool) → ltb (heldWord q F d x u) (infinityWord F) ≡ t → cond t (heldWord q F d x u) (overflowWord F d) < 2 ^ (F .w + F .f)
+      go true e = lt-trans (ltb-true (heldWord q F d x u) (infinityWord F) e) (infinity-lt F ok)
+      go false e = lt-of-le-of-lt (overflow-le F d) (infinity-lt F ok)
 
   -- the word of a sign and a magnitude has that sign
   word-sign : (s m : ℕ) (c : Mask) → WellFormed (wordBits F) c → s < 2 → m < 2 ^ (F .w + F .f) → Meets (signed F s m) c → Meets s (signMask F c)
   word-sign s m c h hs hm met = subst (λ (n : ℕ). Meets n (signMask F c)) (signed-sign F s m hs hm) (meets-fields (F .w) (F .f) c h (signed F s m) .0 met .0)
 
-  like-outcome : (mode s : ℕ) (u : exponent.Unit) (x : ℕ) (c : Mask) → WellFormed (wordBits F) c → s < 2 → Meets (outcome F mode true s u x) c → Meets s (signMask F c)
+  like-outcome : (q mode s : ℕ) (u : exponent.Unit) (x : ℕ) (c : Mask) → WellFormed (wordBits F) c → s < 2 → Meets (outcome q F mode true s u x) c → Meets s (signMask F c)
   unfolding outcome
-  like-outcome mode s u zero c h hs met = word-sign s 0 c h hs (lib.Pow.pow-pos (F .w + F .f)) met
-  like-outcome mode s u (suc x) c h hs met = word-sign s (boundedHeld F (direction mode s) (suc x) u) c h hs (bounded-lt (direction mode s) (suc x) u) met
+  like-outcome q mode s u zero c h hs met = word-sign s 0 c h hs (lib.Pow.pow-pos (F .w + F .f)) met
+  like-outcome q mode s u (suc x) c h hs met = word-sign s (boundedHeld q F (direction mode s) (suc x) u) c h hs (bounded-lt q (direction mode s) (suc x) u) met
 
   -- a sum of operands of like sign
-  like-sign : (mode s : ℕ) (u : exponent.Unit) (A : pair.Aligned) (c : Mask) → WellFormed (wordBits F) c → s < 2 → A .like ≡ true → Admits F mode s u A c → Meets s (signMask F c)
-  like-sign mode s u A c h hs like a =
-      like-outcome mode s u (a .x) c h hs (subst (λ (t : Bool). Meets (outcome F mode t s u (a .x)) c) like (a .holds))
+  like-sign : (mode s : ℕ) (u : exponent.Unit) (A : pair.Aligned) (T : Target) → WellFormed (wordBits F) (T .c) → s < 2 → A .like ≡ true → Admits F mode s u A T → Meets s (signMask F (T .c))
+  like-sign mode s u A T h hs like a =
+      like-outcome (A .below) mode s u (a .x) (T .c) h hs (subst (λ (t : Bool). Meets (outcome (A .below) F mode t s u (a .x)) (T .c)) like (a .holds .word))
 
 module _ (j : Job) (v : Valid j) (ea eb : Biased) where
   -- the larger side's sign is that of c
   larger-sign : (x y : Side) → x .sign < 2 → x .sign ≡ y .sign → Larger j x y → Meets (x .sign) (signMask (j .setting .format) (j .c .mask))
-  larger-sign x y hs e l = like-sign (j .setting .format) (v .setting .format) (j .setting .mode) (x .sign) _ _ (j .c .mask) (v .c .mask) hs (eq-eqb (x .sign) (y .sign) e) (l .1)
+  larger-sign x y hs e l = like-sign (j .setting .format) (v .setting .format) (j .setting .mode) (x .sign) _ _ (targetOf j) (v .c .mask) hs (eq-eqb (x .sign) (y .sign) e) (l .1)
 
   posed-left : (sa sb : ℕ) → sa < 2 → sb < 2 → Posed j ea eb sa sb → signLeft j sa sb ≡ true
   unfolding signLeft

@@ -18,24 +18,32 @@ use Rattle.mask.specs.Mask.{Meets, WellFormed}
 use Rattle.mask.proofs.ByBits.{value-below}
 use Rattle.job.specs.declared.Job.{Job}
 use Rattle.job.specs.Job.{Valid}
+use Rattle.job.specs.Guards.{guardsOf}
+use Rattle.job.proofs.GuardLaws.{guards-pos}
 use Rattle.columns.specs.Column.{allows}
 use Rattle.columns.proofs.Agree.{met-bits, met-whole}
 use Rattle.word.specs.Word.{unitOf}
 use Rattle.word.specs.Operand.{magnitude, Canonical}
 use Rattle.rounding.specs.Sticky.{headAt, tailAt}
-use Rattle.rounding.specs.Width.{guardBits, alignedBits, shortBits, maskBits}
-use Rattle.rounding.proofs.Widths.{guards, aligned-width}
+use Rattle.rounding.specs.Width.{alignedBits, maskBits}
+use Rattle.rounding.proofs.Align.{tail-none}
+use Rattle.rounding.proofs.Held.{Guards}
+use Rattle.rounding.proofs.Widths.{aligned-width}
 use Rattle.adder.specs.Result.{finiteSum}
 use Rattle.adder.specs.Row.{finiteRow}
+use Rattle.adder.specs.declared.Below as below
+use Rattle.adder.specs.Below.{finiteBelow}
+use Rattle.fit.specs.Fit.{BelowMeets}
 use Rattle.word.proofs.Canonical.{significand-bounds, exponent-le}
 use Rattle.significand.proofs.Significand.{significand-formed, significand-meets}
-use Rattle.significand.proofs.Tail.{aligned-zero, tail-sound, tail-complete}
+use Rattle.significand.proofs.Tail.{Room, tail-sound, tail-complete}
 use Rattle.columns.specs.Carry.{combined}
 use Rattle.rounding.specs.Outcome.{outcome}
 use Rattle.pair.specs.declared.Side.{Side}
-use Rattle.pair.specs.Pair.{FiniteSide, significandsOf, gapOf, reversedOf, alignedOf, Larger, Sums}
-use Rattle.outcome.specs.Outcome.{rowCarry}
-use Rattle.adder.proofs.Aligned.{sum-exchanged, tail-ordered, tail-below, sum-outcome}
+use Rattle.pair.specs.Pair.{FiniteSide, significandsOf, gapOf, reversedOf, bitsBelow, alignedOf, Larger, Sums}
+use Rattle.outcome.specs.Outcome.{rowCarry, DropsAs}
+use Rattle.adder.proofs.Aligned.{sum-exchanged, below-exchanged, tail-ordered, tail-below, sum-outcome}
+use Rattle.pair.proofs.Below.{guards-of, below-pos, below-more, below-room, drops-of, drops-back}
 use Rattle.pair.proofs.Rows.{number, rowFrom, reversed-parts, row-from-lt, made-row}
 
 -- a number of n bits meets a mask of n bits exactly when each of its bits is allowed
@@ -54,6 +62,7 @@ pub record Numbers (j : Job) (x y : Side) : Type 0 where
   pub p-meets : Meets p (x .fraction)
   pub q-meets : Meets q (y .fraction)
   pub row-meets : Meets (rowFrom (j .setting .format) y (number (j .setting .format) x p) (number (j .setting .format) y q)) (j .carries)
+  pub below-meets : BelowMeets (finiteBelow (j .setting .format) (j .dropped .g) (number (j .setting .format) x p) (number (j .setting .format) y q)) (j .dropped .mask)
   pub sum-meets : Meets (finiteSum (j .setting .format) (j .setting .mode) (number (j .setting .format) x p) (number (j .setting .format) y q)) (j .c .mask)
 
 pub number-canonical : (F : Format) (x : Side) → FiniteSide F x → (t : ℕ) → t < 2 ^ F .f → Canonical F (number F x t)
@@ -80,6 +89,7 @@ exchange j x y other N =
       p-meets = N .q-meets;
       q-meets = N .p-meets;
       row-meets = subst (λ (n : ℕ). Meets n (j .carries)) (first-same (x .lhs) (y .lhs) other (finiteRow F X Y) (finiteRow F Y X)) (N .row-meets);
+      below-meets = subst (λ (b : below.Below). BelowMeets b (j .dropped .mask)) (below-exchanged F (j .dropped .g) X Y) (N .below-meets);
       sum-meets = subst (λ (n : ℕ). Meets n (j .c .mask)) (sum-exchanged F (j .setting .mode) X Y) (N .sum-meets);
     }
 
@@ -90,8 +100,27 @@ module _ (j : Job) (valid : Valid j) (x y : Side) (fx : FiniteSide (j .setting .
   ok : Supported (j .setting .format)
   ok = valid .setting .format
 
-  p-most : precision (j .setting .format) ≤ shortBits
-  p-most = omega (arith, significand-room (j .setting .format) (valid .setting .format))
+  -- the bits below, and room for them
+  G : ℕ
+  G = guardsOf (j .dropped)
+
+  like : Bool
+  like = eqb (x .sign) (y .sign)
+
+  q : ℕ
+  q = bitsBelow (guardsOf (j .dropped)) (eqb (x .sign) (y .sign))
+
+  guards : Guards (bitsBelow (guardsOf (j .dropped)) (eqb (x .sign) (y .sign))) (guardsOf (j .dropped))
+  guards = guards-of (guardsOf (j .dropped)) (guards-pos (j .dropped)) (eqb (x .sign) (y .sign))
+
+  more : eqb (x .sign) (y .sign) ≡ false → guardsOf (j .dropped) + 1 < bitsBelow (guardsOf (j .dropped)) (eqb (x .sign) (y .sign))
+  more = below-more (guardsOf (j .dropped)) (guards-pos (j .dropped)) (eqb (x .sign) (y .sign))
+
+  some : 0 < bitsBelow (guardsOf (j .dropped)) (eqb (x .sign) (y .sign))
+  some = below-pos (guardsOf (j .dropped)) (guards-pos (j .dropped)) (eqb (x .sign) (y .sign))
+
+  room : Room (bitsBelow (guardsOf (j .dropped)) (eqb (x .sign) (y .sign))) (precision (j .setting .format))
+  room = below-room (j .setting .format) (valid .setting .format) (j .dropped) (valid .dropped) (eqb (x .sign) (y .sign))
 
   f-most : j .setting .format .f < 64
   f-most = omega (arith, significand-room (j .setting .format) (valid .setting .format))
@@ -102,7 +131,7 @@ module _ (j : Job) (valid : Valid j) (x y : Side) (fx : FiniteSide (j .setting .
   -- numbers of which y's is not the larger, and the smaller where the row is reversed
   larger-of : (N : Numbers j x y) → magnitude (number (j .setting .format) y (N .q)) ≤ magnitude (number (j .setting .format) x (N .p))
       → (reversedOf x y ≡ true → magnitude (number (j .setting .format) y (N .q)) < magnitude (number (j .setting .format) x (N .p))) → Larger j x y
-  unfolding F ok gap
+  unfolding F ok gap G like q
   larger-of N le less =
       let X = number F x (N .p) in
       let Y = number F y (N .q) in
@@ -112,48 +141,51 @@ module _ (j : Job) (valid : Valid j) (x y : Side) (fx : FiniteSide (j .setting .
       let units : unitOf (y .exponent) .0 ≤ unitOf (x .exponent) .0 = omega (arith, order) in
       let hm = significand-meets (F .f) (x .fraction) f-most (fx .formed) (x .exponent) (X .significand) .1 (N .p, N .p-lt, N .p-meets, refl) in
       let tm = significand-meets (F .f) (y .fraction) f-most (fy .formed) (y .exponent) (Y .significand) .1 (N .q, N .q-lt, N .q-meets, refl) in
-      let hs = tail-sound (precision F) (significandsOf F x) 0 p-most (significand-formed (F .f) (x .fraction) f-most (fx .formed) (x .exponent)) (X .significand) (hm .1) (hm .0) in
-      let ts = tail-sound (precision F) (significandsOf F y) gap p-most (significand-formed (F .f) (y .fraction) f-most (fy .formed) (y .exponent)) (Y .significand) (tm .1) (tm .0) in
-      let zero = aligned-zero (X .significand) in
+      let hs = tail-sound q (precision F) (significandsOf F x) 0 room (significand-formed (F .f) (x .fraction) f-most (fx .formed) (x .exponent)) (X .significand) (hm .1) (hm .0) in
+      let ts = tail-sound q (precision F) (significandsOf F y) gap room (significand-formed (F .f) (y .fraction) f-most (fy .formed) (y .exponent)) (Y .significand) (tm .1) (tm .0) in
+      let zero = tail-none q some (X .significand) in
       let row = meets-allowed (precision F) (rowFrom F y X Y) (j .carries) (valid .carries) (row-from-lt F y X Y) .0 (N .row-meets) in (
         order,
         record {
-          x = combined (not (eqb (x .sign) (y .sign))) (headAt guardBits (X .significand)) (tailAt guardBits (Y .significand) gap);
+          x = combined (not (eqb (x .sign) (y .sign))) (headAt q (X .significand)) (tailAt q (Y .significand) gap);
           made = record {
-            H = headAt guardBits (X .significand);
-            T = tailAt guardBits (Y .significand) gap;
-            head-lt = subst (λ (n : ℕ). headAt guardBits (X .significand) < 2 ^ n) (aligned-width F) (rw zero at (hs .1));
-            tail-lt = subst (λ (n : ℕ). tailAt guardBits (Y .significand) gap < 2 ^ n) (aligned-width F) (ts .1);
+            H = headAt q (X .significand);
+            T = tailAt q (Y .significand) gap;
+            head-lt = subst (λ (n : ℕ). headAt q (X .significand) < 2 ^ n) (aligned-width q F) (rw zero at (hs .1));
+            tail-lt = subst (λ (n : ℕ). tailAt q (Y .significand) gap < 2 ^ n) (aligned-width q F) (ts .1);
             head-meets = rw zero at (hs .0);
             tail-meets = ts .0;
-            ordered = λ u. tail-ordered F X Y units guardBits guards .1 le;
-            less = λ r. tail-below F X Y units guardBits guards (less r);
+            ordered = λ u. tail-ordered F X Y units q some .1 le;
+            less = λ r. tail-below F X Y units q some (less r);
             carries-allow = λ i h.
-                subst (λ (b : ℕ). allows (j .carries .care) (j .carries .value) i b ≡ true) (made-row F (j .carries) x y (N .p) (N .q) order i h) (row i h);
+                subst (λ (b : ℕ). allows (j .carries .care) (j .carries .value) i b ≡ true) (made-row F G (j .carries) q some x y (N .p) (N .q) order i h) (row i h);
             makes = refl;
           };
-          holds = subst (λ (w : ℕ). Meets w (j .c .mask)) (sum-outcome F X Y units ok cx cy (j .setting .mode) (λ u. le)) (N .sum-meets);
+          holds = record {
+            word = subst (λ (w : ℕ). Meets w (j .c .mask)) (sum-outcome F X Y units ok cx cy q G guards more (j .setting .mode) (λ u. le)) (N .sum-meets);
+            drops = drops-of F X Y units ok cx cy (j .dropped) (valid .dropped) (λ u. le) (N .below-meets);
+          };
         },
       )
 
   pub larger-numbers : Larger j x y → Numbers j x y
-  unfolding F ok gap
+  unfolding F ok gap G like q
   larger-numbers (order, admitted) =
       let A = admitted .made in
       let units : unitOf (y .exponent) .0 ≤ unitOf (x .exponent) .0 = omega (arith, order) in
-      let wide : (v : ℕ) → v < 2 ^ alignedBits (F .f) → v < 2 ^ maskBits = λ v h. lt-of-lt-of-le h (pow-mono {i = alignedBits (F .f)} {j = maskBits} (omega (arith, significand-room F ok))) in
-      let hc = tail-complete (precision F) (significandsOf F x) 0 p-most (significand-formed (F .f) (x .fraction) f-most (fx .formed) (x .exponent)) (A .H) (wide (A .H) (A .head-lt)) (A .head-meets) in
-      let tc = tail-complete (precision F) (significandsOf F y) gap p-most (significand-formed (F .f) (y .fraction) f-most (fy .formed) (y .exponent)) (A .T) (wide (A .T) (A .tail-lt)) (A .tail-meets) in
+      let wide : (v : ℕ) → v < 2 ^ alignedBits q (F .f) → v < 2 ^ maskBits = λ v h. lt-of-lt-of-le h (pow-mono {i = alignedBits q (F .f)} {j = maskBits} (omega (arith, room .few, room .short))) in
+      let hc = tail-complete q (precision F) (significandsOf F x) 0 room (significand-formed (F .f) (x .fraction) f-most (fx .formed) (x .exponent)) (A .H) (wide (A .H) (A .head-lt)) (A .head-meets) in
+      let tc = tail-complete q (precision F) (significandsOf F y) gap room (significand-formed (F .f) (y .fraction) f-most (fy .formed) (y .exponent)) (A .T) (wide (A .T) (A .tail-lt)) (A .tail-meets) in
       let hm = significand-meets (F .f) (x .fraction) f-most (fx .formed) (x .exponent) (hc .0) .0 (hc .2, hc .1) in
       let tm = significand-meets (F .f) (y .fraction) f-most (fy .formed) (y .exponent) (tc .0) .0 (tc .2, tc .1) in
       let X = number F x (hm .0) in
       let Y = number F y (tm .0) in
       let cx = number-canonical F x fx (hm .0) (hm .1) in
       let cy = number-canonical F y fy (tm .0) (tm .1) in
-      let like = eqb (x .sign) (y .sign) in
-      let H : headAt guardBits (X .significand) ≡ A .H = sym (aligned-zero (X .significand)) ∙ ap (λ (r : ℕ). tailAt guardBits r 0) (hm .3) ∙ hc .3 in
-      let T : tailAt guardBits (Y .significand) gap ≡ A .T = ap (λ (r : ℕ). tailAt guardBits r gap) (tm .3) ∙ tc .3 in
-      let ordered : (eqb (x .sign) (y .sign) ≡ false → magnitude Y ≤ magnitude X) = λ u. tail-ordered F X Y units guardBits guards .0 (rw (H, T) (A .ordered u)) in
+      let H : headAt q (X .significand) ≡ A .H = sym (tail-none q some (X .significand)) ∙ ap (λ (r : ℕ). tailAt q r 0) (hm .3) ∙ hc .3 in
+      let T : tailAt q (Y .significand) gap ≡ A .T = ap (λ (r : ℕ). tailAt q r gap) (tm .3) ∙ tc .3 in
+      let makes-is : combined (not (eqb (x .sign) (y .sign))) (headAt q (X .significand)) (tailAt q (Y .significand) gap) ≡ admitted .x = ap₂ (combined (not (eqb (x .sign) (y .sign)))) H T ∙ A .makes in
+      let ordered : (eqb (x .sign) (y .sign) ≡ false → magnitude Y ≤ magnitude X) = λ u. tail-ordered F X Y units q some .0 (rw (H, T) (A .ordered u)) in
       record {
         p = hm .0;
         q = tm .0;
@@ -164,12 +196,14 @@ module _ (j : Job) (valid : Valid j) (x y : Side) (fx : FiniteSide (j .setting .
         row-meets = meets-allowed (precision F) (rowFrom F y X Y) (j .carries) (valid .carries) (row-from-lt F y X Y) .1
             (λ i h.
             subst (λ (b : ℕ). allows (j .carries .care) (j .carries .value) i b ≡ true)
-            (sym (made-row F (j .carries) x y (hm .0) (tm .0) order i h ∙ ap₂ (λ (a b : ℕ). rowCarry (alignedOf F (j .carries) x y) a b (i + (1 + guardBits))) H T)) (A .carries-allow i h));
+            (sym (made-row F G (j .carries) q some x y (hm .0) (tm .0) order i h ∙ ap₂ (λ (a b : ℕ). rowCarry (alignedOf F G (j .carries) x y) a b (i + (1 + q))) H T)) (A .carries-allow i h));
         sum-meets = subst (λ (w : ℕ). Meets w (j .c .mask))
             (sym
-            (sum-outcome F X Y units ok cx cy (j .setting .mode) ordered
-            ∙ ap (outcome F (j .setting .mode) like (x .sign) (unitOf (x .exponent))) (ap₂ (combined (not like)) H T ∙ A .makes)))
-            (admitted .holds);
+            (sum-outcome F X Y units ok cx cy q G guards more (j .setting .mode) ordered
+            ∙ ap (outcome q F (j .setting .mode) like (x .sign) (unitOf (x .exponent))) makes-is))
+            (admitted .holds .word);
+        below-meets = drops-back F X Y units ok cx cy (j .dropped) (valid .dropped) ordered
+            (subst (DropsAs F q (unitOf (x .exponent)) (j .dropped)) (sym makes-is) (admitted .holds .drops));
       }
 
 -- whichever is the larger; x is a's side, and y is b's

@@ -3,7 +3,7 @@
 use mathlib.Core.Path.{_≡_, refl, sym, ap, ap₂, _∙_}
 use mathlib.Core.Bool.{Bool, true, false, not, cond, _&&_, and-eq-true-iff}
 use mathlib.Core.Logic.{inl, inr}
-use Prim.Native.Nat.{ℕ, _+_, _^_, _≤_, _<_}
+use Prim.Native.Nat.{ℕ, suc, _+_, _^_, _≤_, _<_}
 use native.Mathlib.Decide.{ℕ-discrete}
 use native.Mathlib.Omega.{arith}
 use package.borrow.Author.Tests.{eqb-true, eqb-false, eq-eqb, ne-eqb, not-true}
@@ -15,12 +15,10 @@ use Rattle.mask.specs.declared.Mask.{Mask}
 use Rattle.word.specs.declared.Finite as record-of
 use Rattle.word.specs.Word.{significand}
 use Rattle.rounding.specs.Sticky.{headAt, tailAt}
-use Rattle.rounding.specs.Width.{guardBits}
-use Rattle.rounding.proofs.Widths.{guards}
+use Rattle.rounding.proofs.Align.{tail-none}
 use Rattle.adder.specs.Row.{finiteRow}
 use Rattle.adder.proofs.Aligned.{row-exchanged, row-lt, row-columns}
 use Rattle.columns.specs.Carry.{borrow, carryOf}
-use Rattle.significand.proofs.Tail.{aligned-zero}
 use Rattle.outcome.specs.Outcome.{rowCarry}
 use Rattle.pair.specs.declared.Side.{Side}
 use Rattle.pair.specs.Pair.{gapOf, reversedOf, alignedOf}
@@ -56,19 +54,22 @@ row-from-lt F y X Y = go (y .lhs)
     go true = row-lt F Y X
     go false = row-lt F X Y
 
-module _ (F : Format) (carries : Mask) (x y : Side) (p q : ℕ) (le : y .exponent .0 ≤ x .exponent .0) (i : ℕ) (h : i < precision F) where
+module _ (F : Format) (G : ℕ) (carries : Mask) (below : ℕ) (some : 0 < below) (x y : Side) (p q : ℕ) (le : y .exponent .0 ≤ x .exponent .0) (i : ℕ) (h : i < precision F) where
   abbrev H : ℕ
-  H = headAt guardBits (significand (F .f) (x .exponent .0) p)
+  H = headAt below (significand (F .f) (x .exponent .0) p)
 
   abbrev T : ℕ
-  T = tailAt guardBits (significand (F .f) (y .exponent .0) q) (gapOf x y)
+  T = tailAt below (significand (F .f) (y .exponent .0) q) (gapOf x y)
 
   abbrev k : ℕ
-  k = i + (1 + guardBits)
+  k = i + (1 + below)
+
+  up : i + suc below ≡ i + (1 + below)
+  up = omega arith
 
   -- x is L
   forward : bit (finiteRow F (number F x p) (number F y q)) i ≡ carryOf (not (eqb (x .sign) (y .sign))) H T k
-  forward = row-columns F (number F x p) (number F y q) (omega (arith, le)) guardBits guards le i h
+  forward = row-columns F (number F x p) (number F y q) (omega (arith, le)) below some le i h ∙ ap (carryOf (not (eqb (x .sign) (y .sign))) H T) up
 
   -- y is a, and the exponents are equal
   equal : x .exponent .0 ≡ y .exponent .0 → (t : Bool) → eqb (x .sign) (y .sign) ≡ t
@@ -77,11 +78,12 @@ module _ (F : Format) (carries : Mask) (x y : Side) (p q : ℕ) (le : y .exponen
       ap (λ (n : ℕ). bit n i) (row-exchanged F (number F y q) (number F x p) (inr (sym (eqb-true (x .sign) (y .sign) s))))
       ∙ forward ∙ ap (λ (t : Bool). carryOf (not t) H T k) s
   equal e false s =
-      row-columns F (number F y q) (number F x p) (omega (arith, e)) guardBits guards (omega (arith, e)) i h
-      ∙ ap (λ (t : Bool). carryOf (not t) (headAt guardBits (number F y q .significand)) (tailAt guardBits (number F x p .significand) (gapOf y x)) k) (ne-eqb (y .sign) (x .sign) (λ n. eqb-false (x .sign) (y .sign) s (sym n)))
+      row-columns F (number F y q) (number F x p) (omega (arith, e)) below some (omega (arith, e)) i h
+      ∙ ap (carryOf (not (eqb (y .sign) (x .sign))) (headAt below (number F y q .significand)) (tailAt below (number F x p .significand) (gapOf y x))) up
+      ∙ ap (λ (t : Bool). carryOf (not t) (headAt below (number F y q .significand)) (tailAt below (number F x p .significand) (gapOf y x)) k) (ne-eqb (y .sign) (x .sign) (λ n. eqb-false (x .sign) (y .sign) s (sym n)))
       ∙ ap₂ (λ (l r : ℕ). borrow l r 0 k)
-      (sym (ap (tailAt guardBits (number F y q .significand)) none-x ∙ aligned-zero (number F y q .significand)))
-      (ap (tailAt guardBits (number F x p .significand)) none-y ∙ aligned-zero (number F x p .significand))
+      (sym (ap (tailAt below (number F y q .significand)) none-x ∙ tail-none below some (number F y q .significand)))
+      (ap (tailAt below (number F x p .significand)) none-y ∙ tail-none below some (number F x p .significand))
     where
       none-x : gapOf x y ≡ 0
       none-x = omega (arith, e)
@@ -89,8 +91,8 @@ module _ (F : Format) (carries : Mask) (x y : Side) (p q : ℕ) (le : y .exponen
       none-y : gapOf y x ≡ 0
       none-y = omega (arith, e)
 
-  -- the row's bit i is the carry of the aligned significands above their guard bits
-  pub made-row : bit (rowFrom F y (number F x p) (number F y q)) i ≡ rowCarry (alignedOf F carries x y) H T k
+  -- the row's bit i is the carry of the aligned significands above the bits below them
+  pub made-row : bit (rowFrom F y (number F x p) (number F y q)) i ≡ rowCarry (alignedOf F G carries x y) H T k
   made-row = go (y .lhs) refl (ℕ-discrete (x .exponent .0) (y .exponent .0))
     where
       go : (t : Bool) → y .lhs ≡ t → Dec (x .exponent .0 ≡ y .exponent .0)

@@ -13,7 +13,9 @@ use Rattle.word.specs.declared.Biased.{Biased}
 use Rattle.word.specs.Word.{unitOf, allOnes}
 use Rattle.significand.specs.Significand.{significandMask}
 use Rattle.significand.specs.Tail.{tailMask}
+use Rattle.job.specs.Guards.{guardsOf}
 use Rattle.outcome.specs.declared.Aligned as pair
+use Rattle.outcome.specs.declared.Target.{Target}
 use Rattle.outcome.specs.Outcome.{Admits}
 use Rattle.pair.specs.declared.Side.{Side}
 use Rattle.word.specs.Masks.{signMask, fractionMask}
@@ -36,21 +38,33 @@ gapOf x y = unitOf (x .exponent) .0 - unitOf (y .exponent) .0
 abbrev pub reversedOf : Side → Side → Bool
 reversedOf x y = y .lhs && (eqb (x .exponent .0) (y .exponent .0) && not (eqb (x .sign) (y .sign)))
 
+-- how many bits stand below the larger significand's last one, where G bits are told apart below the last kept one: one more in a sum, and
+-- two in a difference, which may lose its top bit (W-206)
+abbrev pub bitsBelow : ℕ → Bool → ℕ
+bitsBelow G true = G + 1
+bitsBelow G false = G + 2
+
 -- the masks of two aligned significands, x's the larger
-abbrev pub alignedOf : Format → Mask → Side → Side → pair.Aligned
-alignedOf F carries x y = record {
+abbrev pub alignedOf : Format → ℕ → Mask → Side → Side → pair.Aligned
+alignedOf F G carries x y = record {
   like = eqb (x .sign) (y .sign);
   reversed = reversedOf x y;
-  head = tailMask (precision F) (significandsOf F x) 0;
-  tail = tailMask (precision F) (significandsOf F y) (gapOf x y);
+  below = bitsBelow G (eqb (x .sign) (y .sign));
+  head = tailMask (bitsBelow G (eqb (x .sign) (y .sign))) (precision F) (significandsOf F x) 0;
+  tail = tailMask (bitsBelow G (eqb (x .sign) (y .sign))) (precision F) (significandsOf F y) (gapOf x y);
   carries = carries;
 }
 
--- x is the larger operand: its exponent is not the smaller one, and aligned significands make a word and carries that meet the job's masks
+-- what the job wants of the result
+abbrev pub targetOf : Job → Target
+targetOf j = record { c = j .c .mask; dropped = j .dropped }
+
+-- x is the larger operand: its exponent is not the smaller one, and aligned significands make a word, dropped bits and carries that meet the
+-- job's masks
 abbrev pub Larger : Job → Side → Side → Type 0
 Larger j x y =
     (y .exponent .0 ≤ x .exponent .0)
-    × Admits (j .setting .format) (j .setting .mode) (x .sign) (unitOf (x .exponent)) (alignedOf (j .setting .format) (j .carries) x y) (j .c .mask)
+    × Admits (j .setting .format) (j .setting .mode) (x .sign) (unitOf (x .exponent)) (alignedOf (j .setting .format) (guardsOf (j .dropped)) (j .carries) x y) (targetOf j)
 
 -- the one or the other is
 abbrev pub Sums : Job → Side → Side → Type 0

@@ -3,9 +3,13 @@ use crate::Side;
 use bits::power;
 use format::Format;
 use format::format_cause;
+use format::limits::MOST_DROPPED;
+use job::Dropped;
 use job::Job;
+use job::guards::guards;
 use mask::meets;
 use outcome::Aligned;
+use outcome::Target;
 use outcome::admits;
 use significand::significand_mask;
 use significand::tail_mask;
@@ -19,15 +23,28 @@ ghost use mathlib.Core.Logic.{_↔_};
 ghost use mathlib.Core.Path.{_≡_};
 ghost use Prim.Native.Nat.{_<_};
 ghost use Rattle.format.specs.Format.{Supported};
+ghost use Rattle.job.specs.Dropped.{ValidDropped};
+ghost use Rattle.job.specs.Guards.{guardsOf};
 ghost use Rattle.job.specs.Job.{Valid};
 ghost use Rattle.special.specs.Asked.{PairFits};
-ghost use Rattle.pair.specs.Pair.{FiniteSide, reversedOf, Larger, sideA, sideB, Posed, SomeSigns, FinitePair};
+ghost use Rattle.pair.specs.Pair.{FiniteSide, bitsBelow, reversedOf, Larger, sideA, sideB, Posed, SomeSigns, FinitePair};
 
 // Whether the carry row of two operands, x the larger, is that of y less x: y is a, the exponents are equal and the signs unlike.
 fn reversed(x: Side, y: Side) -> bool
     ensures { λ r. ⌜ r ≡ reversedOf x y ⌝ }
 {
     y.lhs & ((x.exponent.0 == y.exponent.0) & (x.sign != y.sign))
+}
+
+// How many bits stand below the larger significand's last one: of those that the job tells apart one more in a sum, and two in a difference.
+fn bits_below(dropped: Dropped, like: bool) -> u64
+    ensures { λ r. ⌜ (ValidDropped dropped → r ≡ bitsBelow (guardsOf dropped) like) ⌝ }
+{
+    let g = guards(dropped);
+    if MOST_DROPPED < g {
+        return 0;
+    }
+    if like { g + 1 } else { g + 2 }
 }
 
 // Whether two operands, x the larger, sum as the job asks.
@@ -41,28 +58,26 @@ fn larger(job: Job, x: Side, y: Side) -> bool
     let u = unit_of(x.exponent);
     let v = unit_of(y.exponent);
     let f = job.setting.format.f;
-    let head = tail_mask(f + 1, significand_mask(f, x.fraction, x.exponent), 0);
-    let tail = tail_mask(
-        f + 1,
-        significand_mask(f, y.fraction, y.exponent),
-        u.0 - v.0,
-    );
+    let like = x.sign == y.sign;
+    let dropped = job.dropped;
+    let below = bits_below(dropped, like);
+    let l = significand_mask(f, x.fraction, x.exponent);
+    let r = significand_mask(f, y.fraction, y.exponent);
+    let head = tail_mask(below, f + 1, l, 0);
+    let tail = tail_mask(below, f + 1, r, u.0 - v.0);
     let carries = job.carries;
     let aligned = Aligned {
-        like: x.sign == y.sign,
+        like,
         reversed: reversed(x, y),
+        below,
         head,
         tail,
         carries,
     };
-    admits(
-        job.setting.format,
-        job.setting.mode,
-        x.sign,
-        u,
-        aligned,
-        job.c.mask,
-    )
+    let c = job.c.mask;
+    let target = Target { c, dropped };
+    let setting = job.setting;
+    admits(setting.format, setting.mode, x.sign, u, aligned, target)
 }
 
 // What is asked of a, by its sign and exponent field.

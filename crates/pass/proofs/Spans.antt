@@ -13,6 +13,7 @@ use Rattle.mask.specs.Mask.{WellFormed, Meets}
 use Rattle.mask.specs.Next.{MetFrom}
 use Rattle.job.specs.declared.Job.{Job}
 use Rattle.job.specs.Job.{Valid}
+use Rattle.job.specs.Guards.{reach}
 use Rattle.word.specs.declared.Biased.{Biased}
 use Rattle.word.specs.Word.{allOnes}
 use Rattle.word.specs.Masks.{exponentMask}
@@ -59,27 +60,27 @@ partners-join j ea n m r one two d from to = go (decLt (d .0) (m .0))
 -- ---- fields of which another one has the answer
 module _ (j : Job) (valid : Valid j) where
   abbrev gap : ℕ
-  gap = farGap (j .setting .format .f)
+  gap = farGap (reach j)
 
   abbrev ones : ℕ
   ones = allOnes (j .setting .format)
 
   -- a field of a is far below one of b, where that is no finite one nearer to it
-  pub only-far : (d e : Biased) → d .0 < ones → (e .0 < ones → (1 ≤ d .0) × (e .0 < d .0 + gap → ⊥)) → PairFits j d e → FarBelow (j .setting .format) e d
+  pub only-far : (d e : Biased) → d .0 < ones → (e .0 < ones → (1 ≤ d .0) × (e .0 < d .0 + gap → ⊥)) → PairFits j d e → FarBelow (j .setting .format) (reach j) e d
   only-far d e finite far P = go (decLt (e .0) ones) (decLt (e .0) (d .0 + gap))
     where
-      go : Dec (e .0 < ones) → Dec (e .0 < d .0 + gap) → FarBelow (j .setting .format) e d
+      go : Dec (e .0 < ones) → Dec (e .0 < d .0 + gap) → FarBelow (j .setting .format) (reach j) e d
       go (yes l) (yes near) = absurd (far l .1 near)
       go (yes l) (no near) = inl (far l .0, omega arith, l)
       go (no l) near = inr (omega (arith, pair-range j d e valid P .b-lt), finite)
 
-  far-lower : (E e g : Biased) → FarBelow (j .setting .format) E e → 1 ≤ g .0 → g .0 ≤ e .0 → FarBelow (j .setting .format) E g
+  far-lower : (E e g : Biased) → FarBelow (j .setting .format) (reach j) E e → 1 ≤ g .0 → g .0 ≤ e .0 → FarBelow (j .setting .format) (reach j) E g
   far-lower E e g (inl h) some le = inl (some, omega (arith, h .1), h .2)
   far-lower E e g (inr h) some le = inr (h .0, omega (arith, h .1))
 
   -- an earlier field of a that meets its mask has the answer
   pub earlier-answered : (first d e : Biased) → (PairFits j first e → ⊥) → 1 ≤ first .0 → first .0 ≤ d .0 → Meets (first .0) (exponentMask (j .setting .format) (j .a .mask))
-      → FarBelow (j .setting .format) e d → PairFits j d e → ⊥
+      → FarBelow (j .setting .format) (reach j) e d → PairFits j d e → ⊥
   earlier-answered first d e none some le met far P = none (far-alike j valid 1 e d first far (far-lower e d first far some le) met P)
 
   -- so has it for all that admit a case only from far below
@@ -88,7 +89,7 @@ module _ (j : Job) (valid : Valid j) where
       none-join j n r none (λ d e from to P. earlier-answered first d e (none first e below) some (omega arith) (met (omega (arith, pair-range j d e valid P .a-lt))) (far d e from to P) P)
 
   -- a field far below a's that was refused has the answer
-  pub field-answered : (ea eb d : Biased) → FarBelow (j .setting .format) ea eb → FarBelow (j .setting .format) ea d → Meets (eb .0) (exponentMask (j .setting .format) (j .b .mask))
+  pub field-answered : (ea eb d : Biased) → FarBelow (j .setting .format) (reach j) ea eb → FarBelow (j .setting .format) (reach j) ea d → Meets (eb .0) (exponentMask (j .setting .format) (j .b .mask))
       → (PairFits j ea eb → ⊥) → PairFits j ea d → ⊥
   field-answered ea eb d far-eb far-d met none P = none (far-alike j valid 0 ea d eb far-d far-eb met P)
 

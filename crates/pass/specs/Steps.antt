@@ -6,6 +6,7 @@ use mathlib.Core.Path.{_≡_}
 use Prim.Native.Nat.{ℕ, _+_, _^_, _≤_, _<_}
 use Rattle.mask.specs.Mask.{Meets}
 use Rattle.job.specs.declared.Job.{Job}
+use Rattle.job.specs.Guards.{reach}
 use Rattle.word.specs.declared.Biased.{Biased}
 use Rattle.word.specs.Masks.{exponentMask}
 use Rattle.special.specs.Asked.{fieldIs, PairFits}
@@ -26,7 +27,7 @@ NoneNear j n r = (E d : ℕ) → E < r .0 → n .0 ≤ d → d ≤ E + 2 → d <
 
 -- each field of a from n on and below r admits a case only with one of b that it is far below
 abbrev pub OnlyFar : Job → Biased → Biased → Type 0
-OnlyFar j n r = (d e : Biased) → n .0 ≤ d .0 → d .0 < r .0 → PairFits j d e → FarBelow (j .setting .format) e d
+OnlyFar j n r = (d e : Biased) → n .0 ≤ d .0 → d .0 < r .0 → PairFits j d e → FarBelow (j .setting .format) (reach j) e d
 
 -- no pair admits a case whose larger field is from n on and below r, and whose smaller one is 2 or more below it
 abbrev pub NoSum : Job → Biased → Biased → Type 0

@@ -3,7 +3,7 @@ use crate::pairs::Pass;
 use answers::PLACES;
 use answers::open::all_closed;
 use bits::minus;
-use classes::FAR_GAP;
+use classes::far_gap;
 use job::Job;
 use mask::next::met_from;
 use word::Biased;
@@ -38,7 +38,7 @@ fn far_end(job: Job, pass: Pass, ea: Biased, table: &[u64; PLACES]) -> Biased
     if !pass.signs {
         return Biased(ea.0 + minus(pass.past.0 - 1, ea.0));
     }
-    let gap = job.setting.format.f + FAR_GAP;
+    let gap = far_gap(job);
     if ea.0 <= gap {
         return ea;
     }

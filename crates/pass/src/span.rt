@@ -4,7 +4,7 @@ use crate::pairs::Pass;
 use answers::PLACES;
 use answers::open::open_from;
 use bits::minus;
-use classes::FAR_GAP;
+use classes::far_gap;
 use job::Job;
 use mask::meets;
 use mask::next::met_from;
@@ -39,7 +39,7 @@ fn span_end(job: Job, pass: Pass, ea: Biased) -> Biased
     if ea.0 <= pass.first.0 {
         return pass.past;
     }
-    let far = ea.0 + (job.setting.format.f + FAR_GAP);
+    let far = ea.0 + far_gap(job);
     if far < ones {
         Biased(far)
     } else {
@@ -53,7 +53,7 @@ fn sum_from(job: Job, pass: Pass, larger: Biased) -> Biased
     requires { ⌜ Supported (job .setting .format) ⌝ }
     ensures { λ r. ⌜ (larger .0 ≤ r .0) × (Valid job → PassOf job pass → NoSum job larger r) ⌝ }
 {
-    if larger.0 <= job.setting.format.f + FAR_GAP {
+    if larger.0 <= far_gap(job) {
         return larger;
     }
     let near = near_from(job, pass, Biased(larger.0 - 1));
@@ -99,7 +99,7 @@ pub(crate) fn after(job: Job, pass: Pass, ea: Biased, eb: Biased) -> Biased
     if (ea.0 == ones) & (eb.0 < ones) {
         return Biased(ones);
     }
-    let past_far = minus(ea.0 + 1, job.setting.format.f + FAR_GAP);
+    let past_far = minus(ea.0 + 1, far_gap(job));
     if (ea.0 < ones) & (1 <= eb.0) & (eb.0 < past_far) {
         return Biased(past_far);
     }

@@ -3,7 +3,7 @@
 use mathlib.Core.Path.{_≡_, refl, sym, ap, ap₂, _∙_}
 use mathlib.Core.Logic.{_↔_}
 use mathlib.Core.Bool.{Bool, false, not}
-use Prim.Native.Nat.{ℕ, zero, suc, _*_, _^_, _≤_, _<_}
+use Prim.Native.Nat.{ℕ, zero, suc, _+_, _*_, _^_, _≤_, _<_}
 use native.Mathlib.Nat.{lt-of-lt-of-le}
 use native.Mathlib.Omega.{arith}
 use borrow.Author.Tests.{ltb-true, leb-true, lt-ltb, le-leb, not-true}
@@ -20,11 +20,13 @@ use Rattle.format.proofs.Room.{word-room}
 use Rattle.mask.specs.declared.Mask.{Mask}
 use Rattle.mask.specs.Mask.{WellFormed}
 use Rattle.mask.proofs.ByBits.{value-below}
+use Rattle.job.specs.declared.Dropped.{Dropped}
+use Rattle.job.specs.Dropped.{ValidDropped}
 use Rattle.job.specs.Job.{Request}
-use Rattle.job.proofs.Laws.{request-none}
+use Rattle.job.proofs.Laws.{request-none, normalised-request}
 use Rattle.layout.specs.Layout.{saysDefault}
-use Rattle.layout.specs.Fields.{wordBytes, fieldCount, layout, entryNumbers, fieldSizes, entryWord, entryMap}
-use Rattle.records.specs.Record.{recordCause, recordBytes, recordLength, numbersIn, entryIn, readCause, readReply, formatIn, firstWith, firstIn}
+use Rattle.layout.specs.Fields.{wordBytes, fieldCount, layout, fieldNumbers, normalisedEntry, entryNumbers, fieldSizes, entryWord, entryMap}
+use Rattle.records.specs.Record.{recordCause, recordBytes, recordLength, entryIn, readCause, readReply, formatIn, firstWith, firstIn}
 use Rattle.layout.specs.declared.Entry.{Entry}
 use Rattle.records.specs.declared.First.the-variants as found
 use Rattle.numbers.proofs.BySizes.{Fits, none, more, length-bytes}
@@ -46,9 +48,17 @@ mask-fits : (F : Format) → Supported F → (width : ℕ) (m : Mask) → width 
 mask-fits F h width m le w f =
     more (word-fits F h width (m .care) le (w .below)) (more (word-fits F h width (m .value) le (value-below width m w)) f)
 
-pub entry-fits : (e : Entry) → Request (e .job) (e .r1) (e .r2) → Fits (counts (layout (entryWord e))) (entryNumbers e)
+-- what is wanted of the dropped bits
+dropped-fits : (D : Dropped) → ValidDropped D → Fits (1 ∷ 2 ∷ 2 ∷ []) (D .g ∷ D .mask .care ∷ D .mask .value ∷ [])
+dropped-fits D v =
+    let most = pow-mono {i = D .g + 1} {j = 9} (omega (arith, v .g-most)) in
+    more {k = 1} {n = D .g} (omega (arith, v .g-most))
+    (more {k = 2} {n = D .mask .care} (omega (arith, v .mask .below, most))
+    (more {k = 2} {n = D .mask .value} (omega (arith, value-below (D .g + 1) (D .mask) (v .mask), most)) none))
+
+fields-fit : (e : Entry) → Request (e .job) (e .r1) (e .r2) → Fits (counts (layout (entryWord e))) (fieldNumbers e)
 unfolding layout
-entry-fits e v =
+fields-fit e v =
     let F : Format = e .job .setting .format in
     let h : Supported F = v .valid .setting .format in
     let W : ℕ = wordBits F in
@@ -57,7 +67,12 @@ entry-fits e v =
     (mask-fits F h W (e .job .c .mask) (omega arith) (v .valid .c .mask)
     (mask-fits F h (precision F) (e .job .carries) (omega arith) (v .valid .carries)
     (more {k = 1} {n = e .job .setting .mode} (omega (arith, v .valid .setting .mode))
-    (more (word-fits F h W (e .r1) (omega arith) (v .first-word)) (more (word-fits F h W (e .r2) (omega arith) (v .second-word)) none))))))
+    (more (word-fits F h W (e .r1) (omega arith) (v .first-word))
+    (more (word-fits F h W (e .r2) (omega arith) (v .second-word)) (dropped-fits (e .job .dropped) (v .valid .dropped))))))))
+
+pub entry-fits : (e : Entry) → Request (e .job) (e .r1) (e .r2) → Fits (counts (layout (entryWord e))) (entryNumbers e)
+unfolding entryNumbers
+entry-fits e v = fields-fit (normalisedEntry e) (normalised-request (e .job) (e .r1) (e .r2) v)
 
 -- in a record it has these bytes, or it is 0
 pub record-fits : (e : Entry) → recordCause e ≡ 0 → Fits (fieldSizes (entryWord e) (entryMap e)) (entryNumbers e)
@@ -67,7 +82,7 @@ record-fits e ok =
     let ps = layout (entryWord e) in
     fits-map (entryMap e) ps ns (entry-fits e (request-none (e .job) (e .r1) (e .r2) .0 ok)) (map-absent ps ns)
 
--- the length by the map is the record's length, 85 at most
+-- the length by the map is the record's length, 90 at most
 pub record-length : (e : Entry) → recordCause e ≡ 0 → recordLength (entryWord e) (entryMap e) ≡ length (recordBytes e)
 unfolding recordLength recordBytes
 record-length e ok = omega (arith, length-bytes (record-fits e ok))
@@ -84,7 +99,7 @@ first-assoc (suc k) m n = refl
 
 -- a cause other than a map with a bit above those of the fields or a record that is cut short
 abbrev pub lateCause : ℕ → List ℕ → ℕ
-lateCause word s = first (recordCause (entryIn word s)) (unless (not (saysDefault fieldCount (getD s 0 0) (layout word) (numbersIn word s))) cause.defaultField)
+lateCause word s = first (recordCause (entryIn word s)) (unless (not (saysDefault fieldCount (getD s 0 0) (layout word) (entryNumbers (entryIn word s)))) cause.defaultField)
 
 -- ---- what reading says, where so many map bits stand for fields and a word has so many bytes
 module _ (fields word : ℕ) where
@@ -93,13 +108,13 @@ module _ (fields word : ℕ) where
     pub map : getD s 0 0 < 2 ^ fields
     pub whole : recordLength word (getD s 0 0) ≤ length s
     pub sound : recordCause (entryIn word s) ≡ 0
-    pub no-default : saysDefault fieldCount (getD s 0 0) (layout word) (numbersIn word s) ≡ false
+    pub no-default : saysDefault fieldCount (getD s 0 0) (layout word) (entryNumbers (entryIn word s)) ≡ false
 
   pub read-none : (s : List ℕ) → (readCause fields word s ≡ 0) ↔ Readable s
   unfolding readCause
   read-none s =
       let m : ℕ = getD s 0 0 in
-      let d : Bool = saysDefault fieldCount m (layout word) (numbersIn word s) in
+      let d : Bool = saysDefault fieldCount m (layout word) (entryNumbers (entryIn word s)) in
       let n : ℕ = recordLength word m in
       let k : ℕ = recordCause (entryIn word s) in
       let itself : (k ≡ 0) ↔ (k ≡ 0) = ((λ e. e), λ e. e) in

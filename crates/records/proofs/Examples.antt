@@ -6,13 +6,14 @@ use Prim.Native.Nat.{ℕ}
 use Rattle.format.specs.Format.{formatCause, operationCause, modeCause, wordCause}
 use Rattle.mask.specs.declared.Mask.{Mask}
 use Rattle.mask.specs.Mask.{maskCause, masksCause}
+use Rattle.job.specs.Dropped.{droppedCause, freeDropped, normalised}
 use Rattle.job.specs.Job.{settingCause, jobCause, requestCause}
 use Rattle.numbers.specs.Number.{littleEndian}
 use Rattle.numbers.specs.Numbers.{numberBytes}
 use Rattle.layout.specs.Layout.{sizes, mapOf}
-use Rattle.layout.specs.Fields.{wordBytes, layout, entryMap}
+use Rattle.layout.specs.Fields.{wordBytes, layout, entryNumbers, entryMap}
 use Rattle.records.specs.Record.{recordBytes}
-use Rattle.records.specs.File.{fileBytes, Reads, Writable, none, more}
+use Rattle.records.specs.File.{fileBytes, normalisedEntries, Reads, Writable, none, more}
 use Rattle.layout.specs.declared.Entry.{Entry}
 use Rattle.records.proofs.Files.{file-read}
 
@@ -26,6 +27,7 @@ entry carries =
         b = record { mask = record { care = 0xef; value = 0x2b } };
         c = record { mask = record { care = 0xe6; value = 0x44 } };
         carries = carries;
+        dropped = freeDropped;
       };
       r1 = 0;
       r2 = 0;
@@ -41,13 +43,13 @@ file =
     ∷ 0x02 ∷ 0 ∷ 0 ∷ 0 ∷ 0x02 ∷ 0 ∷ 0 ∷ 0 ∷ []
 
 pub example-bytes : fileBytes jobs ≡ file
-unfolding fileBytes recordBytes wordBytes entryMap layout sizes mapOf numberBytes littleEndian
+unfolding fileBytes recordBytes wordBytes entryNumbers normalised entryMap layout sizes mapOf numberBytes littleEndian
 example-bytes = refl
 
 writable : Writable jobs
-unfolding requestCause jobCause settingCause masksCause formatCause operationCause modeCause wordCause maskCause
+unfolding requestCause jobCause settingCause masksCause droppedCause formatCause operationCause modeCause wordCause maskCause
 writable = more refl (more refl none)
 
 pub example-read : Reads file jobs
-unfolding fileBytes recordBytes wordBytes entryMap layout sizes mapOf numberBytes littleEndian
+unfolding fileBytes normalisedEntries recordBytes wordBytes entryNumbers normalised entryMap layout sizes mapOf numberBytes littleEndian
 example-read = file-read writable

@@ -13,6 +13,7 @@ use Rattle.format.proofs.Laws.{first-none, first-some}
 use Rattle.numbers.specs.Number.{bufferAfter}
 use Rattle.records.specs.Record.{recordCause, recordBytes, firstIn, rest, writeCause, writeReply, writing, written}
 use Rattle.layout.specs.declared.Entry.{Entry}
+use Rattle.layout.specs.Fields.{normalisedEntry}
 use Rattle.records.specs.declared.First.the-variants as found
 use Rattle.records.specs.declared.Writing.the-variants as reply
 use Rattle.records.proofs.RoundTrip.{read-written, rest-written}
@@ -42,19 +43,20 @@ module _ (e : Entry) (s : List ℕ) where
       let none : writeCause e (length s) ≡ 0 = rw (ok, le-leb (length (recordBytes e)) (length s) h) in
       (sym (ap (λ (j : ℕ). writeReply j (length (recordBytes e))) none), sym (ap (λ (j : ℕ). bufferAfter j (recordBytes e) s) none))
 
--- what a buffer holds after the reply n reads as the entry, and the bytes after the first n are the rest
+-- what a buffer holds after the reply n reads as the entry, its g taken as 0 where no dropped bit is fixed, and the bytes after the first n
+-- are the rest
 reply-written : (k n m : ℕ) → writeReply k n ≡ reply.Written m → (k ≡ 0) × (n ≡ m)
 reply-written zero n m q = (refl, cc)
 reply-written (suc k) n m q = absurd (let z : _≡_ {A = ℕ} 0 1 = cc in omega arith)
 
 pub read-after-write : (e : Entry) (s : List ℕ) (n : ℕ) → writing e s ≡ reply.Written n
-    → (firstIn (written e s) ≡ found.Job e n) × (rest (written e s) ≡ drop n s)
+    → (firstIn (written e s) ≡ found.Job (normalisedEntry e) n) × (rest (written e s) ≡ drop n s)
 unfolding writing written writeCause
 read-after-write e s n q =
     let t = reply-written (writeCause e (length s)) (length (recordBytes e)) n q in
     let ok : recordCause e ≡ 0 = first-none (recordCause e) (unless (leb (length (recordBytes e)) (length s)) cause.buffer) .0 (t .0) .0 in
     let tail : List ℕ = drop (length (recordBytes e)) s in
     let holds : written e s ≡ recordBytes e ++ tail = ap (λ (k : ℕ). bufferAfter k (recordBytes e) s) (t .0) in (
-      ap firstIn holds ∙ read-written e tail ok ∙ ap (found.Job e) (t .1),
+      ap firstIn holds ∙ read-written e tail ok ∙ ap (found.Job (normalisedEntry e)) (t .1),
       ap rest holds ∙ rest-written e tail ok ∙ ap (λ (k : ℕ). drop k s) (t .1),
     )

@@ -1,22 +1,27 @@
--- "Old job files that were accepted read as before" (document 02, W-202): a version that knows what another knows reads as the same entries
--- whatever that one accepts, record by record and file by file. What is read depends on the version only by the test for map bits and by the
--- byte count of a word, and both versions agree on these. Assumes nothing.
-use mathlib.Core.Path.{_≡_, sym, ap, _∙_, subst}
+-- "Old job files that were accepted read as before" (document 02, W-202, W-206): a version that knows what another knows reads as the same
+-- entries whatever that one accepts, record by record and file by file. What is read depends on the version only by the test for map bits
+-- and by the byte count of a word, and both versions agree on these. Assumes nothing.
+use mathlib.Core.Path.{_≡_, refl, sym, ap, _∙_, subst}
 use mathlib.Core.Logic.{_↔_}
 use Prim.Native.Nat.{ℕ, _≤_}
 use native.Mathlib.Nat.{lt-of-lt-of-le}
 use native.Mathlib.Omega.{arith}
 use mathlib.Core.List.{List}
+use lib.ListN.{getD}
 use lib.Pow.{pow-mono}
+use Rattle.bits.proofs.Laws.{bit-above}
 use Rattle.format.specs.declared.Format.{Format}
+use Rattle.job.specs.Dropped.{freeDropped}
 use Rattle.job.proofs.Laws.{request-none}
 use Rattle.layout.specs.declared.Entry.{Entry}
 use Rattle.layout.proofs.JobLayout.{narrow-bytes}
-use Rattle.records.specs.Version.{Version, Takes, Extends, current, base}
+use Rattle.layout.proofs.Entries.{dropped-absent}
+use Rattle.records.specs.Version.{Version, Takes, Extends, current, base, sixFields}
 use Rattle.records.specs.Record.{recordCause, formatIn, entryIn, firstBy, firstIn}
 use Rattle.records.specs.File.{Reads, end as no-byte, next as record-first, ReadsBy, end, next}
 use Rattle.records.specs.declared.First.the-variants as found
 use Rattle.records.proofs.Causes.{Taken, job-with, taken-job, first-job}
+use Rattle.records.proofs.RoundTrip.{fields-absent}
 
 -- more fields
 fields-more : {k l word : ℕ} {s : List ℕ} {e : Entry} {n : ℕ} → k ≤ l → Taken k word s e n → Taken l word s e n
@@ -87,3 +92,18 @@ base-extended =
 
 pub base-file-read : {s : List ℕ} {es : List Entry} → ReadsBy base s es → Reads s es
 base-file-read r = current-file .0 (file-as-before base-extended r)
+
+-- the job files before W-206
+six-extended : Extends sixFields current
+six-extended = record { fields = omega arith; widths = record { w-most = omega arith; f-most = omega arith }; words = λ F t. refl }
+
+pub six-file-read : {s : List ℕ} {es : List Entry} → ReadsBy sixFields s es → Reads s es
+six-file-read r = current-file .0 (file-as-before six-extended r)
+
+-- of what they accept nothing is wanted of the dropped bits
+pub before-free : (v : Version) → v .fields ≤ 6 → (s : List ℕ) (e : Entry) (n : ℕ) → firstBy v s ≡ found.Job e n → e .job .dropped ≡ freeDropped
+before-free v few s e n q =
+    let t = job-with (v .fields) (v .word (formatIn s)) s e n q in
+    let word = v .word (formatIn s) in
+    let low = bit-above 6 (lt-of-lt-of-le (t .readable .map) (pow-mono {i = v .fields} {j = 6} few)) in
+    ap (λ (d : Entry). d .job .dropped) (sym (t .entry)) ∙ dropped-absent (getD s 0 0) word (entryIn word s) (fields-absent word s) low

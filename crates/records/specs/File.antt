@@ -6,12 +6,18 @@ use lib.ListN.{drop}
 use Rattle.records.specs.Version.{Version, Takes}
 use Rattle.records.specs.Record.{recordBytes, recordCause, firstBy, firstIn}
 use Rattle.layout.specs.declared.Entry.{Entry}
+use Rattle.layout.specs.Fields.{normalisedEntry}
 use Rattle.records.specs.declared.First.the-variants as found
 
 -- the bytes of a file of these entries
 unfoldable pub fileBytes : List Entry → List ℕ
 fileBytes [] = []
 fileBytes (e ∷ es) = recordBytes e ++ fileBytes es
+
+-- the entries as they are written and read: W-206, g is taken as 0 where none of the dropped bits is fixed
+unfoldable pub normalisedEntries : List Entry → List Entry
+normalisedEntries [] = []
+normalisedEntries (e ∷ es) = normalisedEntry e ∷ normalisedEntries es
 
 -- a file that is accepted to its end, as these entries
 pub data Reads : List ℕ → List Entry → Type 0 where

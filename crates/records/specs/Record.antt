@@ -26,7 +26,7 @@ use Rattle.records.specs.declared.Writing.the-variants as reply
 abbrev pub headerBytes : ℕ
 headerBytes = 4
 
--- 1 to 6, with 14 to 16 after 5 (W-203): the cause against the job and its random words
+-- 1 to 6, with 14 to 16 (W-203) and 17 (W-206) after 5: the cause against the job and its random words
 abbrev pub recordCause : Entry → ℕ
 recordCause e = requestCause (e .job) (e .r1) (e .r2)
 
@@ -53,13 +53,14 @@ numbersIn word s = numbers (fieldSizes word (getD s 0 0)) (drop headerBytes s)
 unfoldable pub entryIn : ℕ → List ℕ → Entry
 entryIn word s = entryWith (formatIn s) (getD s 3 0) (numbersIn word s)
 
--- "Reading checks 9, 8, then 1 to 6, then 10", where so many map bits stand for fields and a word has so many bytes; a map with no bit above
--- the fields' bits is below 2 to their count
+-- "Reading checks 9, 8, then 1 to 6, then 10", where so many map bits stand for fields and a word has so many bytes; a map with no bit
+-- above the fields' bits is below 2 to their count. 10 is asked of the numbers as they would be written: W-206, "A mask with care 0 says
+-- its default", whatever its g
 unfoldable pub readCause : ℕ → ℕ → List ℕ → ℕ
 readCause fields word s =
     first (unless (ltb (getD s 0 0) (2 ^ fields)) cause.mapBits)
     (first (unless (leb (recordLength word (getD s 0 0)) (length s)) cause.cut)
-    (first (recordCause (entryIn word s)) (unless (not (saysDefault fieldCount (getD s 0 0) (layout word) (numbersIn word s))) cause.defaultField)))
+    (first (recordCause (entryIn word s)) (unless (not (saysDefault fieldCount (getD s 0 0) (layout word) (entryNumbers (entryIn word s)))) cause.defaultField)))
 
 -- a job where no cause stands, else the cause's number
 abbrev pub readReply : ℕ → Entry → ℕ → First

@@ -1,6 +1,6 @@
--- Versions of the job files (document 01, "Job files"; document 02, W-202): what a reader has to know beside the layout. A later version knows
--- the fields of an earlier one, so reading is one definition over the version, and "old job files that were accepted read as before" is a law
--- about two of them. Assumes nothing.
+-- Versions of the job files (document 01, "Job files"; document 02, W-202, W-206): what a reader has to know beside the layout. A later
+-- version knows the fields of an earlier one, so reading is one definition over the version, and "old job files that were accepted read as
+-- before" is a law about two of them. Assumes nothing.
 use Prim.Native.Nat.{ℕ, _≤_}
 use mathlib.Core.Path.{_≡_}
 use Rattle.format.specs.declared.Format.{Format}
@@ -26,6 +26,10 @@ current = record { fields = fieldCount; word = wordBytes; most = record { w = mo
 -- beside these numbers only the limit of the modes has moved since, upward
 abbrev pub base : Version
 base = record { fields = 6; word = λ F. 4; most = record { w = 8; f = 23 } }
+
+-- the files before W-206: no field for the dropped bits
+abbrev pub sixFields : Version
+sixFields = record { fields = 6; word = wordBytes; most = current .most }
 
 -- the later version knows what the earlier one knows: no fewer fields, no smaller widths, and words as long in the formats that that one takes
 pub record Extends (earlier later : Version) : Type 0 where

@@ -47,7 +47,7 @@ pub enum Writing {
     Refused(u64),
 }
 
-// The first of the causes 1 to 6, with 14 to 16 after 5, that stands against the entry, 0 for none.
+// The first of the causes 1 to 6, with 14 to 17 after 5, that stands against the entry, 0 for none.
 pub fn entry_cause(entry: Entry) -> u64
     ensures { λ r. ⌜ r ≡ recordCause entry ⌝ }
 {
@@ -160,7 +160,8 @@ fn put_record(buffer: &mut [u8], map: u64, entry: Entry)
     put_numbers(buffer, HEADER, &sizes, &numbers);
 }
 
-// Writes the entry's record to the front of the buffer. Of a field that says its default nothing is written.
+// Writes the entry's record to the front of the buffer. Of a field that says its default nothing is written, and of a g where none of the
+// dropped bits is fixed neither.
 pub fn write(entry: Entry, buffer: &mut [u8]) -> Writing
     ensures { λ r. ⌜ r ≡ writing entry (now (buffer .entry)) ⌝ }
     ensures { λ _. ⌜ now (buffer .exit) ≡ written entry (now (buffer .entry)) ⌝ }

@@ -1,4 +1,5 @@
 // Job records: document 01's example file read, written back and cut at every place, and each refusal of reading and of writing.
+mod dropped;
 mod reading;
 mod writing;
 
@@ -12,5 +13,9 @@ fn main() {
     writing::lengths();
     writing::refusals();
     writing::malformed_masks();
+    dropped::read();
+    dropped::order();
+    dropped::written();
+    dropped::back();
     reading::truncations();
 }

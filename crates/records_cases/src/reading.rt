@@ -32,7 +32,7 @@ pub(crate) fn show_same(same: bool) {
 }
 
 // What stands first, and whether the rest is the end of the bytes.
-fn show(s: &[u8]) {
+pub(crate) fn show(s: &[u8]) {
     show_first(records::read(s));
     let rest = records::rest(s);
     if rest.len() <= s.len() {
@@ -100,8 +100,8 @@ pub(crate) fn refusals() {
     // cut short, before w is looked at
     show(b"\x00");
     show(b"\x10\x00\x04\x00");
-    // map bits 6 and 7, before the length is looked at
-    show(b"\x40");
+    // map bit 7, before the length is looked at
+    show(b"\x80");
     show(b"\x80\x03\x04\x00");
     // fields that say their default: a mask, the mode, both random words; and one random word alone, which does not
     show(b"\x01\x03\x04\x00\x00\x00\x00\x00\x00\x00\x00\x00");

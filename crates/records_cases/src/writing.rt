@@ -55,7 +55,7 @@ fn put(entry: Entry, buffer: &mut [u8], room: usize) {
     }
 }
 
-fn show(entry: Entry, room: usize) {
+pub(crate) fn show(entry: Entry, room: usize) {
     let mut buffer = blank();
     put(entry, &mut buffer, room);
 }
@@ -71,7 +71,7 @@ fn compare(buffer: &[u8], s: &[u8], n: usize) {
 }
 
 // Reads a record and writes its entry: the bytes that were read.
-fn back(s: &[u8]) {
+pub(crate) fn back(s: &[u8]) {
     let first = records::read(s);
     let First::Job(entry, n) = first else {
         return;
@@ -112,16 +112,30 @@ fn free() -> Mask {
     fixed(0, 0)
 }
 
+// An entry with every field but that of the dropped bits, and one with none, but perhaps the care of the carries and a random word.
+pub(crate) fn longest(w: u64, f: u64) -> Entry {
+    entry(
+        sized(w, f),
+        1,
+        3,
+        fixed(0xe6, 0x44),
+        fixed(0x1f, 0x15),
+        0xff,
+    )
+}
+
+pub(crate) fn shortest(carries: u64, r1: u64) -> Entry {
+    entry(sized(3, 4), 0, 0, free(), fixed(carries, 0), r1)
+}
+
 // The longest record of either word size, in a buffer that is long enough and in one that is a byte short; the shortest alike.
 pub(crate) fn lengths() {
-    let mask = fixed(0xe6, 0x44);
-    let carries = fixed(0x1f, 0x15);
-    show(entry(sized(3, 4), 1, 3, mask, carries, 0xff), 45);
-    show(entry(sized(3, 4), 1, 3, mask, carries, 0xff), 44);
-    show(entry(sized(11, 52), 1, 3, mask, carries, 0xff), 85);
-    show(entry(sized(11, 52), 1, 3, mask, carries, 0xff), 84);
-    show(entry(sized(3, 4), 0, 0, free(), free(), 0), 4);
-    show(entry(sized(3, 4), 0, 0, free(), free(), 0), 3);
+    show(longest(3, 4), 45);
+    show(longest(3, 4), 44);
+    show(longest(11, 52), 85);
+    show(longest(11, 52), 84);
+    show(shortest(0, 0), 4);
+    show(shortest(0, 0), 3);
 }
 
 // One entry for each of the refusals 1 to 6 and for 16, half of them with no room at all, since 11 comes last.

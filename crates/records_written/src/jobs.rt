@@ -1,5 +1,6 @@
 // Pseudo-random jobs by a congruential generator. Every state gives an entry and a room; no state's numbers are told by those of another.
 use format::Format;
+use job::Dropped;
 use job::Job;
 use job::Setting;
 use job::words::masked_job;
@@ -14,14 +15,14 @@ fn next(state: u64) -> u64 {
     state % MODULUS * 48271 % MODULUS
 }
 
-// The state after the two that a mask or two words are made of.
+// The state after the two that a mask, two words, or g and its mask are made of.
 fn skipped(state: u64) -> u64 {
     next(next(state))
 }
 
 // The state of the next job.
 pub fn following(state: u64) -> u64 {
-    next(skipped(skipped(skipped(skipped(skipped(state))))))
+    skipped(skipped(skipped(skipped(skipped(skipped(next(state)))))))
 }
 
 // A word of 64 bits, 16 from each of four other multipliers.
@@ -59,6 +60,15 @@ fn random(width: u64, state: u64) -> u64 {
     }
 }
 
+// A g up to 8, or in one of 37 cases 9, and a mask on its bits. Of these masks one in three fixes nothing, so some jobs state a g alone.
+fn dropped(state: u64) -> Dropped {
+    let g = state / 48 % 37 / 4;
+    Dropped {
+        g,
+        mask: mask(g + 1, state),
+    }
+}
+
 fn job(format: Format, operation: u64, mode: u64, a: Mask, b: Mask, c: Mask, carries: Mask) -> Job {
     let setting = Setting {
         format,
@@ -78,7 +88,8 @@ pub fn entry(state: u64) -> Entry {
     let third = skipped(second);
     let fourth = skipped(third);
     let words = skipped(fourth);
-    let job = job(
+    let below = skipped(words);
+    let mut job = job(
         Format { w, f },
         state / 510 % 2,
         state / 1020 % 5,
@@ -87,6 +98,7 @@ pub fn entry(state: u64) -> Entry {
         mask(width, third),
         mask(f + 1, fourth),
     );
+    job.dropped = dropped(below);
     Entry {
         job,
         r1: random(width, words),
@@ -94,11 +106,11 @@ pub fn entry(state: u64) -> Entry {
     }
 }
 
-// The room for a state's record: the longest there is, or in one of four cases any.
+// The room for a state's record: the whole buffer, or in one of four cases any part of it.
 pub fn room(state: u64) -> usize {
     if state / 5100 % 4 == 0 {
-        (state / 20400 % 89) as usize
+        (state / 20400 % 93) as usize
     } else {
-        88
+        92
     }
 }

@@ -1,6 +1,6 @@
 -- Two operands l and r, r's unit not above l's. With q bits below l's last one, the last of them sticky, l's significand and r's aligned to
--- it hold the exact sum, and the exact difference where r is not the larger; this for any q. With the guard bits they hold enough of it to
--- round. Assumes nothing.
+-- it hold the exact sum, and the exact difference where r is not the larger; this for any q. With q above G they hold enough of a sum to tell
+-- G bits apart below the last kept one, and with q above G + 1 of a difference. Assumes nothing.
 use mathlib.Core.Path.{_≡_, refl, sym, ap, ap₂, _∙_, subst}
 use mathlib.Core.Logic.{_⊎_, inl, inr, _↔_}
 use Prim.Native.Nat.{ℕ, zero, suc, _+_, _-_, _*_, _/_, _%_, _^_, _≤_, _<_}
@@ -12,10 +12,11 @@ use lib.Dec.{eqb}
 use lib.Pow.{pow-pos, pow-mono, pow-add, add-lt-pow, shr-le}
 use Rattle.format.specs.declared.Format.{Format}
 use Rattle.format.specs.Format.{precision}
-use Rattle.rounding.specs.Sticky.{sticky, withSticky, guardedAt, headAt, tailAt, guarded, Held}
-use Rattle.rounding.specs.Width.{guardBits, alignedBits, smallBits, sumBits}
+use Rattle.rounding.specs.Dropped.{sticky, withSticky}
+use Rattle.rounding.specs.Sticky.{guardedAt, headAt, tailAt, Held}
+use Rattle.rounding.specs.Width.{alignedBits, sumBits, longBits}
 use Rattle.bits.proofs.Division.{mod-scale, mul-sub-right}
-use Rattle.rounding.proofs.Widths.{guards, aligned-width, sum-width}
+use Rattle.rounding.proofs.Widths.{aligned-width, sum-width}
 use Rattle.rounding.proofs.Sticky.{above-sticky, equal-sticky, with-sticky-scale, with-sticky-add, with-sticky-sub, with-sticky-none, with-sticky-bounds}
 
 -- above a number of units, or not: with the sticky bit too; and equal to it exactly when equal
@@ -148,43 +149,51 @@ module _ (q : ℕ) (some : 0 < q) where
               mul-comm (2 ^ (q - 1)) R ∙ ap (λ (n : ℕ). R * 2 ^ n) (sym back) ∙ ap (λ (n : ℕ). R * n) (pow-add 2 (q - 1 - d) d)
               ∙ sym (mul-assoc R (2 ^ (q - 1 - d)) (2 ^ d))
 
--- ---- with the guard bits, two canonical operands: l is normal but in the least unit
-module _ (F : Format) (L R u v d : ℕ) (units : d + v ≡ u) (hL : L < 2 ^ precision F) (hR : R < 2 ^ precision F) (normal : 0 < u → 2 ^ F .f ≤ L) where
-  head-lt : headAt guardBits L < 2 ^ alignedBits (F .f)
-  head-lt = subst (λ (k : ℕ). headAt guardBits L < 2 ^ k) (aligned-width F) (head-short guardBits guards (precision F) L hL)
+-- ---- two canonical operands, of which l is normal but in the least unit, with G bits to be told apart
+module _ (F : Format) (q G : ℕ) (some : G < q) (L R u v d : ℕ) (units : d + v ≡ u) (hL : L < 2 ^ precision F) (hR : R < 2 ^ precision F) (normal : 0 < u → 2 ^ F .f ≤ L) where
+  pos : 0 < q
+  pos = omega arith
 
-  tail-lt : tailAt guardBits R d < 2 ^ alignedBits (F .f)
-  tail-lt = subst (λ (k : ℕ). tailAt guardBits R d < 2 ^ k) (aligned-width F) (tail-short guardBits guards (precision F) R hR d)
+  head-lt : headAt q L < 2 ^ alignedBits q (F .f)
+  head-lt = subst (λ (k : ℕ). headAt q L < 2 ^ k) (aligned-width q F) (head-short q pos (precision F) L hL)
 
-  pub sum-lt : headAt guardBits L + tailAt guardBits R d < 2 ^ sumBits (F .f)
-  sum-lt = subst (λ (k : ℕ). headAt guardBits L + tailAt guardBits R d < 2 ^ k) (sum-width (F .f)) (add-lt-pow (alignedBits (F .f)) head-lt tail-lt)
+  tail-lt : tailAt q R d < 2 ^ alignedBits q (F .f)
+  tail-lt = subst (λ (k : ℕ). tailAt q R d < 2 ^ k) (aligned-width q F) (tail-short q pos (precision F) R hR d)
 
-  pub sum-held : Held F (L * 2 ^ u + R * 2 ^ v) (headAt guardBits L + tailAt guardBits R d) u
-  sum-held = record { stands = sym (sum-stands guardBits guards L R u v d units); exact-or-long = go u refl }
+  pub sum-lt : headAt q L + tailAt q R d < 2 ^ sumBits q (F .f)
+  sum-lt = subst (λ (k : ℕ). headAt q L + tailAt q R d < 2 ^ k) (sum-width q (F .f)) (add-lt-pow (alignedBits q (F .f)) head-lt tail-lt)
+
+  -- l's top bit stands above all bits of a long number
+  head-long : 0 < u → 2 ^ (F .f + q) ≤ headAt q L
+  head-long p = rw (pow-add 2 (F .f) q) (omega (arith, mul-le-mul-left (2 ^ q) (normal p)))
+
+  pub sum-held : Held F q G (L * 2 ^ u + R * 2 ^ v) (headAt q L + tailAt q R d) u
+  sum-held = record { stands = sym (sum-stands q pos L R u v d units); exact-or-long = go u refl }
     where
-      go : (n : ℕ) → u ≡ n → (guarded (L * 2 ^ u + R * 2 ^ v) % 2 ^ u ≡ 0) ⊎ (2 ^ smallBits (F .f) ≤ headAt guardBits L + tailAt guardBits R d)
-      go zero e = inl (ap (λ (n : ℕ). guarded (L * 2 ^ u + R * 2 ^ v) % 2 ^ n) e ∙ mod-one (guarded (L * 2 ^ u + R * 2 ^ v)))
-      go (suc n) e =
-          let p = pow-add 2 (F .f) (guardBits - 1) in
-          let h = normal (omega arith) in
-          inr (omega arith)
+      go : (n : ℕ) → u ≡ n → (guardedAt q (L * 2 ^ u + R * 2 ^ v) % 2 ^ u ≡ 0) ⊎ (2 ^ longBits G (F .f) ≤ headAt q L + tailAt q R d)
+      go zero e = inl (ap (λ (n : ℕ). guardedAt q (L * 2 ^ u + R * 2 ^ v) % 2 ^ n) e ∙ mod-one (guardedAt q (L * 2 ^ u + R * 2 ^ v)))
+      go (suc n) e = inr (omega (arith, head-long (omega arith), pow-mono {i = longBits G (F .f)} {j = F .f + q} (omega arith)))
 
-  -- r being not the larger
-  module _ (le : R * 2 ^ v ≤ L * 2 ^ u) where
-    -- a gap of as many places as there are guard bits leaves the difference long
-    far-long : guardBits ≤ d → 2 ^ smallBits (F .f) ≤ headAt guardBits L - tailAt guardBits R d
+  -- r being not the larger, with a bit more
+  module _ (more : G + 1 < q) (le : R * 2 ^ v ≤ L * 2 ^ u) where
+    -- a gap of as many places as there are bits below leaves the difference long
+    far-long : q ≤ d → 2 ^ longBits G (F .f) ≤ headAt q L - tailAt q R d
     far-long h =
-        let n = normal (omega arith) in
-        let p = pow-add 2 (F .f) 1 in
-        let q = pow-add 2 (F .f) (guardBits - 1) in
-        let m = mul-le-mul-left (2 ^ F .f) (pow-mono {i = guardBits} {j = d} h) in
-        let z = div-lt-iff-lt-mul {k = 2 ^ d} {x = guarded R} {y = 2 ^ F .f} (pow-pos d) .1 (omega arith) in
-        let b = with-sticky-bounds (guarded R) d in
+        let n = head-long (omega arith) in
+        let r = mul-le-mul-left (2 ^ (q - 1)) hR in
+        let m = pow-mono {i = q + F .f} {j = F .f + d} (omega arith) in
+        let e : 2 ^ (q - 1) * 2 ^ precision F ≡ 2 ^ (q + F .f) = sym (pow-add 2 (q - 1) (precision F)) ∙ ap (λ (k : ℕ). 2 ^ k) (omega arith) in
+        let z = div-lt-iff-lt-mul {k = 2 ^ d} {x = guardedAt q R} {y = 2 ^ F .f} (pow-pos d) .1 (omega (arith, pow-add 2 (F .f) d, pow-pos (q - 1))) in
+        let b = with-sticky-bounds (guardedAt q R) d in
+        let two = pow-add 2 (F .f) 1 in
+        let half : 2 ^ (F .f + q) ≡ 2 * 2 ^ (F .f + (q - 1)) = ap (λ (k : ℕ). 2 ^ k) (omega arith) ∙ pow-suc 2 (F .f + (q - 1)) ∙ omega arith in
+        let low = pow-mono {i = F .f + 1} {j = F .f + (q - 1)} (omega arith) in
+        let long = pow-mono {i = longBits G (F .f)} {j = F .f + (q - 1)} (omega arith) in
         omega arith
 
-    pub difference-held : Held F (L * 2 ^ u - R * 2 ^ v) (headAt guardBits L - tailAt guardBits R d) u
-    difference-held = record { stands = sym (difference-stands guardBits guards L R u v d units le); exact-or-long = go (decLt d guardBits) }
+    pub difference-held : Held F q G (L * 2 ^ u - R * 2 ^ v) (headAt q L - tailAt q R d) u
+    difference-held = record { stands = sym (difference-stands q pos L R u v d units le); exact-or-long = go (decLt d q) }
       where
-        go : Dec (d < guardBits) → (guarded (L * 2 ^ u - R * 2 ^ v) % 2 ^ u ≡ 0) ⊎ (2 ^ smallBits (F .f) ≤ headAt guardBits L - tailAt guardBits R d)
-        go (yes h) = inl (near-exact guardBits guards L R u v d units le h)
+        go : Dec (d < q) → (guardedAt q (L * 2 ^ u - R * 2 ^ v) % 2 ^ u ≡ 0) ⊎ (2 ^ longBits G (F .f) ≤ headAt q L - tailAt q R d)
+        go (yes h) = inl (near-exact q pos L R u v d units le h)
         go (no h) = inr (far-long (omega arith))

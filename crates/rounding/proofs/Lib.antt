@@ -8,3 +8,4 @@ pub mod Rounded
 pub mod Align
 pub mod RoundedFields
 pub mod Outcome
+pub mod Dropped

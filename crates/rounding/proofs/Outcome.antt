@@ -16,26 +16,27 @@ use Rattle.rounding.specs.Rounding.{direction, dropped, roundOff, magnit
 use Rattle.rounding.specs.Sticky.{Held, keptPart}
 use Rattle.rounding.specs.Width.{sumBits}
 use Rattle.rounding.specs.Outcome.{roundedUnit, heldWord, boundedHeld, outcome}
-use Rattle.rounding.proofs.Held.{held-size, held-part, held-zero, held-pos}
+use Rattle.rounding.proofs.Held.{Guards, held-size, held-part, held-zero, held-pos}
 use Rattle.rounding.proofs.Rounded.{rounded-zero}
 
 -- a magnitude and the number that holds it round to the same word
-bounded-held : (F : Format) (d : Direction) (X x : ℕ) (u : exponent.Unit) → 0 < X → Held F X x (u .0) → x < 2 ^ sumBits (F .f) → boundedWord F d X ≡ boundedHeld F d x u
+bounded-held : (F : Format) (q G : ℕ) → Guards q G → (d : Direction) (X x : ℕ) (u : exponent.Unit) → 0 < X → Held F q G X x (u .0) → x < 2 ^ sumBits q (F .f)
+    → boundedWord F d X ≡ boundedHeld q F d x u
 unfolding boundedWord boundedHeld magnitudeWord
-bounded-held F d X x u pos held below = ap (λ (n : ℕ). cond (ltb n (infinityWord F)) n (overflowWord F d)) word
+bounded-held F q G guards d X x u pos held below = ap (λ (n : ℕ). cond (ltb n (infinityWord F)) n (overflowWord F d)) word
   where
-    drop : dropped F X ≡ roundedUnit (F .f) (size x) u .0
-    drop = omega (arith, held-size F X x (u .0) pos held)
+    drop : dropped F X ≡ roundedUnit q (F .f) (size x) u .0
+    drop = omega (arith, held-size F q G X x (u .0) guards pos held)
 
-    word : dropped F X * 2 ^ F .f + roundOff d X (dropped F X) ≡ heldWord F d x u
-    word = ap₂ _+_ (ap (λ (n : ℕ). n * 2 ^ F .f) drop) (sym (held-part F X x (u .0) pos held d below) ∙ ap (keptPart d x (u .0)) drop)
+    word : dropped F X * 2 ^ F .f + roundOff d X (dropped F X) ≡ heldWord q F d x u
+    word = ap₂ _+_ (ap (λ (n : ℕ). n * 2 ^ F .f) drop) (sym (held-part F q G X x (u .0) guards pos held d below) ∙ ap (keptPart q d x (u .0)) drop)
 
 -- and to the outcome that x holds
-pub outcome-held : (F : Format) → Supported F → (mode s X x : ℕ) (u : exponent.Unit) (like : Bool) → Held F X x (u .0) → x < 2 ^ sumBits (F .f) → (like ≡ true) ⊎ (x ≡ 0 → ⊥)
-    → rounded F mode s X ≡ outcome F mode like s u x
+pub outcome-held : (F : Format) → Supported F → (q G : ℕ) → Guards q G → (mode s X x : ℕ) (u : exponent.Unit) (like : Bool) → Held F q G X x (u .0)
+    → x < 2 ^ sumBits q (F .f) → (like ≡ true) ⊎ (x ≡ 0 → ⊥) → rounded F mode s X ≡ outcome q F mode like s u x
 unfolding outcome
-outcome-held F ok mode s X zero u true held below t =
-    ap (rounded F mode s) (held-zero F X (u .0) held) ∙ rounded-zero F ok mode s
-outcome-held F ok mode s X zero u false held below t = absurd (mathlib.Core.Logic.⊎-elim (λ e. mathlib.Core.Bool.false≢true e) (λ ne. ne refl) t)
-outcome-held F ok mode s X (suc x) u like held below t =
-    ap (signed F s) (bounded-held F (direction mode s) X (suc x) u (held-pos F X (suc x) (u .0) held (suc-ne-zero x)) held below)
+outcome-held F ok q G guards mode s X zero u true held below t =
+    ap (rounded F mode s) (held-zero F q G X (u .0) held) ∙ rounded-zero F ok mode s
+outcome-held F ok q G guards mode s X zero u false held below t = absurd (mathlib.Core.Logic.⊎-elim (λ e. mathlib.Core.Bool.false≢true e) (λ ne. ne refl) t)
+outcome-held F ok q G guards mode s X (suc x) u like held below t =
+    ap (signed F s) (bounded-held F q G guards (direction mode s) X (suc x) u (held-pos F q G X (suc x) (u .0) held (suc-ne-zero x)) held below)

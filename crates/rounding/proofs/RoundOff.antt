@@ -3,18 +3,17 @@
 use mathlib.Core.Path.{_≡_, refl, sym, ap, ap₂, _∙_}
 use mathlib.Core.Bool.{Bool, true, false, cond}
 use Prim.Native.Nat.{ℕ, suc, _+_, _*_, _/_, _%_, _^_, _≤_, _<_}
-use native.Mathlib.Nat.{mod-lt, mul-assoc, mul-comm, zero-mul, pow-suc, mod-one, div-one, add-zero, zero-add, div-lt-iff-lt-mul}
+use native.Mathlib.Nat.{add-comm, mod-lt, mul-assoc, mul-comm, zero-mul, pow-suc, mod-one, div-one, add-zero, zero-add, div-lt-iff-lt-mul}
 use native.Mathlib.Decide.{ℕ-discrete}
 use native.Mathlib.Omega.{arith}
 use lib.Dec.{ltb, eqb, lit<}
-use lib.Arith.{digits-div, digits-mod}
-use lib.Pow.{pow-pos, pow-add, split, shr-le, shr-shr, mod-pow-add}
+use lib.Pow.{pow-pos, pow-add, split, shr-le, mod-pow-add}
 use Rattle.rounding.specs.declared.Direction.{Direction}
 use Rattle.rounding.specs.declared.Direction.the-variants.{NearestEven, NearestAway, TowardZero, Away}
 use Rattle.rounding.specs.Rounding.{toNearest, increment, roundOff}
-use Rattle.rounding.specs.Sticky.{sticky, withSticky}
+use Rattle.rounding.specs.Dropped.{sticky, withSticky}
 use Rattle.bits.proofs.Division.{div-scale, mod-scale, ltb-scale, eqb-scale}
-use Rattle.rounding.proofs.Sticky.{sticky-lt, above-sticky, equal-sticky}
+use Rattle.rounding.proofs.Sticky.{above-sticky, equal-sticky, with-sticky-above, with-sticky-below}
 
 cond-le : {b y z : ℕ} (t : Bool) → z ≤ b → y ≤ b → cond t y z ≤ b
 cond-le true hz hy = hy
@@ -119,32 +118,14 @@ round-off-sticky d Z u j =
     ∙ ap (λ (n : ℕ). Z / 2 ^ (suc j + u) + n) (increment-sticky d (Z / 2 ^ (suc j + u)) h (Z % 2 ^ u) j u (mod-lt Z (pow-pos u)))
     ∙ ap (λ (r : ℕ). Z / 2 ^ (suc j + u) + increment d (Z / 2 ^ (suc j + u)) r (2 ^ (suc j + u))) (sym (mod-pow-add Z (suc j) u))
   where
-    x : ℕ
-    x = Z / 2 ^ u * 2 + sticky (Z % 2 ^ u)
-
     h : ℕ
     h = Z / 2 ^ u % 2 ^ suc j
-
-    upper : x / 2 ≡ Z / 2 ^ u
-    upper = digits-div (Z / 2 ^ u) (sticky-lt (Z % 2 ^ u))
-
-    lower : x % 2 ≡ sticky (Z % 2 ^ u)
-    lower = digits-mod (Z / 2 ^ u) (sticky-lt (Z % 2 ^ u))
 
     up : j + 2 ≡ suc j + 1
     up = omega arith
 
-    across : u + suc j ≡ suc j + u
-    across = omega arith
+    kept : withSticky Z u / 2 ^ (j + 2) ≡ Z / 2 ^ (suc j + u)
+    kept = ap (λ (m : ℕ). withSticky Z u / 2 ^ m) up ∙ with-sticky-above Z u (suc j) ∙ ap (λ (m : ℕ). Z / 2 ^ m) (add-comm u (suc j))
 
-    down : suc j + 1 ≡ 1 + suc j
-    down = omega arith
-
-    kept : x / 2 ^ (j + 2) ≡ Z / 2 ^ (suc j + u)
-    kept =
-        ap (λ (m : ℕ). x / 2 ^ m) (up ∙ down) ∙ sym (shr-shr x 1 (suc j)) ∙ ap (λ (m : ℕ). m / 2 ^ suc j) upper ∙ shr-shr Z u (suc j)
-        ∙ ap (λ (m : ℕ). Z / 2 ^ m) across
-
-    rest : x % 2 ^ (j + 2) ≡ h * 2 + sticky (Z % 2 ^ u)
-    rest =
-        ap (λ (m : ℕ). x % 2 ^ m) up ∙ mod-pow-add x (suc j) 1 ∙ ap₂ (λ (m n : ℕ). m % 2 ^ suc j * 2 + n) upper lower
+    rest : withSticky Z u % 2 ^ (j + 2) ≡ h * 2 + sticky (Z % 2 ^ u)
+    rest = ap (λ (m : ℕ). withSticky Z u % 2 ^ m) up ∙ with-sticky-below Z u (suc j)

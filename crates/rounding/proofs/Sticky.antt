@@ -3,14 +3,14 @@
 use mathlib.Core.Path.{_≡_, sym, ap, ap₂, _∙_}
 use mathlib.Core.Bool.{Bool, cond}
 use Prim.Native.Nat.{ℕ, suc, _+_, _-_, _*_, _/_, _%_, _^_, _≤_, _<_}
-use native.Mathlib.Nat.{mod-lt, mod-one, div-one, mul-le-mul-right, suc-mul, add-mul, zero-mul, mul-add-div-right, mul-add-mod-self-right, div-add-mod', mul-right-comm}
+use native.Mathlib.Nat.{add-comm, mod-lt, mod-one, div-one, mul-le-mul-right, suc-mul, add-mul, zero-mul, mul-add-div-right, mul-add-mod-self-right, div-add-mod', mul-right-comm}
 use native.Mathlib.Decide.{decLt, ℕ-discrete}
 use native.Mathlib.Omega.{arith}
 use borrow.Author.Tests.{lt-ltb, le-ltb, eq-eqb, ne-eqb}
 use lib.Arith.{digits-div, digits-mod}
 use lib.Dec.{ltb, eqb}
-use lib.Pow.{pow-pos}
-use Rattle.rounding.specs.Sticky.{sticky, withSticky}
+use lib.Pow.{pow-pos, shr-shr, mod-pow-add}
+use Rattle.rounding.specs.Dropped.{sticky, withSticky}
 use Rattle.bits.proofs.Division.{div-scale, mod-scale, eqb-scale, mul-sub-right}
 
 pub sticky-zero : {s : ℕ} → s ≡ 0 → sticky s ≡ 0
@@ -83,6 +83,24 @@ halved l r s h = go (decLt l (r + s))
     go : Dec (l < r + s) → ltb (2 * l) (2 * r + s) ≡ ltb l (r + s)
     go (yes t) = lt-ltb (2 * l) (2 * r + s) (omega arith) ∙ sym (lt-ltb l (r + s) t)
     go (no t) = le-ltb (2 * l) (2 * r + s) (omega arith) ∙ sym (le-ltb l (r + s) (omega arith))
+
+-- ---- what lies above and below i bits over the sticky bit
+module _ (Z u i : ℕ) where
+  half : withSticky Z u / 2 ≡ Z / 2 ^ u
+  unfolding withSticky
+  half = digits-div (Z / 2 ^ u) (sticky-lt (Z % 2 ^ u))
+
+  last : withSticky Z u % 2 ≡ sticky (Z % 2 ^ u)
+  unfolding withSticky
+  last = digits-mod (Z / 2 ^ u) (sticky-lt (Z % 2 ^ u))
+
+  pub with-sticky-above : withSticky Z u / 2 ^ (i + 1) ≡ Z / 2 ^ (u + i)
+  with-sticky-above =
+      ap (λ (m : ℕ). withSticky Z u / 2 ^ m) (add-comm i 1) ∙ sym (shr-shr (withSticky Z u) 1 i) ∙ ap (λ (m : ℕ). m / 2 ^ i) half
+      ∙ shr-shr Z u i
+
+  pub with-sticky-below : withSticky Z u % 2 ^ (i + 1) ≡ Z / 2 ^ u % 2 ^ i * 2 + sticky (Z % 2 ^ u)
+  with-sticky-below = mod-pow-add (withSticky Z u) i 1 ∙ ap₂ (λ (m n : ℕ). m % 2 ^ i * 2 + n) half last
 
 -- ---- sums and differences with a number of units
 

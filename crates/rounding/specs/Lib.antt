@@ -1,4 +1,5 @@
 pub mod Rounding
+pub mod Dropped
 pub mod Width
 pub mod Sticky
 pub mod Outcome

@@ -3,21 +3,14 @@
 use mathlib.Core.Bool.{cond}
 use mathlib.Core.Logic.{_⊎_}
 use mathlib.Core.Path.{_≡_}
-use Prim.Native.Nat.{ℕ, _+_, _-_, _*_, _/_, _%_, _^_, _≤_, _<_}
-use lib.Dec.{eqb, ltb}
+use Prim.Native.Nat.{ℕ, _-_, _*_, _%_, _^_, _≤_, _<_}
+use lib.Dec.{ltb}
 use Rattle.format.specs.declared.Format.{Format}
 use Rattle.format.specs.Format.{Supported}
 use Rattle.rounding.specs.declared.Direction as way
 use Rattle.rounding.specs.Rounding.{roundOff}
-use Rattle.rounding.specs.Width.{guardBits, smallBits, sumBits, mostRounded}
-
--- 0 for 0, else 1: the sticky bit of what is dropped
-abbrev pub sticky : ℕ → ℕ
-sticky ρ = cond (eqb ρ 0) 0 1
-
--- Z without its low u bits, and then the sticky bit of these
-unfoldable pub withSticky : ℕ → ℕ → ℕ
-withSticky Z u = Z / 2 ^ u * 2 + sticky (Z % 2 ^ u)
+use Rattle.rounding.specs.Dropped.{withSticky}
+use Rattle.rounding.specs.Width.{guardBits, sumBits, mostRounded, longBits}
 
 -- a significand with q - 1 bits below it: all of q but the sticky bit's
 abbrev pub guardedAt : ℕ → ℕ → ℕ
@@ -31,24 +24,20 @@ headAt q m = 2 ^ q * m
 abbrev pub tailAt : ℕ → ℕ → ℕ → ℕ
 tailAt q m d = withSticky (guardedAt q m) d
 
--- a significand with room for the guard and the round bit
-abbrev pub guarded : ℕ → ℕ
-guarded m = guardedAt guardBits m
-
--- x stands for the magnitude X: X in units of 2^u steps, and the guard bits of a result with the larger operand's exponent. Either
--- nothing was dropped, or x has as many bits as p and the guard and the round bit make.
-pub record Held (F : Format) (X x u : ℕ) : Type 0 where
-  pub stands : x ≡ withSticky (guarded X) u
-  pub exact-or-long : (guarded X % 2 ^ u ≡ 0) ⊎ (2 ^ smallBits (F .f) ≤ x)
+-- x stands for the magnitude X: X in units of 2^u steps, with q bits of it below, the lowest of them sticky. Either nothing was dropped, or
+-- x has digits enough to tell G bits apart below the last one that rounding keeps.
+pub record Held (F : Format) (q G X x u : ℕ) : Type 0 where
+  pub stands : x ≡ withSticky (guardedAt q X) u
+  pub exact-or-long : (guardedAt q X % 2 ^ u ≡ 0) ⊎ (2 ^ longBits G (F .f) ≤ x)
 
 -- a supported format, a sign bit, a unit whose exponent has w bits at most, and a number as long as a sum of two aligned significands
 pub record Roundable (F : Format) (s x u : ℕ) : Type 0 where
   pub supported : Supported F
   pub sign-lt : s < 2
   pub unit-lt : u < 2 ^ F .w
-  pub held-lt : x < 2 ^ sumBits (F .f)
+  pub held-lt : x < 2 ^ sumBits guardBits (F .f)
 
--- x rounded off for k dropped bits: where u is below k the sum carried, and a bit more than the guard bits stands below the last kept one;
--- if not, the guard bits do after a shift
-unfoldable pub keptPart : way.Direction → ℕ → ℕ → ℕ → ℕ
-keptPart d x u k = cond (ltb u k) (roundOff d x mostRounded) (roundOff d (x * 2 ^ (u - k)) guardBits)
+-- x rounded off for k dropped bits: where u is below k the sum carried, and a bit more than q stands below the last kept one; if not, q bits
+-- do after a shift
+unfoldable pub keptPart : ℕ → way.Direction → ℕ → ℕ → ℕ → ℕ
+keptPart q d x u k = cond (ltb u k) (roundOff d x (mostRounded q)) (roundOff d (x * 2 ^ (u - k)) q)

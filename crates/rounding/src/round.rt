@@ -22,7 +22,7 @@ ghost use Prim.Native.Nat.{ℕ, _+_, _-_, _*_, _^_, _≤_, _<_};
 ghost use lib.Ieee.{size};
 ghost use Rattle.format.specs.Format.{Supported};
 ghost use Rattle.rounding.specs.Rounding.{roundOff, magnitudeWord, overflowWord, rounded};
-ghost use Rattle.rounding.specs.Width.{alignedBits, sumBits};
+ghost use Rattle.rounding.specs.Width.{guardBits, alignedBits, sumBits};
 ghost use Rattle.rounding.specs.Sticky.{Held, Roundable, keptPart};
 
 // x with its low k bits rounded off.
@@ -44,7 +44,7 @@ fn size(x: u64) -> u64
 // How many bits of the magnitude that x stands for are dropped: x has the guard bits below the unit of 2^u steps.
 fn dropped(format: Format, x: u64, u: Unit) -> u64
     requires { ⌜ Supported format × (u .0 < 2 ^ format .w) ⌝ }
-    ensures { λ r. ⌜ r ≡ size x + u .0 - alignedBits (format .f) ⌝ }
+    ensures { λ r. ⌜ r ≡ size x + u .0 - alignedBits guardBits (format .f) ⌝ }
 {
     let reach = size(x) + u.0;
     let kept = format.f + ALIGNED;
@@ -54,7 +54,7 @@ fn dropped(format: Format, x: u64, u: Unit) -> u64
 // x shifted to have the guard bits, or one more after a carry, below the last kept one, and rounded.
 fn kept_part(direction: Direction, x: u64, u: Unit, k: u64) -> u64
     requires { ⌜ (x < 2 ^ 61) × (u .0 - k < 61) × (x * 2 ^ (u .0 - k) < 2 ^ 61) ⌝ }
-    ensures { λ r. ⌜ (r ≡ keptPart direction x (u .0) k) × (r ≤ 2 ^ 61) ⌝ }
+    ensures { λ r. ⌜ (r ≡ keptPart guardBits direction x (u .0) k) × (r ≤ 2 ^ 61) ⌝ }
 {
     let unit = u.0;
     if unit < k {
@@ -66,8 +66,8 @@ fn kept_part(direction: Direction, x: u64, u: Unit, k: u64) -> u64
 
 // The word of the rounded magnitude that x stands for.
 fn magnitude_word(format: Format, direction: Direction, x: u64, u: Unit) -> u64
-    requires { ⌜ Supported format × (u .0 < 2 ^ format .w) × (x < 2 ^ sumBits (format .f)) ⌝ }
-    ensures { λ r. ⌜ ((X : ℕ) → 0 < X → Held format X x (u .0) → r ≡ magnitudeWord format direction X) ⌝ }
+    requires { ⌜ Supported format × (u .0 < 2 ^ format .w) × (x < 2 ^ sumBits guardBits (format .f)) ⌝ }
+    ensures { λ r. ⌜ ((X : ℕ) → 0 < X → Held format guardBits 1 X x (u .0) → r ≡ magnitudeWord format direction X) ⌝ }
 {
     let k = dropped(format, x, u);
     k * power(format.f) + kept_part(direction, x, u, k)
@@ -101,7 +101,7 @@ fn roundable(format: Format, sign: u64, x: u64, u: Unit) -> bool
 
 // The word of a sign and the rounded magnitude that x stands for; 0 where x is not such as operands of the format give.
 pub fn rounded(format: Format, mode: u64, sign: u64, x: u64, u: Unit) -> u64
-    ensures { λ r. ⌜ (Roundable format sign x (u .0) → (X : ℕ) → Held format X x (u .0) → r ≡ rounded format mode sign X)
+    ensures { λ r. ⌜ (Roundable format sign x (u .0) → (X : ℕ) → Held format guardBits 1 X x (u .0) → r ≡ rounded format mode sign X)
         × ((Roundable format sign x (u .0) → ⊥) → r ≡ 0) ⌝ }
 {
     if !roundable(format, sign, x, u) {

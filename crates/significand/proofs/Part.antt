@@ -7,7 +7,7 @@ use native.Mathlib.Decide.{ℕ-discrete}
 use native.Mathlib.Omega.{arith}
 use lib.Bits.{bitAnd, and-zero-l, and-self, and-shr, and-mod, and-block, and-le-r}
 use lib.Pow.{pow-pos, split, shl-shr}
-use Rattle.rounding.specs.Sticky.{sticky, withSticky}
+use Rattle.rounding.specs.Dropped.{sticky, withSticky}
 use Rattle.rounding.proofs.Sticky.{sticky-zero, sticky-one, sticky-lt}
 
 -- each bit of x is one of y

@@ -1,26 +1,30 @@
 -- The tail mask is met by exactly the aligned forms of the significands that meet a mask. Aligning keeps parts, so each aligned form lies
 -- between those of the least and the greatest. Back from a number t between these: its upper part is that of a significand, and below
 -- that stands what the least has dropped if t's sticky bit is the least's, and else what the greatest has dropped. Assumes nothing.
+use mathlib.Core.Bool.{true, _&&_, and-eq-true-iff}
 use mathlib.Core.Logic.{_↔_}
 use mathlib.Core.Path.{_≡_, sym, ap, ap₂, _∙_, subst}
 use Prim.Native.Nat.{ℕ, _+_, _-_, _*_, _/_, _%_, _^_, _≤_, _<_}
-use native.Mathlib.Nat.{mod-lt, div-eq-of-lt, mod-eq-of-lt, lt-of-lt-of-le, lt-of-le-of-lt, mul-lt-mul-of-pos-right, mul-le-mul-left, add-zero}
+use native.Mathlib.Nat.{mod-lt, div-eq-of-lt, mod-eq-of-lt, lt-of-lt-of-le, lt-of-le-of-lt, mul-lt-mul-of-pos-right, mul-le-mul-left, add-zero, one-mul, mul-le-mul-right, mul-comm, mul-mod-left, lt-of-mul-lt-mul-right}
 use native.Mathlib.Decide.{ℕ-discrete}
 use native.Mathlib.Omega.{arith}
-use borrow.Author.Tests.{le-leb}
+use borrow.Author.Tests.{le-leb, leb-true, lt-ltb, ltb-true}
+use lib.Arith.{digits-mod}
 use lib.Bits.{and-self}
+use lib.Dec.{ltb, leb}
 use lib.Pow.{pow-pos, pow-mono, pow-add, split, high}
 use lib.Pow as pow
+use Rattle.bits.proofs.Division.{mul-sub-right}
 use Rattle.mask.specs.declared.Mask.{Mask}
 use Rattle.mask.specs.Mask.{WellFormed, Meets, low}
 use Rattle.mask.proofs.ByBits.{value-below}
 use Rattle.mask.proofs.Checks.{wellFormed-true}
-use Rattle.rounding.specs.Sticky.{sticky, withSticky, guardedAt, headAt, tailAt}
-use Rattle.rounding.specs.Width.{guardBits, shortBits, maskBits}
+use Rattle.rounding.specs.Dropped.{sticky, withSticky}
+use Rattle.rounding.specs.Sticky.{guardedAt, headAt, tailAt}
+use Rattle.rounding.specs.Width.{shortBits, maskBits}
 use Rattle.rounding.proofs.Sticky.{sticky-lt}
-use Rattle.rounding.proofs.Widths.{guards, short-room}
 use Rattle.rounding.proofs.Align.{tail-none, tail-short, tail-ordered}
-use Rattle.significand.specs.Tail.{least, greatest, spanned, formsMask, alignedMask, tailMask}
+use Rattle.significand.specs.Tail.{complement, least, greatest, spanned, formsMask, alignedMask, roomy, tailMask}
 use Rattle.significand.proofs.Part.{Part, part-le, part-shr, part-mod, part-block, part-scale, part-unscale, part-with-sticky}
 use Rattle.significand.proofs.Range.{greatest-lt, meets-range, spanned-meets}
 
@@ -136,32 +140,61 @@ forms-far n q p m d e w hd he = ap₂ (spanned n) (same (least m) (value-below p
     same : (x : ℕ) → x < 2 ^ p → tailAt q x d ≡ tailAt q x e
     same x h = far-sticky (guardedAt q x) d (below x d h hd) ∙ sym (far-sticky (guardedAt q x) e (below x e h he))
 
--- ---- with the guard bits
-pub aligned-zero : (r : ℕ) → tailAt guardBits r 0 ≡ headAt guardBits r
-aligned-zero r = tail-none guardBits guards r
+-- ---- masks on aligned significands, where numbers of p bits have room for q more
+pub record Room (q p : ℕ) : Type 0 where
+  pub some : 0 < q
+  pub few : q < maskBits
+  pub short : p ≤ shortBits q
 
-module _ (p : ℕ) (m : Mask) (d : ℕ) (hp : p ≤ shortBits) (w : WellFormed p m) where
-  pub tail-aligned : tailMask p m d ≡ alignedMask p m d
+module _ (q p : ℕ) where
+  pub room-of : roomy q p ≡ true → Room q p
+  unfolding roomy
+  room-of t =
+      let a = and-eq-true-iff (ltb q maskBits) (ltb 0 q && leb p (shortBits q)) .0 t in
+      let b = and-eq-true-iff (ltb 0 q) (leb p (shortBits q)) .0 (a .1) in
+      record { some = ltb-true 0 q (b .0); few = ltb-true q maskBits (a .0); short = leb-true p (shortBits q) (b .1) }
+
+  pub roomy-of : Room q p → roomy q p ≡ true
+  unfolding roomy
+  roomy-of r = simp (lt-ltb 0 q (r .some), lt-ltb q maskBits (r .few), le-leb p (shortBits q) (r .short))
+
+module _ (q p : ℕ) (m : Mask) (d : ℕ) (room : Room q p) (w : WellFormed p m) where
+  fits : p + q ≤ maskBits
+  fits = omega (arith, room .few, room .short)
+
+  pub tail-aligned : tailMask q p m d ≡ alignedMask q p m d
   unfolding tailMask
-  tail-aligned = simp (le-leb p shortBits hp, wellFormed-true p m .1 w)
+  tail-aligned = simp (roomy-of q p room, wellFormed-true p m .1 w)
 
-  pub tail-sound : (r : ℕ) → r < 2 ^ p → Meets r m → Meets (tailAt guardBits r d) (tailMask p m d) × (tailAt guardBits r d < 2 ^ (p + guardBits))
+  pub tail-sound : (r : ℕ) → r < 2 ^ p → Meets r m → Meets (tailAt q r d) (tailMask q p m d) × (tailAt q r d < 2 ^ (p + q))
   tail-sound r h met =
-      (rw tail-aligned (forms-sound maskBits guardBits p m d guards (short-room p hp) w r h met), tail-short guardBits guards p r h d)
+      (rw tail-aligned (forms-sound maskBits q p m d (room .some) fits w r h met), tail-short q (room .some) p r h d)
 
-  pub tail-complete : (t : ℕ) → t < 2 ^ maskBits → Meets t (tailMask p m d) → (r : ℕ) × (r < 2 ^ p) × Meets r m × (tailAt guardBits r d ≡ t)
-  tail-complete t h met = forms-complete maskBits guardBits p m d guards (short-room p hp) w t h (rw tail-aligned at met)
+  pub tail-complete : (t : ℕ) → t < 2 ^ maskBits → Meets t (tailMask q p m d) → (r : ℕ) × (r < 2 ^ p) × Meets r m × (tailAt q r d ≡ t)
+  tail-complete t h met = forms-complete maskBits q p m d (room .some) fits w t h (rw tail-aligned at met)
 
-  pub tail-most : (t : ℕ) → t < 2 ^ maskBits → Meets t (tailMask p m d) → t ≤ headAt guardBits (2 ^ p - 1)
-  tail-most t h met = forms-most maskBits guardBits p m d guards (short-room p hp) w t h (rw tail-aligned at met)
+  pub tail-most : (t : ℕ) → t < 2 ^ maskBits → Meets t (tailMask q p m d) → t ≤ headAt q (2 ^ p - 1)
+  tail-most t h met = forms-most maskBits q p m d (room .some) fits w t h (rw tail-aligned at met)
 
--- with no gap the guard bits are fixed to 0
-pub tail-guards-zero : (p : ℕ) (m : Mask) → p ≤ shortBits → WellFormed p m → (low guardBits (tailMask p m 0) .care ≡ 2 ^ guardBits - 1) × (low guardBits (tailMask p m 0) .value ≡ 0)
-tail-guards-zero p m hp w =
-    let l = aligned-zero (least m) in
-    let g = aligned-zero (greatest p m) in
-    let h = ends-lt maskBits guardBits p m 0 guards (short-room p hp) w in
-    rw (tail-aligned p m 0 hp w) (omega (arith, l, g, h), omega (arith, l))
+-- with no gap the bits below are fixed to 0
+module _ (q p : ℕ) (m : Mask) (room : Room q p) (w : WellFormed p m) where
+  below-zeros : (k l g : ℕ) → q ≤ k → l ≤ g → headAt q g < 2 ^ k → (complement k (headAt q g - headAt q l) % 2 ^ q ≡ 2 ^ q - 1) × (headAt q l % 2 ^ q ≡ 0)
+  below-zeros k l g few le lt =
+      let e : 2 ^ k ≡ 2 ^ (k - q) * 2 ^ q = ap (λ (n : ℕ). 2 ^ n) (omega arith) ∙ pow-add 2 (k - q) q in
+      let z : headAt q g - headAt q l ≡ (g - l) * 2 ^ q = ap₂ _-_ (mul-comm (2 ^ q) g) (mul-comm (2 ^ q) l) ∙ sym (mul-sub-right g l (2 ^ q)) in
+      let lt′ : (g - l) * 2 ^ q < 2 ^ (k - q) * 2 ^ q = omega (arith, z, e) in
+      let n = lt-of-mul-lt-mul-right (2 ^ q) lt′ in
+      let c : complement k (headAt q g - headAt q l) ≡ (2 ^ (k - q) - (g - l) - 1) * 2 ^ q + (2 ^ q - 1) =
+      omega (arith, z, e, mul-sub-right (2 ^ (k - q) - (g - l)) 1 (2 ^ q), mul-sub-right (2 ^ (k - q)) (g - l) (2 ^ q), pow-pos q, one-mul (2 ^ q), mul-le-mul-right {m = 1} {n = 2 ^ (k - q) - (g - l)} (2 ^ q) (omega arith)) in
+      (ap (λ (x : ℕ). x % 2 ^ q) c ∙ digits-mod (2 ^ (k - q) - (g - l) - 1) (omega (arith, pow-pos q)), ap (λ (x : ℕ). x % 2 ^ q) (mul-comm (2 ^ q) l) ∙ mul-mod-left l (2 ^ q))
 
-pub tail-far : (p : ℕ) (m : Mask) (d e : ℕ) → p ≤ shortBits → WellFormed p m → p + (guardBits - 1) ≤ d → p + (guardBits - 1) ≤ e → tailMask p m d ≡ tailMask p m e
-tail-far p m d e hp w hd he = tail-aligned p m d hp w ∙ forms-far maskBits guardBits p m d e w hd he ∙ sym (tail-aligned p m e hp w)
+  pub tail-below-zero : (low q (tailMask q p m 0) .care ≡ 2 ^ q - 1) × (low q (tailMask q p m 0) .value ≡ 0)
+  tail-below-zero =
+      let l = tail-none q (room .some) (least m) in
+      let g = tail-none q (room .some) (greatest p m) in
+      let h = subst (λ (n : ℕ). n < 2 ^ maskBits) g (ends-lt maskBits q p m 0 (room .some) (fits q p m 0 room w) w) in
+      let z = below-zeros maskBits (least m) (greatest p m) (omega (arith, room .few)) (part-le (least m) (greatest p m) (least-part maskBits q p m 0 (room .some) (fits q p m 0 room w) w)) h in
+      rw (tail-aligned q p m 0 room w, l, g) z
+
+pub tail-far : (q p : ℕ) (m : Mask) (d e : ℕ) → Room q p → WellFormed p m → p + (q - 1) ≤ d → p + (q - 1) ≤ e → tailMask q p m d ≡ tailMask q p m e
+tail-far q p m d e room w hd he = tail-aligned q p m d room w ∙ forms-far maskBits q p m d e w hd he ∙ sym (tail-aligned q p m e room w)

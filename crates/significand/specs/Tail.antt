@@ -2,13 +2,13 @@
 -- smaller than its own (document 01, "The carry row": "counted in L's unit"), with some bits more, the last of them the sticky bit. A bit
 -- of the significand that rises from 0 to 1 makes no bit of the aligned form fall, not the sticky bit either; so what is fixed is what the
 -- aligned forms of the least and of the greatest significand agree in. Assumes nothing.
-use mathlib.Core.Bool.{_&&_}
+use mathlib.Core.Bool.{Bool, _&&_}
 use Prim.Native.Nat.{ℕ, _+_, _-_, _^_}
-use lib.Dec.{leb}
+use lib.Dec.{leb, ltb}
 use Rattle.mask.specs.declared.Mask.{Mask}
 use Rattle.mask.specs.Mask.{wellFormed, pickMask}
 use Rattle.rounding.specs.Sticky.{tailAt}
-use Rattle.rounding.specs.Width.{guardBits, shortBits, maskBits}
+use Rattle.rounding.specs.Width.{shortBits, maskBits}
 
 -- the k bits that x has not
 abbrev pub complement : ℕ → ℕ → ℕ
@@ -31,10 +31,14 @@ spanned k l g = record { care = complement k (g - l); value = l }
 abbrev pub formsMask : ℕ → ℕ → ℕ → Mask → ℕ → Mask
 formsMask n q p m d = spanned n (tailAt q (least m) d) (tailAt q (greatest p m) d)
 
--- the same with the guard bits
-abbrev pub alignedMask : ℕ → Mask → ℕ → Mask
-alignedMask p m d = formsMask maskBits guardBits p m d
+-- the same for masks on aligned significands
+abbrev pub alignedMask : ℕ → ℕ → Mask → ℕ → Mask
+alignedMask q p m d = formsMask maskBits q p m d
 
--- that mask, and m as it is where a significand of p bits has no room for the guard bits or m is not well formed for p bits
-unfoldable pub tailMask : ℕ → Mask → ℕ → Mask
-tailMask p m d = pickMask (leb p shortBits && wellFormed p m) (alignedMask p m d) m
+-- numbers of p bits have room for q more
+unfoldable pub roomy : ℕ → ℕ → Bool
+roomy q p = ltb q maskBits && (ltb 0 q && leb p (shortBits q))
+
+-- that mask, and m as it is where a significand of p bits has no room for q more or m is not well formed for p bits
+unfoldable pub tailMask : ℕ → ℕ → Mask → ℕ → Mask
+tailMask q p m d = pickMask (roomy q p && wellFormed p m) (alignedMask q p m d) m

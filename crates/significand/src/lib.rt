@@ -6,15 +6,15 @@ use mask::fix;
 use mask::well_formed;
 use rounding::alignment::aligned;
 use rounding::width::MASK_BITS;
-use rounding::width::SHORT;
 use std::num::wrapping_add_u64;
 use word::Biased;
+ghost use mathlib.Core.Bool.{true};
 ghost use mathlib.Core.Path.{_≡_};
 ghost use Prim.Native.Nat.{_%_, _≤_, _<_, _^_};
 ghost use Rattle.mask.specs.Mask.{WellFormed};
-ghost use Rattle.rounding.specs.Width.{shortBits, maskBits};
+ghost use Rattle.rounding.specs.Width.{maskBits};
 ghost use Rattle.significand.specs.Significand.{significandMask};
-ghost use Rattle.significand.specs.Tail.{complement, greatest, spanned, alignedMask, tailMask};
+ghost use Rattle.significand.specs.Tail.{complement, greatest, spanned, alignedMask, roomy, tailMask};
 
 // The mask on the significand of a fraction and an exponent field; the fraction's as it is where f is 64 or more or bit f is fixed.
 pub fn significand_mask(f: u64, fraction: Mask, exponent: Biased) -> Mask
@@ -56,21 +56,34 @@ fn spanned(l: u64, g: u64) -> Mask
     }
 }
 
-// The mask on the aligned forms of the significands of p bits that meet m.
-fn aligned_mask(p: u64, m: Mask, gap: u64) -> Mask
-    requires { ⌜ (p ≤ shortBits) × WellFormed p m ⌝ }
-    ensures { λ r. ⌜ r ≡ alignedMask p m gap ⌝ }
+// Whether numbers of p bits have room for so many more.
+fn roomy(below: u64, p: u64) -> bool
+    ensures { λ r. ⌜ r ≡ roomy below p ⌝ }
 {
-    spanned(aligned(m.value, gap), aligned(greatest(p, m), gap))
+    if MASK_BITS <= below {
+        return false;
+    }
+    (0 < below) & (p <= MASK_BITS - below)
 }
 
-// That mask; m as it is where p bits leave no room for the guard bits or m is not well formed for p bits.
-pub fn tail_mask(p: u64, m: Mask, gap: u64) -> Mask
-    ensures { λ r. ⌜ r ≡ tailMask p m gap ⌝ }
+// The mask on the aligned forms, with so many bits below the larger operand's last one, of the significands of p bits that meet m.
+fn aligned_mask(below: u64, p: u64, m: Mask, gap: u64) -> Mask
+    requires { ⌜ (roomy below p ≡ true) × WellFormed p m ⌝ }
+    ensures { λ r. ⌜ r ≡ alignedMask below p m gap ⌝ }
 {
-    if p <= SHORT {
+    spanned(
+        aligned(m.value, gap, below),
+        aligned(greatest(p, m), gap, below),
+    )
+}
+
+// That mask; m as it is where p bits leave no room for so many more or m is not well formed for p bits.
+pub fn tail_mask(below: u64, p: u64, m: Mask, gap: u64) -> Mask
+    ensures { λ r. ⌜ r ≡ tailMask below p m gap ⌝ }
+{
+    if roomy(below, p) {
         if well_formed(p, m) {
-            return aligned_mask(p, m, gap);
+            return aligned_mask(below, p, m, gap);
         }
     }
     m

@@ -16,6 +16,8 @@ use Rattle.word.specs.Word.{fraction, biased, sign, allOnes, effective}
 use Rattle.word.specs.Operand.{finiteOf, operandOf}
 use Rattle.adder.specs.Result.{infiniteSum, kindSum, result}
 use Rattle.adder.specs.Row.{kindRow, rowOf}
+use Rattle.adder.specs.declared.Below.the-variants.{NoBits}
+use Rattle.adder.specs.Below.{kindBelow, belowOf}
 use Rattle.word.proofs.Fields.{effective-sign, effective-biased, effective-fraction}
 use Rattle.word.proofs.Canonical.{operand-finite}
 
@@ -67,6 +69,27 @@ unfolding rowOf
 special-row F operation a b (inl e) = row-first F (operandOf F a) (operandOf F (effective F operation b)) (not-finite F a e)
 special-row F operation a b (inr e) =
     row-second F (operandOf F a) (operandOf F (effective F operation b)) (not-finite F (effective F operation b) (effective-biased F operation b ∙ e))
+
+below-first : (F : Format) (g : ℕ) (x y : kind.Operand) → NotFinite x → kindBelow F g x y ≡ NoBits
+unfolding kindBelow
+below-first F g (Finite x) y n = absurd n
+below-first F g (Infinite s) y n = refl
+below-first F g Nan y n = refl
+
+below-second : (F : Format) (g : ℕ) (x y : kind.Operand) → NotFinite y → kindBelow F g x y ≡ NoBits
+unfolding kindBelow
+below-second F g (Finite x) (Finite y) n = absurd n
+below-second F g (Finite x) (Infinite t) n = refl
+below-second F g (Finite x) Nan n = refl
+below-second F g (Infinite s) y n = refl
+below-second F g Nan y n = refl
+
+-- nor a bit below the last
+pub special-below : (F : Format) (operation g a b : ℕ) → (biased F a .0 ≡ allOnes F) ⊎ (biased F b .0 ≡ allOnes F) → belowOf F operation g a b ≡ NoBits
+unfolding belowOf
+special-below F operation g a b (inl e) = below-first F g (operandOf F a) (operandOf F (effective F operation b)) (not-finite F a e)
+special-below F operation g a b (inr e) =
+    below-second F g (operandOf F a) (operandOf F (effective F operation b)) (not-finite F (effective F operation b) (effective-biased F operation b ∙ e))
 
 -- ---- words of one kind
 

@@ -18,11 +18,12 @@ use Rattle.word.specs.Word.{sign, biased, fraction, allOnes, wordOf}
 use Rattle.word.specs.Masks.{exponentMask}
 use Rattle.word.proofs.Fields.{signed-lt, together-lt, together-sign, together-biased, together-fraction}
 use Rattle.adder.specs.declared.Row as row
-use Rattle.fit.specs.Fit.{RowMeets}
+use Rattle.adder.specs.declared.Below as below
+use Rattle.fit.specs.Fit.{RowMeets, rowIn, belowIn, BelowMeets}
 use Rattle.special.specs.Asked.{fieldIs, PairFits}
-use Rattle.special.specs.Special.{Special}
-use Rattle.special.proofs.Alike.{special-row, finite-second, finite-first}
-use Rattle.special.proofs.Laws.{special-carries}
+use Rattle.special.specs.Special.{Special, Unfixed}
+use Rattle.special.proofs.Alike.{special-row, special-below, finite-second, finite-first}
+use Rattle.special.proofs.Laws.{special-unfixed}
 
 -- ---- a word with another exponent field
 module _ (F : Format) (x : ℕ) (g : Biased) (g-lt : g .0 < 2 ^ F .w) where
@@ -64,8 +65,11 @@ module _ (j : Job) (valid : Valid j) (E e g : Biased) (ones : E .0 ≡ allOnes (
   all-ones : (x : ℕ) → biased F x ≡ E → biased F x .0 ≡ allOnes F
   all-ones x is = ap (λ (n : Biased). n .0) is ∙ ones
 
-  rowless : (a b : ℕ) → Special F (biased F a) (biased F b) → j .carries .care ≡ 0 → RowMeets (Rattle.fit.specs.Fit.rowIn (j .setting) a b) (j .carries)
-  rowless a b special free = subst (λ (r : row.Row). RowMeets r (j .carries)) (sym (special-row F (j .setting .operation) a b special)) free
+  rowless : (a b : ℕ) → Special F (biased F a) (biased F b) → Unfixed j → RowMeets (rowIn (j .setting) a b) (j .carries)
+  rowless a b special free = subst (λ (r : row.Row). RowMeets r (j .carries)) (sym (special-row F (j .setting .operation) a b special)) (free .carries)
+
+  bitless : (a b : ℕ) → Special F (biased F a) (biased F b) → Unfixed j → BelowMeets (belowIn (j .setting) (j .dropped .g) a b) (j .dropped .mask)
+  bitless a b special free = subst (λ (r : below.Below). BelowMeets r (j .dropped .mask)) (sym (special-below F (j .setting .operation) (j .dropped .g) a b special)) (free .dropped)
 
   pub beside-a : Meets (g .0) (exponentMask F (j .b .mask)) → PairFits j E e → PairFits j E g
   beside-a met p = record {
@@ -83,7 +87,8 @@ module _ (j : Job) (valid : Valid j) (E e g : Biased) (ones : E .0 ≡ allOnes (
         a-allowed = p .fits .satisfies .a-allowed;
         b-allowed = record { mask = field-meets F (p .b) g within (j .b .mask) (valid .b .mask) (p .fits .satisfies .b-allowed .mask) met };
         c-allowed = p .fits .satisfies .c-allowed;
-        row = rowless (p .a) (withField F (p .b) g within) (inl (all-ones (p .a) (p .a-exponent))) (special-carries j valid E e (inl ones) p);
+        row = rowless (p .a) (withField F (p .b) g within) (inl (all-ones (p .a) (p .a-exponent))) (special-unfixed j valid E e (inl ones) p);
+        dropped = bitless (p .a) (withField F (p .b) g within) (inl (all-ones (p .a) (p .a-exponent))) (special-unfixed j valid E e (inl ones) p);
       };
     };
     a-exponent = p .a-exponent;
@@ -106,7 +111,8 @@ module _ (j : Job) (valid : Valid j) (E e g : Biased) (ones : E .0 ≡ allOnes (
         a-allowed = record { mask = field-meets F (p .a) g within (j .a .mask) (valid .a .mask) (p .fits .satisfies .a-allowed .mask) met };
         b-allowed = p .fits .satisfies .b-allowed;
         c-allowed = p .fits .satisfies .c-allowed;
-        row = rowless (withField F (p .a) g within) (p .b) (inr (all-ones (p .b) (p .b-exponent))) (special-carries j valid e E (inr ones) p);
+        row = rowless (withField F (p .a) g within) (p .b) (inr (all-ones (p .b) (p .b-exponent))) (special-unfixed j valid e E (inr ones) p);
+        dropped = bitless (withField F (p .a) g within) (p .b) (inr (all-ones (p .b) (p .b-exponent))) (special-unfixed j valid e E (inr ones) p);
       };
     };
     a-exponent = field-biased F (p .a) g within;

@@ -16,15 +16,16 @@ use Rattle.job.specs.Job.{Valid}
 use Rattle.word.specs.declared.Biased.{Biased}
 use Rattle.word.specs.Word.{biased}
 use Rattle.adder.specs.declared.Row as row
+use Rattle.adder.specs.declared.Below as below
 use Rattle.adder.specs.declared.Reply.the-variants.{Word}
 use Rattle.adder.specs.Result.{resultReply}
 use Rattle.adder.proofs.Causes.{result-word}
 use Rattle.adder.proofs.ResultLaws.{result-lt}
 use Rattle.fit.proofs.Laws.{words-fit}
-use Rattle.fit.specs.Fit.{resultIn, RowMeets, Fits}
+use Rattle.fit.specs.Fit.{resultIn, RowMeets, BelowMeets, Fits}
 use Rattle.special.specs.Asked.{InRange, PairFits}
-use Rattle.special.specs.Special.{Special, representative, together, partnered, admitted}
-use Rattle.special.proofs.Alike.{special-row, alike-result}
+use Rattle.special.specs.Special.{Special, Unfixed, representative, together, partnered, admitted}
+use Rattle.special.proofs.Alike.{special-row, special-below, alike-result}
 use Rattle.special.proofs.Representatives.{representative-lt, representative-biased, standsFor, stands-lt, representative-alike, representative-meets}
 
 -- where no number below n passes a test, and n does not
@@ -53,9 +54,9 @@ module _ (j : Job) (valid : Valid j) where
         ),
   )
 
-  -- with no row and no fixed carry that is a case
+  -- with nothing fixed beside the words that is a case
   together-fits : (a b : ℕ) → a < 2 ^ wordBits (j .setting .format) → b < 2 ^ wordBits (j .setting .format) → Special (j .setting .format) (biased (j .setting .format) a) (biased (j .setting .format) b)
-      → j .carries .care ≡ 0 → together j a b ≡ true → Fits j a b (resultIn (j .setting) a b)
+      → Unfixed j → together j a b ≡ true → Fits j a b (resultIn (j .setting) a b)
   together-fits a b ha hb special free t =
       let m = together-meets a b .0 t in
       record {
@@ -64,7 +65,8 @@ module _ (j : Job) (valid : Valid j) where
           a-allowed = record { mask = m .0 };
           b-allowed = record { mask = m .1 };
           c-allowed = record { mask = m .2 };
-          row = subst (λ (r : row.Row). RowMeets r (j .carries)) (sym (special-row (j .setting .format) (j .setting .operation) a b special)) free;
+          row = subst (λ (r : row.Row). RowMeets r (j .carries)) (sym (special-row (j .setting .format) (j .setting .operation) a b special)) (free .carries);
+          dropped = subst (λ (r : below.Below). BelowMeets r (j .dropped .mask)) (sym (special-below (j .setting .format) (j .setting .operation) (j .dropped .g) a b special)) (free .dropped);
         };
       }
 
@@ -82,7 +84,7 @@ module _ (j : Job) (valid : Valid j) (ea eb : Biased) where
   fields-special p (inl e) = inl (ap (λ (n : Biased). n .0) (p .a-exponent) ∙ e)
   fields-special p (inr e) = inr (ap (λ (n : Biased). n .0) (p .b-exponent) ∙ e)
 
-  pub admitted-sound : InRange (j .setting .format) ea eb → Special (j .setting .format) ea eb → j .carries .care ≡ 0 → admitted j ea eb ≡ true → PairFits j ea eb
+  pub admitted-sound : InRange (j .setting .format) ea eb → Special (j .setting .format) ea eb → Unfixed j → admitted j ea eb ≡ true → PairFits j ea eb
   unfolding admitted partnered
   admitted-sound range special free e =
       let F = j .setting .format in
@@ -133,6 +135,9 @@ module _ (j : Job) (valid : Valid j) (ea eb : Biased) where
         subst (λ (n : ℕ). Meets n (j .c .mask)) same (p .fits .satisfies .c-allowed .mask),
       )
 
-  -- with no row a carry mask that fixes a bit is not met
-  pub special-carries : Special (j .setting .format) ea eb → PairFits j ea eb → j .carries .care ≡ 0
-  special-carries special p = rw (special-row (j .setting .format) (j .setting .operation) (p .a) (p .b) (fields-special p special)) at (p .fits .satisfies .row)
+  -- a mask that fixes a carry or a bit below the last is not met
+  pub special-unfixed : Special (j .setting .format) ea eb → PairFits j ea eb → Unfixed j
+  special-unfixed special p = record {
+    carries = rw (special-row (j .setting .format) (j .setting .operation) (p .a) (p .b) (fields-special p special)) at (p .fits .satisfies .row);
+    dropped = rw (special-below (j .setting .format) (j .setting .operation) (j .dropped .g) (p .a) (p .b) (fields-special p special)) at (p .fits .satisfies .dropped);
+  }

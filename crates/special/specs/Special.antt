@@ -1,8 +1,8 @@
 -- A pair of exponent fields of which one is all ones (document 01, "Numbers of a format": infinity where t = 0, else a NaN). With such an
--- operand there is no row, and c depends only on the kinds of the operands ("The rounded result"). So four words stand for all words with
--- an exponent field that meet a mask: of either sign, with the least fraction, which is 0 where a fraction of 0 meets the mask, and with the
--- greatest, which is not 0 where another one does. Whether some case fits is then whether one of the pairs of these words fits.
--- Assumes nothing.
+-- operand there is no row and no bit below the last, and c depends only on the kinds of the operands ("The rounded result"). So four words
+-- stand for all words with an exponent field that meet a mask: of either sign, with the least fraction, which is 0 where a fraction of 0
+-- meets the mask, and with the greatest, which is not 0 where another one does. Whether some case fits is then whether one of the pairs of
+-- these words fits. Assumes nothing.
 use mathlib.Core.Path.{_≡_}
 use mathlib.Core.Logic.{_⊎_}
 use mathlib.Core.Bool.{Bool, _&&_}
@@ -20,6 +20,11 @@ use Rattle.significand.specs.Tail.{least, greatest}
 -- "With an infinite or NaN operand": one of the exponent fields is all ones ("The carry row")
 abbrev pub Special : Format → Biased → Biased → Type 0
 Special F ea eb = (ea .0 ≡ allOnes F) ⊎ (eb .0 ≡ allOnes F)
+
+-- nothing is fixed that there is not with such an operand: no carry, and no bit below the last ("The carry row"; W-206)
+pub record Unfixed (j : Job) : Type 0 where
+  pub carries : j .carries .care ≡ 0
+  pub dropped : j .dropped .mask .care ≡ 0
 
 -- of the fractions of f bits that meet a mask the least, for 0, or the greatest
 abbrev pub extreme : ℕ → Mask → ℕ → ℕ

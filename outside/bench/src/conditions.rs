@@ -1,34 +1,48 @@
 //! The masks of a job of a kind.
 
 use second::arith::Adder;
-use second::fits::{Case, Conditions};
-use second::format::{ones, Format};
+use second::dropped::Dropped;
+use second::fits::{Case, Computed, Conditions};
+use second::format::{ones, Format, LARGEST_G};
 use second::mask::Mask;
 use second::random::Random;
-use second::sample::{opposed_pair, pair};
+use second::sample::{dropping_pair, opposed_pair, pair};
 
 use crate::kinds::{Kind, CANCELLED};
 
-/// The masks of a, b, c and the carries.
-type Masks = [Mask; 4];
+/// The masks of a, b and c.
+type Words = [Mask; 3];
+/// The masks of a, b, c, the carries and the dropped bits, of which there are `LARGEST_G`.
+type Masks = [Mask; 5];
+/// The bits of the last mask, and those of a tie.
+const BELOW: u32 = LARGEST_G as u32 + 1;
+const TIE: u64 = 1 << LARGEST_G;
 
 /// About half of the bits, of 16.
 const HALF: u64 = 8;
 
 /// The conditions of a job of a kind. One that is to be impossible may have a case.
 pub fn conditions(random: &mut Random, adder: &Adder, kind: Kind) -> Conditions {
-    let [a, b, c, carries] = match kind {
+    let [a, b, c, carries, below] = match kind {
         Kind::Fixed { of_16, carries } => fixed(random, adder, of_16, carries),
-        Kind::Cancelled => cancelled(random, adder),
-        Kind::Subnormal => subnormal(random, adder),
-        Kind::Overflow => overflow(random, adder),
-        Kind::Result => result(random, adder),
-        Kind::Fractions => fractions(random, adder.format),
-        Kind::Signs => signs(adder.format),
-        Kind::ExponentOfC => other_exponent(random, adder),
+        Kind::Cancelled => alone(cancelled(random, adder)),
+        Kind::Subnormal => alone(subnormal(random, adder)),
+        Kind::Overflow => alone(overflow(random, adder)),
+        Kind::Result => alone(result(random, adder)),
+        Kind::Fractions => alone(fractions(random, adder.format)),
+        Kind::Signs => alone(signs(adder.format)),
+        Kind::ExponentOfC => alone(other_exponent(random, adder)),
         Kind::Carries => other_carry(random, adder),
         Kind::Opposed => opposed(random, adder),
-        Kind::Mixed => mixed(random, adder),
+        Kind::Below => below(random, adder),
+        Kind::Tie => tie(random, adder),
+        Kind::OtherBelow => other_below(random, adder),
+        Kind::OddTie => odd_tie(),
+        Kind::Mixed { below } => mixed(random, adder, below),
+    };
+    let dropped = Dropped {
+        g: LARGEST_G,
+        mask: below,
     };
     Conditions {
         w: u64::from(adder.format.exponent_bits()),
@@ -39,6 +53,7 @@ pub fn conditions(random: &mut Random, adder: &Adder, kind: Kind) -> Conditions 
         b,
         c,
         carries,
+        dropped: dropped.taken(),
     }
 }
 
@@ -118,19 +133,33 @@ fn first(draw: impl FnMut() -> Case, wanted: impl Fn(&Case) -> bool) -> Case {
 }
 
 /// The masks of a, b and c around a case, with about `of_16` of 16 bits fixed.
-fn around(random: &mut Random, adder: &Adder, case: &Case, of_16: u64) -> Masks {
+fn around(random: &mut Random, adder: &Adder, case: &Case, of_16: u64) -> Words {
     let width = adder.format.width();
-    let [a, b, c] = [case.a, case.b, case.c].map(|word| mask(word, care(random, width, of_16)));
-    [a, b, c, Mask::FREE]
+    [case.a, case.b, case.c].map(|word| mask(word, care(random, width, of_16)))
+}
+
+/// The masks of a, b and c, with nothing else fixed.
+fn alone(words: Words) -> Masks {
+    with_row(words, Mask::FREE)
+}
+
+/// The masks of a, b and c, with one of the carries.
+fn with_row([a, b, c]: Words, carries: Mask) -> Masks {
+    [a, b, c, carries, Mask::FREE]
+}
+
+/// The masks of a, b and c, with one of the dropped bits.
+fn with_below([a, b, c]: Words, below: Mask) -> Masks {
+    [a, b, c, Mask::FREE, below]
 }
 
 fn fixed(random: &mut Random, adder: &Adder, of_16: u64, carries: bool) -> Masks {
     let case = any_case(random, adder);
-    let mut masks = around(random, adder, &case, of_16);
-    if let (true, Some(row)) = (carries, case.row) {
-        masks[3] = mask(row, care(random, adder.format.precision(), of_16));
-    }
-    masks
+    let words = around(random, adder, &case, of_16);
+    let row = case.row.filter(|_| carries);
+    let precision = adder.format.precision();
+    let carries = row.map_or(Mask::FREE, |row| mask(row, care(random, precision, of_16)));
+    with_row(words, carries)
 }
 
 /// The exponent bits from the top on that have to stay for the field to be `least` or more.
@@ -141,7 +170,7 @@ fn top_bits(format: Format, word: u64, least: u64) -> u64 {
     exponent_field(format) & !ones(format.fraction_bits() + low_bits)
 }
 
-fn cancelled(random: &mut Random, adder: &Adder) -> Masks {
+fn cancelled(random: &mut Random, adder: &Adder) -> Words {
     let format = adder.format;
     let least = |case: &Case| exponent(format, case.c) + CANCELLED;
     let case = first(
@@ -151,16 +180,16 @@ fn cancelled(random: &mut Random, adder: &Adder) -> Masks {
             operands.all(|word| least(case) <= exponent(format, word))
         },
     );
-    let [a, b, c, carries] = around(random, adder, &case, HALF);
+    let [a, b, c] = around(random, adder, &case, HALF);
     let field = exponent_field(format);
     let [a, b] = [(a, case.a), (b, case.b)].map(|(mask, word)| {
         let top = top_bits(format, word, least(&case));
         with(without(mask, field), word, top)
     });
-    [a, b, with(c, case.c, field), carries]
+    [a, b, with(c, case.c, field)]
 }
 
-fn subnormal(random: &mut Random, adder: &Adder) -> Masks {
+fn subnormal(random: &mut Random, adder: &Adder) -> Words {
     let format = adder.format;
     let fraction = ones(format.fraction_bits());
     let case = first(
@@ -170,12 +199,12 @@ fn subnormal(random: &mut Random, adder: &Adder) -> Masks {
         },
         |case| exponent(format, case.c) == 0 && case.c & fraction != 0,
     );
-    let [a, b, c, carries] = around(random, adder, &case, HALF);
+    let [a, b, c] = around(random, adder, &case, HALF);
     let c = with(c, case.c, exponent_field(format) | lowest(case.c));
-    [a, b, c, carries]
+    [a, b, c]
 }
 
-fn overflow(random: &mut Random, adder: &Adder) -> Masks {
+fn overflow(random: &mut Random, adder: &Adder) -> Words {
     let format = adder.format;
     let field = exponent_field(format);
     let is_finite = |word: u64| word & field != field;
@@ -183,55 +212,90 @@ fn overflow(random: &mut Random, adder: &Adder) -> Masks {
         || any_case(random, adder),
         |case| case.row.is_some() && !is_finite(case.c),
     );
-    let [a, b, c, carries] = around(random, adder, &case, HALF);
+    let [a, b, c] = around(random, adder, &case, HALF);
     let [a, b] =
         [(a, case.a), (b, case.b)].map(|(mask, word)| with(mask, word, lowest(!word & field)));
-    [a, b, with(c, case.c, format.sign_bit() - 1), carries]
+    [a, b, with(c, case.c, format.sign_bit() - 1)]
 }
 
-fn result(random: &mut Random, adder: &Adder) -> Masks {
+fn result(random: &mut Random, adder: &Adder) -> Words {
     let c = mask(any_case(random, adder).c, ones(adder.format.width()));
-    [Mask::FREE, Mask::FREE, c, Mask::FREE]
+    [Mask::FREE, Mask::FREE, c]
 }
 
-fn fractions(random: &mut Random, format: Format) -> Masks {
-    let [a, b, c] = [0; 3].map(|_| mask(random.word(), ones(format.fraction_bits())));
-    [a, b, c, Mask::FREE]
+fn fractions(random: &mut Random, format: Format) -> Words {
+    [0; 3].map(|_| mask(random.word(), ones(format.fraction_bits())))
 }
 
-fn signs(format: Format) -> Masks {
+fn signs(format: Format) -> Words {
     let sign = format.sign_bit();
-    let [a, b, c] = [0, 0, sign].map(|word| mask(word, sign));
-    [a, b, c, Mask::FREE]
+    [0, 0, sign].map(|word| mask(word, sign))
 }
 
-fn other_exponent(random: &mut Random, adder: &Adder) -> Masks {
+fn other_exponent(random: &mut Random, adder: &Adder) -> Words {
     let case = any_case(random, adder);
-    let [a, b, c, carries] = around(random, adder, &case, HALF);
+    let [a, b, c] = around(random, adder, &case, HALF);
     let field = exponent_field(adder.format);
     let [a, b] = [a, b].map(|mask| without(mask, field & random.word()));
-    [a, b, with(c, random.word(), field), carries]
+    [a, b, with(c, random.word(), field)]
 }
 
 fn other_carry(random: &mut Random, adder: &Adder) -> Masks {
     let case = first(|| any_case(random, adder), |case| case.row.is_some());
     let row = case.row.expect("there is one");
-    let [a, b, c, _] = around(random, adder, &case, HALF);
+    let words = around(random, adder, &case, HALF);
     let precision = adder.format.precision();
     let carries = mask(row, care(random, precision, HALF));
     let turned = 1 << random.below(u64::from(precision));
-    [a, b, c, with(carries, !row, turned)]
+    with_row(words, with(carries, !row, turned))
 }
 
 fn opposed(random: &mut Random, adder: &Adder) -> Masks {
     let (a, b) = opposed_pair(random, adder);
     let case = Case::of(adder, a, b);
     let row = case.row.expect("finite operands");
-    let [a, b, c, _] = around(random, adder, &case, HALF);
+    let [a, b, c] = around(random, adder, &case, HALF);
     let field = exponent_field(adder.format);
     let [a, b] = [(a, case.a), (b, case.b)].map(|(mask, word)| with(mask, word, field));
     let carries = mask(row, care(random, adder.format.precision(), HALF));
-    [a, b, c, carries]
+    with_row([a, b, c], carries)
+}
+
+/// A case with dropped bits that are as wanted, and these.
+fn dropping_case(random: &mut Random, adder: &Adder, wanted: impl Fn(u64) -> bool) -> (Case, u64) {
+    let drawn = || {
+        let (a, b) = dropping_pair(random, adder.format);
+        let Computed { case, below } = Computed::of(adder, a, b);
+        Some((case, below?.word(LARGEST_G)))
+    };
+    let mut cases = std::iter::repeat_with(drawn).flatten();
+    cases
+        .find(|&(_, word)| wanted(word))
+        .expect("an endless supply")
+}
+
+fn below(random: &mut Random, adder: &Adder) -> Masks {
+    let (case, word) = dropping_case(random, adder, |_| true);
+    let words = around(random, adder, &case, HALF);
+    with_below(words, mask(word, care(random, BELOW, HALF)))
+}
+
+fn tie(random: &mut Random, adder: &Adder) -> Masks {
+    let (case, _) = dropping_case(random, adder, |word| word == TIE);
+    let words = around(random, adder, &case, HALF);
+    with_below(words, mask(TIE, ones(BELOW)))
+}
+
+fn other_below(random: &mut Random, adder: &Adder) -> Masks {
+    let (case, word) = dropping_case(random, adder, |_| true);
+    let words = around(random, adder, &case, HALF);
+    let turned = 1 << random.below(u64::from(BELOW));
+    with_below(words, mask(word ^ turned, ones(BELOW)))
+}
+
+fn odd_tie() -> Masks {
+    let words = [Mask::FREE, Mask::FREE, mask(1, 1)];
+    with_below(words, mask(TIE, ones(BELOW)))
 }
 
 /// A mask with any share of the bits fixed, three times of four to those of a word.
@@ -244,10 +308,16 @@ fn any_share(random: &mut Random, word: u64, width: u32) -> Mask {
     mask(word, care(random, width, of_16))
 }
 
-fn mixed(random: &mut Random, adder: &Adder) -> Masks {
-    let case = any_case(random, adder);
+fn mixed(random: &mut Random, adder: &Adder, with_below: bool) -> Masks {
+    let (a, b) = pair(random, adder.format);
+    let Computed { case, below } = Computed::of(adder, a, b);
     let (width, precision) = (adder.format.width(), adder.format.precision());
     let [a, b, c] = [case.a, case.b, case.c].map(|word| any_share(random, word, width));
     let carries = any_share(random, case.row.unwrap_or(0), precision);
-    [a, b, c, carries]
+    let word = below.map_or(0, |below| below.word(LARGEST_G));
+    let below = match with_below {
+        true => any_share(random, word, BELOW),
+        false => Mask::FREE,
+    };
+    [a, b, c, carries, below]
 }

@@ -2,6 +2,7 @@
 
 use second::arith::Adder;
 use second::choice::Job;
+use second::dropped::Dropped;
 use second::format::{Format, LARGEST_MODE};
 use second::mask::Mask;
 use second::random::Random;
@@ -37,8 +38,9 @@ fn job(random: &mut Random, (w, f): (u64, u64), kind: Kind) -> Job {
         Kind::Signs => 0,
         _ => random.below(2),
     };
-    // Toward zero nothing is rounded to infinity.
+    // Toward zero nothing is rounded to infinity, and ties go to even in mode 0 alone.
     let mode = match kind {
+        Kind::OddTie => 0,
         Kind::Overflow => [0, 2, 3, 4][random.below(4) as usize],
         _ => random.below(LARGEST_MODE + 1),
     };
@@ -58,6 +60,7 @@ fn relieved(job: &Job, kind: Kind) -> Option<Job> {
             let format = Format::new(conditions.w, conditions.f).expect("within the limits");
             conditions.c = without(conditions.c, exponent_field(format));
         }
+        Kind::OtherBelow | Kind::OddTie => conditions.dropped = Dropped::FREE,
         Kind::Carries => conditions.carries = Mask::FREE,
         _ => return None,
     }
@@ -137,7 +140,8 @@ fn whole_job(random: &mut Random, of_16: u64) -> WholeJob {
 #[cfg(test)]
 mod tests {
     use super::*;
-    use crate::kinds::{CANCELLED, KINDS};
+    use crate::kinds::{known, CANCELLED};
+    use second::fits::confirm;
 
     /// Whether the numbers that a case has are those of its kind: the exponent fields of a, b and
     /// c, and c without its sign, in a format with so many fraction bits and this infinity.
@@ -158,14 +162,19 @@ mod tests {
         let mut random = Random::new(1);
         for (w, f) in [(4, 23), (5, 10), (8, 23), (11, 52)] {
             let format = Format::new(w, f).expect("within the limits");
-            for (name, kind) in KINDS {
+            for (name, kind) in known() {
                 for drawn in jobs(&mut random, (w, f), kind, 20).0 {
                     let found = vindacsor::generate(&drawn.record);
                     assert!(
-                        kind == Kind::Mixed || found.is_err() == kind.is_impossible(),
+                        matches!(kind, Kind::Mixed { .. })
+                            || found.is_err() == kind.is_impossible(),
                         "{name}: {found:x?}"
                     );
-                    let is_of = |case| is_of(kind, &case, f, format.infinity());
+                    let conditions = &drawn.job.conditions;
+                    let is_of = |case: vindacsor::Case| {
+                        let fits = confirm(conditions, case.a, case.b, case.c);
+                        fits == Ok(true) && is_of(kind, &case, f, format.infinity())
+                    };
                     assert!(
                         found.is_ok_and(is_of) || found.is_err(),
                         "{name}: {found:x?}"

@@ -32,9 +32,20 @@ pub enum Kind {
     /// Half fixed around a true case of equal exponents and unlike effective signs, the carries
     /// too. The exponents are fixed, so they are equal in every case left.
     Opposed,
+    /// Half fixed around a true case that has dropped bits, these and the sticky bit too.
+    Below,
+    /// Half fixed around a tie, the dropped bits and the sticky bit wholly: so every case left is a
+    /// tie.
+    Tie,
+    /// Half fixed around a true case, the dropped bits and the sticky bit wholly, but one of them
+    /// to the other value, and no case: with these free there would be one.
+    OtherBelow,
+    /// A tie with ties going to even, by the dropped bits and the sticky bit, and the last bit of c
+    /// fixed to 1, nothing else: no case.
+    OddTie,
     /// Each mask, the carries' too, with its own share of fixed bits, from none to all, and around
-    /// a true case or not.
-    Mixed,
+    /// a true case or not; the dropped bits' too where that is said.
+    Mixed { below: bool },
 }
 
 /// How far c's exponent field stands below both operands' where digits are to cancel.
@@ -42,9 +53,14 @@ pub const CANCELLED: u64 = 3;
 
 pub const HALF_FIXED: (&str, Kind) = ("half fixed", fixed(8));
 pub const IMPOSSIBLE: (&str, Kind) = ("impossible (all fractions fixed)", Kind::Fractions);
+pub const MIXED: (&str, Kind) = ("any share of each mask fixed", Kind::Mixed { below: false });
+pub const MIXED_BELOW: (&str, Kind) = (
+    "any share of each mask fixed, dropped bits too",
+    Kind::Mixed { below: true },
+);
 /// Those of which z3 is asked for the smallest case, those of which it is asked whether there is
 /// one, and those with carry masks, of which it is not asked.
-pub const KINDS: [(&str, Kind); 14] = [
+pub const KINDS: [(&str, Kind); 19] = [
     ("sparse (1/16 of the bits fixed)", fixed(1)),
     HALF_FIXED,
     ("dense (7/8 fixed)", fixed(14)),
@@ -52,9 +68,13 @@ pub const KINDS: [(&str, Kind); 14] = [
     ("subnormal result", Kind::Subnormal),
     ("overflow", Kind::Overflow),
     ("c fixed, a and b free", Kind::Result),
+    ("half fixed, dropped bits too", Kind::Below),
+    ("a tie, all dropped bits fixed", Kind::Tie),
     IMPOSSIBLE,
     ("impossible (case 13: + and + give -)", Kind::Signs),
     ("impossible only by c's exponent", Kind::ExponentOfC),
+    ("impossible only by the dropped bits", Kind::OtherBelow),
+    ("impossible (a tie to an odd c)", Kind::OddTie),
     (
         "half fixed, carries too",
         Kind::Fixed {
@@ -64,7 +84,8 @@ pub const KINDS: [(&str, Kind); 14] = [
     ),
     ("equal exponents, carries too", Kind::Opposed),
     ("impossible only by the carries", Kind::Carries),
-    ("any share of each mask fixed", Kind::Mixed),
+    MIXED,
+    MIXED_BELOW,
 ];
 
 const fn fixed(of_16: u64) -> Kind {
@@ -79,15 +100,40 @@ impl Kind {
     pub fn has_carries(self) -> bool {
         matches!(
             self,
-            Kind::Fixed { carries: true, .. } | Kind::Opposed | Kind::Carries | Kind::Mixed
+            Kind::Fixed { carries: true, .. } | Kind::Opposed | Kind::Carries | Kind::Mixed { .. }
         )
+    }
+
+    /// Whether dropped bits are fixed.
+    fn has_below(self) -> bool {
+        matches!(
+            self,
+            Kind::Below | Kind::Tie | Kind::OtherBelow | Kind::OddTie | Kind::Mixed { below: true }
+        )
+    }
+
+    /// Whether the linked library takes its jobs: one that is older than W-206 refuses those that
+    /// ask for dropped bits.
+    pub fn is_known(self) -> bool {
+        const WITH_BELOW: [u8; 9] = [0x40, 3, 4, 0, 0, 1, 0, 0, 0];
+        !self.has_below() || vindacsor::read(&WITH_BELOW).is_ok()
     }
 
     /// Whether no job of the kind has a case.
     pub fn is_impossible(self) -> bool {
         matches!(
             self,
-            Kind::Fractions | Kind::Signs | Kind::ExponentOfC | Kind::Carries
+            Kind::Fractions
+                | Kind::Signs
+                | Kind::ExponentOfC
+                | Kind::OtherBelow
+                | Kind::OddTie
+                | Kind::Carries
         )
     }
+}
+
+/// The kinds whose jobs the linked library takes.
+pub fn known() -> impl Iterator<Item = (&'static str, Kind)> + Clone {
+    KINDS.into_iter().filter(|(_, kind)| kind.is_known())
 }

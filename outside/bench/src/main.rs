@@ -8,10 +8,12 @@
 //! search for the report is, 120 seconds by default.
 //!
 //! Where `VINDACSOR_LIBRARY` names an archive when this program is built, that is linked in place
-//! of target/staticlib/libvindacsor.a: so two builds can be timed one after the other.
+//! of target/staticlib/libvindacsor.a: so two builds can be timed one after the other. Kinds of
+//! jobs that an older one refuses are left out.
 
 mod case_13;
 mod conditions;
+mod dropped;
 mod jobs;
 mod kinds;
 mod options;

@@ -3,6 +3,8 @@
 use std::path::Path;
 use std::time::Duration;
 
+use second::dropped::Dropped;
+
 use crate::case_13::{self, Runs};
 use crate::options::Options;
 use crate::rows::Row;
@@ -51,11 +53,14 @@ fn comparison(version: &str, options: &Options, rows: &[Row]) -> String {
         "## Beside z3\n\n\
          {version}. It is started once and asked over its standard input, so its start is not in \
          the times. A job is three bit vectors under the masks, with c the IEEE 754 sum or \
-         difference (fp.add, fp.sub) in the job's mode and the one NaN. Of a job with a case z3's \
-         optimizer is asked for the smallest a exclusive-or the first random word, then b with the \
-         second; of an impossible one whether it has a case (QF_BVFP). These jobs have no carry \
-         mask: those with one are timed alone. A job may take z3 {} s; one that hits the limit \
-         counts with the time so far. Every answer that z3 gave is the generator's.\n\n\
+         difference (fp.add, fp.sub) in the job's mode and the one NaN. Dropped bits are written \
+         out in bit-vector operations: the smaller operand aligned to the larger with a sticky \
+         bit, their sum or difference in as few columns as serve, moved up until its leading 1 \
+         stands at the top. Of a job with a case z3's optimizer is asked for the smallest a \
+         exclusive-or the first random word, then b with the second; of an impossible one \
+         whether it has a case (QF_BVFP). These jobs have no carry mask: those with one are timed \
+         alone. A job may take z3 {} s; one that hits the limit counts with the time so far. Every \
+         answer that z3 gave is the generator's.\n\n\
          | Ratio of medians | Least ratio of a job | Jobs | z3 median | z3 mean | z3 largest | no answer \
          | answers alike | generator median | generator largest |\n\
          |---|---|---|---|---|---|---|---|---|---|\n",
@@ -121,7 +126,7 @@ pub fn slow(options: &Options, slowest: &[Slowest], time: Duration) -> String {
 }
 
 /// What is said of a slow job, line by line.
-const SLOW_LINES: [&str; 11] = [
+const SLOW_LINES: [&str; 12] = [
     "Format",
     "time",
     "reply",
@@ -131,6 +136,7 @@ const SLOW_LINES: [&str; 11] = [
     "b: care, value",
     "c: care, value",
     "carries: care, value",
+    "dropped bits: g, care, value",
     "random words",
     "changes tried",
 ];
@@ -147,6 +153,8 @@ fn lines_of(slowest: &Slowest) -> Vec<String> {
             .masks()
             .map(|mask| hexadecimal([mask.care, mask.value])),
     );
+    let Dropped { g, mask } = conditions.dropped;
+    lines.push(format!("{g} {}", hexadecimal([mask.care, mask.value])));
     lines.push(hexadecimal(slowest.job.words));
     lines.push(slowest.tried.to_string());
     lines
@@ -241,16 +249,20 @@ fn conditions(options: &Options, rows: &[Row]) -> String {
 }
 
 /// How the masks of the kinds are made, where their names do not tell it.
-const KINDS_MEAN: &str = "Operation and mode of a job are random, but case 13 is an addition and \
-    overflow has no mode toward zero. Masks are made around a true case, but with all fractions \
-    fixed and in case 13; with any share of each mask fixed, each has its own share, and one of four is \
-    made around no case. Where cancellation is needed c's exponent is fixed, and of a's and b's \
-    only the top bits are, so that each stays 3 or more above it. For a subnormal result c's exponent and a 1 of \
-    its fraction are fixed. For overflow c is fixed to infinity, but for its sign, and so is a 0 of each \
-    operand's exponent. Impossible only by c's exponent: this is fixed to another field than the \
-    true case's, and about a quarter of a's and b's exponents is fixed; only by the carries: one is fixed \
-    to the other value than the true case's. Without that both have a case. With equal exponents both \
-    are fixed, and the effective signs of the true case are unlike. All else in these is half fixed.";
+const KINDS_MEAN: &str = "Operation and mode of a job are random, but case 13 is an addition, \
+    overflow has no mode toward zero, and a tie to an odd c has mode 0. Masks are made around a \
+    true case, but with all fractions fixed, in case 13 and for a tie to an odd c; with any share \
+    of each mask fixed, each has its own share, and one of four is made around no case. Where \
+    cancellation is needed c's exponent is fixed, and of a's and b's only the top bits are, so \
+    that each stays 3 or more above it. For a subnormal result c's exponent and a 1 of its \
+    fraction are fixed. For overflow c is fixed to infinity, but for its sign, and so is a 0 of \
+    each operand's exponent. Impossible only by c's exponent: this is fixed to another field than \
+    the true case's, and about a quarter of a's and b's exponents is fixed; only by the carries: \
+    one is fixed to the other value than the true case's; only by the dropped bits: all are fixed, \
+    one of them to the other value. Without that all three have a case. With equal exponents both \
+    are fixed, and the effective signs of the true case are unlike. There are 8 dropped bits, \
+    beside the sticky bit; in a tie the first is 1, and all else 0. All else in these is half \
+    fixed. For a tie to an odd c only the dropped bits and the last bit of c are fixed.";
 
 /// What was linked: the library that the toolchain writes, or the file that a variable names.
 fn library() -> String {

@@ -121,10 +121,14 @@ pub fn case_rows(
     for format in FORMATS {
         for (name, kind) in KINDS {
             let count = match kind {
-                Kind::Mixed => MIXED * count,
+                Kind::Mixed { .. } => MIXED * count,
                 _ => count,
             };
-            rows.push(row(random, solver, format, (name, kind), count)?);
+            // A row has its own sequence, so that its jobs are the same whatever others there are.
+            let mut random = Random::new(random.word());
+            if kind.is_known() {
+                rows.push(row(&mut random, solver, format, (name, kind), count)?);
+            }
         }
     }
     for format in WIDE_FRACTIONS {

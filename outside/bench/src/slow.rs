@@ -9,7 +9,7 @@ use second::choice::Job;
 use second::random::Random;
 
 use crate::jobs::{jobs, Recorded};
-use crate::kinds::KINDS;
+use crate::kinds::known;
 use crate::steps::changed;
 use crate::times::{least, least_of};
 
@@ -49,8 +49,8 @@ struct Search {
 impl Search {
     /// Random jobs, of every kind in turn.
     fn beginnings(&mut self, format: (u64, u64)) -> Vec<Timed> {
-        let kinds = KINDS.iter().cycle().take(BEGINNINGS);
-        let jobs = kinds.flat_map(|&(_, kind)| jobs(&mut self.random, format, kind, 1).0);
+        let kinds = known().cycle().take(BEGINNINGS);
+        let jobs = kinds.flat_map(|(_, kind)| jobs(&mut self.random, format, kind, 1).0);
         jobs.map(|job| Timed {
             time: time(&job),
             job,

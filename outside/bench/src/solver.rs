@@ -1,7 +1,8 @@
 //! z3, run once and asked many jobs over its standard input, so that its start is not timed.
-//! A job is a and b as bit vectors with c the floating-point sum, under the masks. Of a job that
-//! has a case the smallest a exclusive-or the first random word is asked for, then b with the
-//! second, by z3's optimizer; of an impossible one only whether it has a case.
+//! A job is a and b as bit vectors with c the floating-point sum, under the masks; dropped bits are
+//! written out in bit-vector operations. Of a job that has a case the smallest a exclusive-or the
+//! first random word is asked for, then b with the second, by z3's optimizer; of an impossible one
+//! only whether it has a case.
 
 use std::io::{BufRead, BufReader, Write};
 use std::process::{Child, ChildStdin, Command, Stdio};
@@ -12,6 +13,8 @@ use std::time::{Duration, Instant};
 use second::choice::Job;
 use second::format::Format;
 use second::mask::Mask;
+
+use crate::dropped;
 
 /// What z3 said of a job.
 #[derive(Debug, PartialEq, Eq)]
@@ -121,16 +124,16 @@ impl Drop for Solver {
 
 const END: &str = "end of job";
 
-fn literal(word: u64, width: u32) -> String {
+pub fn literal(word: u64, width: u32) -> String {
     format!("(_ bv{word} {width})")
 }
 
-fn meets(name: &str, mask: Mask, width: u32) -> String {
+pub fn meets(name: &str, mask: Mask, width: u32) -> String {
     let [care, value] = [mask.care, mask.value].map(|word| literal(word, width));
     format!("(assert (= (bvand {name} {care}) {value}))\n")
 }
 
-/// The job for z3: declarations, masks, the sum, the objectives and the question.
+/// The job for z3: declarations, masks, the sum, dropped bits, the objectives and the question.
 fn script(job: &Job, has_case: bool) -> String {
     let conditions = &job.conditions;
     let format = Format::new(conditions.w, conditions.f).expect("within the limits");
@@ -157,6 +160,7 @@ fn script(job: &Job, has_case: bool) -> String {
          (assert (= ((_ to_fp {float}) c) s))\n\
          (assert (=> (fp.isNaN s) (= c {nan})))\n"
     );
+    script += &dropped::question(job);
     if has_case {
         for (name, word) in [("a", job.words[0]), ("b", job.words[1])] {
             let word = literal(word, width);
@@ -185,4 +189,61 @@ fn word(text: &str) -> Option<u64> {
         return u64::from_str_radix(digits, 16).ok();
     }
     u64::from_str_radix(text.strip_prefix("#b")?, 2).ok()
+}
+
+#[cfg(test)]
+mod tests {
+    use super::*;
+    use second::choice::{free_bits, generate};
+    use second::random::Random;
+    use second::sample::{all_but_few, dropped_job};
+
+    /// Jobs that ask for dropped bits and for no carries, of a format, with so few bits of a and b
+    /// free that all pairs can be tried.
+    fn jobs(random: &mut Random, (w, f): (u64, u64), count: usize) -> Vec<Job> {
+        let draw = || {
+            let numbers = [w, f, random.below(2), random.below(5)];
+            let mut job = dropped_job(random, numbers, all_but_few(numbers));
+            job.conditions.carries = Mask::FREE;
+            job
+        };
+        let is_few = |job: &Job| {
+            let adder = job.check().expect("a well-made job");
+            free_bits(&job.conditions, &adder) <= 14
+        };
+        std::iter::repeat_with(draw)
+            .filter(is_few)
+            .take(count)
+            .collect()
+    }
+
+    /// Where z3 is installed, its answers are those of trying all pairs.
+    #[test]
+    fn answers_are_those_of_all_pairs() {
+        if version().is_none() {
+            return;
+        }
+        let mut solver = Solver::start(Duration::from_secs(60)).expect("z3 starts");
+        let (mut random, mut found) = (Random::new(0xD206), 0);
+        for (format, count) in [
+            ((2, 2), 150),
+            ((3, 4), 150),
+            ((5, 10), 60),
+            ((8, 23), 30),
+            ((11, 52), 10),
+        ] {
+            for job in jobs(&mut random, format, count) {
+                let case = generate(&job);
+                let wanted = match case {
+                    Ok(case) => Said::Case(case.a, case.b),
+                    Err(_) => Said::None,
+                };
+                let (said, _) = solver.ask(&job, case.is_ok()).expect("z3 answers");
+                assert_eq!(said, wanted, "{job:x?}");
+                found += u32::from(case.is_ok());
+            }
+        }
+        println!("{found} found");
+        assert!((100..300).contains(&found), "{found}");
+    }
 }

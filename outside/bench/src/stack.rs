@@ -7,7 +7,7 @@ use std::hint::black_box;
 use second::random::Random;
 
 use crate::jobs::{jobs, whole_jobs};
-use crate::kinds::KINDS;
+use crate::kinds::known;
 
 /// How much is painted. A reply that took all of it would not be measured.
 const PAINTED: usize = 1024 * 1024;
@@ -64,8 +64,8 @@ fn depth<R>(call: impl FnOnce() -> R) -> usize {
 }
 
 fn measured(seed: u64, count: usize) -> Stacks {
-    let mut random = Random::new(seed);
     let deepest = |(name, kind)| {
+        let mut random = Random::new(seed);
         let bytes = FORMATS.map(|format| {
             let (drawn, _) = jobs(&mut random, format, kind, count);
             let depths = drawn
@@ -75,8 +75,8 @@ fn measured(seed: u64, count: usize) -> Stacks {
         });
         Deepest { name, bytes }
     };
-    let cases = KINDS.into_iter().map(deepest).collect();
-    let whole = whole_jobs(&mut random, 8, true, count)
+    let cases = known().map(deepest).collect();
+    let whole = whole_jobs(&mut Random::new(seed), 8, true, count)
         .iter()
         .map(|job| depth(|| vindacsor::whole(job)))
         .max();

@@ -1,7 +1,9 @@
 //! Random changes of a job that leave it well made.
 
 use second::choice::Job;
-use second::format::{ones, Format, LARGEST_MODE};
+use second::dropped::Dropped;
+use second::format::{ones, Format, LARGEST_G, LARGEST_MODE};
+use second::mask::Mask;
 use second::random::Random;
 
 use crate::conditions::{exponent_field, with, without};
@@ -30,19 +32,43 @@ fn change(random: &mut Random, job: &mut Job) {
     }
 }
 
-/// Frees some bits of a mask, fixes them, or turns those that are fixed.
+/// Changes one of the masks.
 fn change_mask(random: &mut Random, job: &mut Job, format: Format) {
-    let place = random.below(4) as usize;
+    let place = random.below(5) as usize;
+    if place == 4 {
+        let dropped = &mut job.conditions.dropped;
+        *dropped = changed_dropped(random, *dropped, format);
+        return;
+    }
     let width = [format.width(), format.precision()][place / 3];
     let bits = some_bits(random, format, width);
     let mask = &mut *job.conditions.masks_mut()[place];
-    *mask = match random.below(5) {
-        0 => without(*mask, bits),
-        1 => with(*mask, random.word(), bits),
-        2 => with(*mask, 0, bits),
-        3 => with(*mask, bits, bits),
-        _ => with(*mask, !mask.value, bits & mask.care),
+    *mask = changed_mask(random, *mask, bits);
+}
+
+/// Frees some bits of a mask, fixes them, or turns those that are fixed.
+fn changed_mask(random: &mut Random, mask: Mask, bits: u64) -> Mask {
+    match random.below(5) {
+        0 => without(mask, bits),
+        1 => with(mask, random.word(), bits),
+        2 => with(mask, 0, bits),
+        3 => with(mask, bits, bits),
+        _ => with(mask, !mask.value, bits & mask.care),
     }
+}
+
+/// Changes the mask of the dropped bits, and every fourth time how many these are; there are any
+/// number of them where none was fixed.
+fn changed_dropped(random: &mut Random, dropped: Dropped, format: Format) -> Dropped {
+    let mut g = dropped.g;
+    if dropped == Dropped::FREE || random.one_in(4) {
+        g = random.below(LARGEST_G + 1);
+    }
+    let width = g as u32 + 1;
+    let bits = some_bits(random, format, width);
+    let mask = without(dropped.mask, !ones(width));
+    let mask = changed_mask(random, mask, bits);
+    Dropped { g, mask }.taken()
 }
 
 /// One bit, some in a row, or a field of a word or all of it, as far as that lies in so many bits.

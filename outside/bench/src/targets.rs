@@ -2,7 +2,7 @@
 
 use std::time::Duration;
 
-use crate::kinds::Kind;
+use crate::kinds::{Kind, MIXED, MIXED_BELOW};
 use crate::rows::{Row, DOUBLE};
 use crate::times::{plain, text};
 
@@ -46,7 +46,10 @@ pub fn section(rows: &[Row]) -> String {
     for faster in FASTER {
         table += &faster.line(rows);
     }
-    table + &bounded(rows)
+    for kind in [MIXED, MIXED_BELOW] {
+        table += &bounded(rows, kind);
+    }
+    table
 }
 
 fn met(holds: bool) -> &'static str {
@@ -90,13 +93,13 @@ impl Faster {
     }
 }
 
-/// The line of the bound on a single job.
-fn bounded(rows: &[Row]) -> String {
+/// The line of the bound on a single job of a kind.
+fn bounded(rows: &[Row], (name, kind): (&str, Kind)) -> String {
     let target = format!(
-        "No job of {JOBS} in double precision, with any share of each mask fixed, over {}",
+        "No job of {JOBS} in double precision, with {name}, over {}",
         text(BOUND)
     );
-    let asked = Some((DOUBLE.0, Kind::Mixed));
+    let asked = Some((DOUBLE.0, kind));
     let Some(row) = rows.iter().find(|row| row.subject == asked) else {
         return format!("| {target} | - | not asked |\n");
     };

@@ -10,7 +10,7 @@ use std::process::{Command, Stdio};
 use second::random::Random;
 
 use crate::jobs::{jobs, Recorded};
-use crate::kinds::KINDS;
+use crate::kinds::known;
 
 /// The word on the command line after which the file of records stands.
 pub const REPLAY: &str = "--replay";
@@ -159,7 +159,7 @@ fn all(folder: &Path, seed: u64, count: usize) -> Result<Vec<Counts>, String> {
         }
         Ok(Counts { name, means })
     };
-    KINDS.into_iter().map(row).collect()
+    known().map(row).collect()
 }
 
 /// The counts for every kind, or nothing where valgrind is not installed.

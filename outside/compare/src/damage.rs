@@ -1,10 +1,12 @@
 //! Numbers, words, masks and files that are not as they should be, or nearly.
 
 use second::choice::Job;
-use second::format::{LARGEST_F, LARGEST_MODE, LARGEST_W};
+use second::dropped::Dropped;
+use second::format::{LARGEST_F, LARGEST_G, LARGEST_MODE, LARGEST_W};
+use second::malform::{malform_job, MASKS};
+use second::mask::Mask;
 use second::random::Random;
-use second::record::{map_of, unchecked, word_bytes};
-use second::sample::malform_job;
+use second::record::{dropped_bytes, map_of, unchecked, word_bytes};
 
 /// A number up to just above a limit, or any.
 pub fn damaged_number(random: &mut Random, limit: u64) -> u64 {
@@ -33,24 +35,50 @@ pub fn damaged_word(random: &mut Random, word: u64, width: u32) -> u64 {
 /// A record of full length with any two bytes for w and f, by which its words have four or eight
 /// bytes. Its fields are good ones but for a few.
 pub fn raw_record(random: &mut Random, w: u8, f: u8) -> Vec<u8> {
-    let map = random.bits(6) as u8;
+    let map = random.bits(7) as u8;
     let word_bytes = word_bytes(u64::from(w), u64::from(f));
     let mut record = vec![map, w, f, random.below(2) as u8];
-    for bit in (0..6).filter(|bit| map >> bit & 1 == 1) {
-        if bit == 4 {
-            record.push(1 + random.below(4) as u8);
-            continue;
-        }
-        for low in [3, random.bits(2) as u8] {
-            let end = record.len() + word_bytes;
-            record.push(low);
-            record.resize(end, 0);
-            if random.one_in(32) {
-                record[end - 1] = random.bits(8) as u8;
-            }
+    for bit in (0..7).filter(|bit| map >> bit & 1 == 1) {
+        match bit {
+            4 => record.push(1 + random.below(4) as u8),
+            6 => record.extend(dropped_field(random)),
+            _ => put_words(random, &mut record, word_bytes),
         }
     }
     record
+}
+
+/// Adds two words that a mask of two bits can be; the top byte of a few is any.
+fn put_words(random: &mut Random, record: &mut Vec<u8>, word_bytes: usize) {
+    for low in [3, random.bits(2) as u8] {
+        let end = record.len() + word_bytes;
+        record.push(low);
+        record.resize(end, 0);
+        if random.one_in(32) {
+            record[end - 1] = random.bits(8) as u8;
+        }
+    }
+}
+
+/// g, care and value of the dropped bits, as a record states them: good ones but for a few, which
+/// have a g just above its limit or any, nothing in care, with a value or without, a bit just above
+/// the width, or any bytes.
+pub fn dropped_field(random: &mut Random) -> [u8; 5] {
+    let mut g = random.below(LARGEST_G + 1);
+    let mut care = 1 + random.below((2 << g) - 1);
+    let mut value = random.bits(9) & care;
+    match random.below(16) {
+        0 => g = LARGEST_G + 1,
+        1 => g = random.bits(8),
+        2 => [care, value] = [0, 0],
+        3 => care = 0,
+        4 => care |= 2 << g,
+        5 => value |= 2 << g,
+        6 => [care, value] = [0, 1].map(|_| random.bits(16)),
+        _ => {}
+    }
+    let mask = Mask { care, value };
+    dropped_bytes(&Dropped { g, mask })
 }
 
 /// A record with any bytes for w and f, most often near their limits or such that w + f + 1 is
@@ -74,19 +102,19 @@ pub fn any_raw_record(random: &mut Random) -> Vec<u8> {
     record
 }
 
-/// One to four of a job's four masks, as a set whose bit 0 stands for the first.
-pub fn some_masks(random: &mut Random) -> u64 {
-    1 + random.below(15)
+/// One or more of so many masks, as a set whose bit 0 stands for the first.
+pub fn some_masks(random: &mut Random, count: u64) -> u64 {
+    1 + random.below((1 << count) - 1)
 }
 
-/// The record of a job with one to four of its masks malformed. Every second time there is another
+/// The record of a job with one or more of its masks malformed. Every second time there is another
 /// fault beside them, or nearly: a number near or above its limit, a random word that is too wide,
-/// a field that says its default, or damaged bytes.
+/// a field that says its default, a g beside nothing fixed, or damaged bytes.
 pub fn malformed_record(random: &mut Random, job: &Job) -> Vec<u8> {
     let mut job = *job;
-    let set = some_masks(random);
+    let set = some_masks(random, MASKS);
     malform_job(random, &mut job, set);
-    let fault = random.below(14);
+    let fault = random.below(16);
     let c = &mut job.conditions;
     let width = (c.w + c.f + 1) as u32;
     match fault {
@@ -95,11 +123,16 @@ pub fn malformed_record(random: &mut Random, job: &Job) -> Vec<u8> {
         2 => c.operation = damaged_number(random, 1),
         3 => c.mode = damaged_number(random, LARGEST_MODE),
         4 => job.words[random.below(2) as usize] = damaged_word(random, 0, width),
+        5 if c.dropped == Dropped::FREE => c.dropped.g = near(random, LARGEST_G),
         _ => {}
     }
-    let more = if fault == 5 { random.bits(6) } else { 0 };
-    let mut record = unchecked(map_of(&job) | more as u8, &job);
-    if fault == 6 {
+    let more = match fault {
+        5 => 0x40,
+        6 => random.bits(7) as u8,
+        _ => 0,
+    };
+    let mut record = unchecked(map_of(&job) | more, &job);
+    if fault == 7 {
         damage_file(random, &mut record);
     }
     record

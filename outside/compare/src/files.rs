@@ -2,11 +2,14 @@
 
 use second::arith::{every_setting, Adder};
 use second::choice::{free_bits, generate, Job};
-use second::fits::{confirm, Case, Conditions};
+use second::dropped::Dropped;
+use second::fits::{confirm, Case, Computed, Conditions};
 use second::format::{Refusal, CUT_SHORT};
 use second::random::Random;
 use second::record::{encode, read, Reply};
-use second::sample::{all_but_few, job, numbers, opposed_job, pair, unrelated_job};
+use second::sample::{
+    all_but_few, dropped_job, dropping_pair, job, numbers, opposed_job, pair, unrelated_job,
+};
 use second::signs::refusal;
 use second::table::Table;
 use vindacsor::buffer;
@@ -42,10 +45,14 @@ pub fn returned(record: &[u8], [a, b, c]: [u64; 3]) -> [u64; 3] {
     numbers
 }
 
-/// A job of any format; about `care` of 64 bits are fixed in the masks of a and b.
+/// A job of any format; about `care` of 64 bits are fixed in the masks of a and b. One in four asks
+/// for dropped bits of a chosen kind.
 fn any_job(random: &mut Random, care: u64) -> Job {
     let numbers = numbers(random);
-    job(random, numbers, care)
+    match random.below(4) {
+        0 => dropped_job(random, numbers, care),
+        _ => job(random, numbers, care),
+    }
 }
 
 /// The numbers of a case.
@@ -137,7 +144,8 @@ pub fn readings(random: &mut Random, count: u64) -> Result<Tally, String> {
 fn proposed(random: &mut Random, job: &Job, adder: &Adder) -> [u64; 3] {
     let width = adder.format.width();
     let masks = &job.conditions;
-    let (mut a, mut b) = pair(random, adder.format);
+    let draw = [pair, dropping_pair][random.below(2) as usize];
+    let (mut a, mut b) = draw(random, adder.format);
     if !random.one_in(4) {
         a = a & !masks.a.care | masks.a.value;
         b = b & !masks.b.care | masks.b.value;
@@ -152,6 +160,21 @@ fn proposed(random: &mut Random, job: &Job, adder: &Adder) -> [u64; 3] {
     case
 }
 
+/// Asks of c and of the dropped bits what a case has, where its operands are words of the format.
+fn ask_for(conditions: &mut Conditions, adder: &Adder, [a, b, c]: [u64; 3]) {
+    conditions.c.value = c & conditions.c.care;
+    let are_words = [a, b]
+        .iter()
+        .all(|&word| adder.format.check_word(word).is_ok());
+    if !are_words {
+        return;
+    }
+    if let Some(below) = Computed::of(adder, a, b).below {
+        let Dropped { g, mask } = &mut conditions.dropped;
+        mask.value = below.word(*g) & mask.care;
+    }
+}
+
 /// Confirmation, on `count` calls.
 pub fn confirmations(random: &mut Random, count: u64) -> Result<Tally, String> {
     let mut tally = Tally::default();
@@ -163,9 +186,9 @@ pub fn confirmations(random: &mut Random, count: u64) -> Result<Tally, String> {
         }
         let adder = job.check().expect("a well-made job");
         let [a, b, c] = proposed(random, &job, &adder);
-        // Every second job asks of c only what this case has.
+        // Every second job asks of c and of the dropped bits only what this case has.
         if random.one_in(2) {
-            job.conditions.c.value = c & job.conditions.c.care;
+            ask_for(&mut job.conditions, &adder, [a, b, c]);
         }
         let file = perhaps_damaged(random, &job);
         let reply = job_in(&file)
@@ -233,6 +256,14 @@ pub fn small_opposed_generations(random: &mut Random, each: u64) -> Result<Tally
     small(random, each, |random, numbers, _| {
         let care = 8 * random.below(6);
         opposed_job(random, numbers, care)
+    })
+}
+
+/// Jobs around a case with chosen bits below its last one, some of which are always fixed.
+pub fn small_dropped_generations(random: &mut Random, each: u64) -> Result<Tally, String> {
+    small(random, each, |random, numbers, _| {
+        let care = 8 * random.below(6);
+        dropped_job(random, numbers, care)
     })
 }
 
@@ -308,4 +339,9 @@ pub fn wide_generations(random: &mut Random, count: u64) -> Result<Tally, String
 /// Jobs around a case with equal exponents and unlike effective signs; the exponents are fixed.
 pub fn wide_opposed_generations(random: &mut Random, count: u64) -> Result<Tally, String> {
     wide(random, count, opposed_job)
+}
+
+/// Jobs around a case with chosen bits below its last one, some of which are always fixed.
+pub fn wide_dropped_generations(random: &mut Random, count: u64) -> Result<Tally, String> {
+    wide(random, count, dropped_job)
 }

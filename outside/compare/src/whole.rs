@@ -1,8 +1,8 @@
 //! The whole-number generator.
 
+use second::malform::{malform_whole_job, WHOLE_MASKS};
 use second::mask::Mask;
 use second::random::Random;
-use second::sample::malform_whole_job;
 use second::whole::{generate_whole, WholeCase, WholeJob, LARGEST_N};
 use vindacsor::buffer;
 
@@ -72,7 +72,7 @@ fn short_job(random: &mut Random) -> WholeJob {
 fn damage(random: &mut Random, job: &mut WholeJob) {
     let n = job.n as u32;
     if !random.one_in(4) {
-        let set = some_masks(random);
+        let set = some_masks(random, WHOLE_MASKS);
         malform_whole_job(random, job, set);
     }
     if random.one_in(4) {

@@ -1,6 +1,7 @@
-//! Which mask is malformed (document 02, W-203), wherever masks are taken. Any of the four of a job
-//! may be: the number is that of the first, in the order a, b, c, carries, or x, y, z, carries, by
-//! the paper and by the second implementation. Lent bytes are then as they were.
+//! Which mask is malformed (document 02, W-203 and W-206), wherever masks are taken. Any of the
+//! masks of a job may be: the number is that of the first, in the order a, b, c, carries, dropped
+//! bits, or x, y, z, carries, by the paper and by the second implementation. Lent bytes are then as
+//! they were.
 
 use compare::call::Part;
 use compare::files::{confirmations, readings, returned, wide_generations};
@@ -11,15 +12,16 @@ use second::choice::{generate, Job};
 use second::fits::Conditions;
 use second::format::Refusal;
 use second::listing::listing;
+use second::malform::{malform_job, malform_whole_job, MASKS, WHOLE_MASKS};
 use second::mask::Mask;
 use second::random::Random;
 use second::record::{map_of, read, unchecked, word_bytes, Reply};
-use second::sample::{job, malform_job, malform_whole_job, numbers, zeros};
+use second::sample::{job, numbers, zeros};
 use second::whole::{generate_whole, WholeJob};
 use vindacsor::buffer;
 
-/// The numbers of the four masks, in the order of the masks.
-const NUMBERS: [u64; 4] = [5, 14, 15, 16];
+/// The numbers of the masks, in the order of the masks; whole numbers have all but the last.
+const NUMBERS: [u64; 5] = [5, 14, 15, 16, 17];
 
 /// The number for a set of malformed masks, whose bit 0 stands for the first mask; none where the
 /// set is empty.
@@ -32,13 +34,12 @@ fn bytes(job: &Job) -> Vec<u8> {
     unchecked(map_of(job), job)
 }
 
-/// Any format, every set of one to four malformed masks. Proposed words that are too wide come
-/// after the masks.
+/// Any format, every set of malformed masks. Proposed words that are too wide come after the masks.
 #[test]
 fn records_of_any_format() {
     let mut random = Random::new(0x5141);
     for n in 0..3000 {
-        let set = 1 + n % 15;
+        let set = 1 + n % 31;
         let (numbers, care) = (numbers(&mut random), 8 * random.below(9));
         let mut job = job(&mut random, numbers, care);
         malform_job(&mut random, &mut job, set);
@@ -63,9 +64,10 @@ fn small_job(random: &mut Random, set: u64) -> Job {
     job
 }
 
-/// Each set of malformed masks, the empty one too, several times over.
-fn sets() -> impl Iterator<Item = u64> {
-    (0..160).map(|n| n % 16)
+/// Each set of malformed masks, the empty one too, several times over, where there are so many
+/// masks.
+fn sets(masks: u64) -> impl Iterator<Item = u64> {
+    (0..10 << masks).map(move |n| n % (1 << masks))
 }
 
 /// A number, and what brings it about in a job.
@@ -82,7 +84,7 @@ const BEFORE: [Fault; 4] = [
 #[test]
 fn other_faults_before_the_masks() {
     let mut random = Random::new(0x1405);
-    for set in sets() {
+    for set in sets(MASKS) {
         for (wanted, fault) in BEFORE {
             let mut job = small_job(&mut random, set);
             fault(&mut job);
@@ -90,7 +92,7 @@ fn other_faults_before_the_masks() {
         }
         let mut file = bytes(&small_job(&mut random, set));
         assert_eq!(returned(&file[..file.len() - 1], [0; 3]), [8; 3]);
-        file[0] |= 0x40;
+        file[0] |= 0x80;
         assert_eq!(returned(&file, [0; 3]), [9; 3]);
     }
 }
@@ -98,7 +100,7 @@ fn other_faults_before_the_masks() {
 #[test]
 fn other_faults_after_the_masks() {
     let mut random = Random::new(0x1606);
-    for set in sets() {
+    for set in sets(MASKS) {
         let mut job = small_job(&mut random, set);
         let wanted = |others: [u64; 3]| number(set).map_or(others, |number| [number; 3]);
         // No case fits.
@@ -118,7 +120,7 @@ fn other_faults_after_the_masks() {
 #[test]
 fn listed_by_number() {
     let mut random = Random::new(0x1157);
-    for set in sets().filter(|&set| set > 0) {
+    for set in sets(MASKS).filter(|&set| set > 0) {
         let job = small_job(&mut random, set);
         let file = [&[0, 3, 4, 0], &bytes(&job)[..], &[0, 3, 4, 0]].concat();
         let found = "1 found 00000000 00000000 00000000 00000000";
@@ -129,7 +131,7 @@ fn listed_by_number() {
     }
 }
 
-/// What reading returns where one mask alone fixes one bit.
+/// What reading returns where one of the first four masks alone fixes one bit.
 fn read_with_bit((w, f): (u64, u64), place: usize, bit: u64) -> u64 {
     let mut conditions = Conditions::free(w, f, 0, 0);
     let care = 1 << bit;
@@ -166,7 +168,7 @@ fn whole_number(job: &WholeJob) -> u64 {
 #[test]
 fn whole_numbers() {
     let mut random = Random::new(0x3012);
-    for set in sets() {
+    for set in sets(WHOLE_MASKS) {
         for n in [1, 2, 31, 32] {
             let mut job = zeros(n);
             malform_whole_job(&mut random, &mut job, set);
@@ -219,14 +221,15 @@ fn joined_masks() {
     }
 }
 
-/// The random calls come to each of the four masks, wherever masks are taken.
+/// The random calls come to each of the masks, wherever masks are taken.
 #[test]
 fn random_calls_reach_every_mask() {
-    let whole_numbers = whole::generations;
-    let parts: [Part; 4] = [readings, confirmations, wide_generations, whole_numbers];
-    for part in parts {
+    let of_cases: [Part; 3] = [readings, confirmations, wide_generations];
+    let parts = of_cases.map(|part| (part, &NUMBERS[..]));
+    let whole_numbers: (Part, _) = (whole::generations, &NUMBERS[..4]);
+    for (part, numbers) in parts.into_iter().chain([whole_numbers]) {
         let tally = part(&mut Random::new(0x7A11), 4000).expect("alike");
-        let reached = NUMBERS.map(|number| tally.refused(number as Refusal));
-        assert!(!reached.contains(&0), "{reached:?}");
+        let reached = |&number: &u64| tally.refused(number as Refusal) > 0;
+        assert!(numbers.iter().all(reached));
     }
 }

@@ -4,6 +4,7 @@
 //! here as `jobs.rt` of that program draws them.
 
 use second::choice::Job;
+use second::dropped::Dropped;
 use second::fits::Conditions;
 use second::format::ones;
 use second::mask::Mask;
@@ -51,6 +52,14 @@ fn random(width: u32, state: u64) -> u64 {
     }
 }
 
+fn dropped(state: u64) -> Dropped {
+    let g = state / 48 % 37 / 4;
+    Dropped {
+        g,
+        mask: mask(g as u32 + 1, state),
+    }
+}
+
 fn job(state: u64) -> Job {
     let (w, f) = (2 + state % 10, 2 + state / 10 % 51);
     let [width, precision] = [w + f + 1, f + 1].map(|width| width as u32);
@@ -59,12 +68,13 @@ fn job(state: u64) -> Job {
     conditions.b = mask(width, after(state, 3));
     conditions.c = mask(width, after(state, 5));
     conditions.carries = mask(precision, after(state, 7));
+    conditions.dropped = dropped(after(state, 11));
     let words = [9, 10].map(|steps| random(width, after(state, steps)));
     Job { conditions, words }
 }
 
 /// The bytes of every buffer.
-const BUFFER: usize = 88;
+const BUFFER: usize = 92;
 
 /// The room for a record: the whole buffer, or in one of four cases any part of it.
 fn room(state: u64) -> usize {
@@ -86,7 +96,7 @@ fn line(state: u64) -> String {
 }
 
 fn lines() -> Vec<String> {
-    let states = std::iter::successors(Some(after(1, 11)), |&state| Some(after(state, 11)));
+    let states = std::iter::successors(Some(after(1, 13)), |&state| Some(after(state, 13)));
     states.take(JOBS).map(line).collect()
 }
 
@@ -100,8 +110,8 @@ fn every_byte_is_alike() {
     }
 }
 
-/// The jobs are worth comparing: most of the 64 map bytes, every w and f, both operations, and
-/// records that find no room or have malformed masks.
+/// The jobs are worth comparing: most of the 128 map bytes, every w, all f but one, both operations,
+/// and records that find no room or have malformed masks.
 #[test]
 fn the_jobs_are_many_kinds() {
     let bytes = |line: &String| line.split(' ').nth(2).map(str::to_string);
@@ -117,10 +127,10 @@ fn the_jobs_are_many_kinds() {
         all.len()
     };
     assert!((300..JOBS).contains(&written.len()), "{}", written.len());
-    for number in [5, 11, 14, 15, 16] {
+    for number in [5, 11, 14, 15, 16, 17] {
         let refused = format!("refused {number} ");
         assert!(lines().iter().any(|line| line.starts_with(&refused)));
     }
-    assert!(kinds(0) > 50, "{} maps", kinds(0));
-    assert_eq!([kinds(2), kinds(4), kinds(6)], [10, 51, 2]);
+    assert!(kinds(0) > 90, "{} maps", kinds(0));
+    assert_eq!([kinds(2), kinds(4), kinds(6)], [10, 50, 2]);
 }

@@ -6,6 +6,7 @@ use compare::damage::raw_record;
 use compare::files::whole_reading;
 use compare::program::listed;
 use second::choice::{generate, Job};
+use second::dropped::Dropped;
 use second::fits::Conditions;
 use second::listing::listing;
 use second::mask::Mask;
@@ -35,18 +36,23 @@ fn every_w_and_f() {
     }
 }
 
-/// A job that states everything, with all bits of a, b and c fixed around the sum of two zeros.
+/// A job that states everything, with all bits fixed around the sum of the smallest normal number
+/// and zero.
 fn full_job(w: u8, f: u8) -> Job {
-    let ones = |width: u8| Mask {
+    let all = |width: u8, value| Mask {
         care: u64::MAX >> (64 - width),
-        value: 0,
+        value,
     };
     let mut conditions = Conditions::free(u64::from(w), u64::from(f), 0, 1);
-    conditions.a = ones(w + f + 1);
-    conditions.b = ones(w + f + 1);
-    conditions.c = ones(w + f + 1);
-    conditions.carries = ones(f + 1);
-    let words = [ones(w + f + 1).care; 2];
+    conditions.a = all(w + f + 1, 1 << f);
+    conditions.b = all(w + f + 1, 0);
+    conditions.c = all(w + f + 1, 1 << f);
+    conditions.carries = all(f + 1, 0);
+    conditions.dropped = Dropped {
+        g: 8,
+        mask: all(9, 0),
+    };
+    let words = [all(w + f + 1, 0).care; 2];
     Job { conditions, words }
 }
 
@@ -56,18 +62,21 @@ fn longest_records() {
     for (w, f) in NEAR_BORDER {
         let record = encode(&full_job(w, f)).expect("a well-made job");
         let long = u32::from(w) + u32::from(f) + 1 > 32;
-        assert_eq!(record.len(), if long { LONGEST_RECORD } else { 45 });
+        assert_eq!(record.len(), if long { LONGEST_RECORD } else { 50 });
+        assert_eq!(LONGEST_RECORD, vindacsor::LONGEST_RECORD);
         assert_eq!(vindacsor::read(&record), Ok(Some(record.len())));
         for length in 1..record.len() {
             let cut = vindacsor::read(&record[..length]);
             assert_eq!(cut, Err(vindacsor::Refusal(8)));
         }
         let case = vindacsor::generate(&record).expect("a case");
-        assert_eq!((case.a, case.b, case.c, case.row), (0, 0, 0, Some(0)));
+        let smallest = 1 << f;
+        assert_eq!((case.a, case.b, case.c), (smallest, 0, smallest));
+        assert_eq!(case.row, Some(0));
     }
 }
 
-/// Zeros have the digits that their format asks for, in files of jobs that fix nothing or all.
+/// Words have the digits that their format asks for, in files of jobs that fix nothing or all.
 #[test]
 fn digits_go_by_the_format() {
     for (w, f) in NEAR_BORDER {

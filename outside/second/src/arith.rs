@@ -102,6 +102,16 @@ impl Adder {
         }
     }
 
+    /// The magnitude of the exact result, in smallest steps; none where an operand is infinite or
+    /// a NaN.
+    pub fn exact(&self, a: u64, b: u64) -> Option<Wide> {
+        let b = self.operation.effective(self.format, b);
+        match (Operand::of(self.format, a), Operand::of(self.format, b)) {
+            (Operand::Finite(x), Operand::Finite(y)) => Some(exact_sum(&x, &y).1),
+            _ => None,
+        }
+    }
+
     fn finite_result(&self, x: &Finite, y: &Finite) -> u64 {
         let (negative, exact) = exact_sum(x, y);
         if exact == Wide::ZERO {

@@ -4,7 +4,7 @@
 //! all pairs of eight-bit words, or pairs of 64-bit words with sixteen free bits together.
 
 use crate::arith::Adder;
-use crate::fits::{Case, Conditions};
+use crate::fits::{Case, Computed, Conditions};
 use crate::format::{Refusal, NO_CASE};
 
 /// A job: conditions and the two random words.
@@ -15,7 +15,7 @@ pub struct Job {
 }
 
 impl Job {
-    /// Refuses with 1 to 5, 14 to 16, 6, in this order.
+    /// Refuses with 1 to 5, 14 to 17, 6, in this order.
     pub fn check(&self) -> Result<Adder, Refusal> {
         let adder = self.conditions.check()?;
         for word in self.words {
@@ -26,10 +26,10 @@ impl Job {
 }
 
 /// The fitting case with the smallest a exclusive-or the first random word, and then the
-/// smallest b exclusive-or the second. Refuses with 1 to 5, 14 to 16, 6, 7.
+/// smallest b exclusive-or the second. Refuses with 1 to 5, 14 to 17, 6, 7.
 pub fn generate(job: &Job) -> Result<Case, Refusal> {
     let adder = job.check()?;
-    first_fitting(job, &adder, |a, b| Case::of(&adder, a, b))
+    first_fitting(job, &adder, |a, b| Computed::of(&adder, a, b))
 }
 
 /// How many free bits a and b of a checked job have together: the generator tries at most
@@ -44,15 +44,15 @@ pub fn free_bits(conditions: &Conditions, adder: &Adder) -> u32 {
 pub(crate) fn first_fitting(
     job: &Job,
     adder: &Adder,
-    case: impl Fn(u64, u64) -> Case,
+    computed: impl Fn(u64, u64) -> Computed,
 ) -> Result<Case, Refusal> {
     let width = adder.format.width();
     let [first, second] = job.words;
     for a in job.conditions.a.words_near(width, first) {
         for b in job.conditions.b.words_near(width, second) {
-            let found = case(a, b);
+            let found = computed(a, b);
             if found.meets(&job.conditions) {
-                return Ok(found);
+                return Ok(found.case);
             }
         }
     }

@@ -1,7 +1,8 @@
 //! Conditions, the definition of a fitting case, and confirmation (document 01, "Masks and
-//! choice").
+//! choice"; document 02, W-206).
 
 use crate::arith::Adder;
+use crate::dropped::{Below, Dropped};
 use crate::format::Refusal;
 use crate::mask::{check_masks, Mask};
 use crate::row::row;
@@ -18,6 +19,7 @@ pub struct Conditions {
     pub b: Mask,
     pub c: Mask,
     pub carries: Mask,
+    pub dropped: Dropped,
 }
 
 impl Conditions {
@@ -32,10 +34,11 @@ impl Conditions {
             b: Mask::FREE,
             c: Mask::FREE,
             carries: Mask::FREE,
+            dropped: Dropped::FREE,
         }
     }
 
-    /// The four masks, in the order in which they are checked and stand in a record.
+    /// The first four masks, in the order in which they are checked and stand in a record.
     pub fn masks(&self) -> [Mask; 4] {
         [self.a, self.b, self.c, self.carries]
     }
@@ -45,11 +48,12 @@ impl Conditions {
         [&mut self.a, &mut self.b, &mut self.c, &mut self.carries]
     }
 
-    /// Refuses with 1 to 5, 14 to 16, in this order.
+    /// Refuses with 1 to 5, 14 to 17, in this order.
     pub fn check(&self) -> Result<Adder, Refusal> {
         let adder = Adder::new(self.w, self.f, self.operation, self.mode)?;
         let (width, precision) = (adder.format.width(), adder.format.precision());
         check_masks(self.masks(), width, precision)?;
+        self.dropped.check()?;
         Ok(adder)
     }
 }
@@ -73,23 +77,42 @@ impl Case {
             row: row(adder.format, adder.operation, a, b),
         }
     }
+}
 
-    /// Whether the words and the row agree with every fixed bit.
+/// A case with the bits below its last one: all that conditions speak of.
+#[derive(Clone, Copy, Debug, PartialEq, Eq)]
+pub struct Computed {
+    pub case: Case,
+    pub below: Option<Below>,
+}
+
+impl Computed {
+    /// What two words make.
+    pub fn of(adder: &Adder, a: u64, b: u64) -> Computed {
+        let exact = adder.exact(a, b);
+        Computed {
+            case: Case::of(adder, a, b),
+            below: exact.and_then(|exact| Below::of(adder.format, &exact)),
+        }
+    }
+
+    /// Whether the words, the row and the bits below agree with every fixed bit.
     pub fn meets(&self, conditions: &Conditions) -> bool {
-        conditions.a.is_met(self.a)
-            && conditions.b.is_met(self.b)
-            && conditions.c.is_met(self.c)
-            && conditions.carries.is_met_by_row(self.row)
+        conditions.a.is_met(self.case.a)
+            && conditions.b.is_met(self.case.b)
+            && conditions.c.is_met(self.case.c)
+            && conditions.carries.is_met_by_optional(self.case.row)
+            && conditions.dropped.is_met(self.below)
     }
 }
 
-/// Whether the proposed case fits. Refuses with 1 to 5, 14 to 16, 6; a case that does not fit is
+/// Whether the proposed case fits. Refuses with 1 to 5, 14 to 17, 6; a case that does not fit is
 /// a no.
 pub fn confirm(conditions: &Conditions, a: u64, b: u64, c: u64) -> Result<bool, Refusal> {
     let adder = conditions.check()?;
     for word in [a, b, c] {
         adder.format.check_word(word)?;
     }
-    let case = Case::of(&adder, a, b);
-    Ok(case.c == c && case.meets(conditions))
+    let computed = Computed::of(&adder, a, b);
+    Ok(computed.case.c == c && computed.meets(conditions))
 }

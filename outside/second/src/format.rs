@@ -1,7 +1,7 @@
-//! Limits, refusal numbers and the fixed words of a format
-//! (document 01, "Numbers of a format" and "Causes and replies"; document 02, W-201 to W-203).
+//! Limits, refusal numbers and the fixed words of a format (document 01, "Numbers of a format" and
+//! "Causes and replies"; document 02, W-201 to W-203, W-206).
 
-/// The number of a refusal, 1 to 16.
+/// The number of a refusal, 1 to 17.
 pub type Refusal = u8;
 
 /// w below 2 or above 11.
@@ -21,7 +21,7 @@ pub const WORD_TOO_WIDE: Refusal = 6;
 pub const NO_CASE: Refusal = 7;
 /// Record cut short.
 pub const CUT_SHORT: Refusal = 8;
-/// Map bit 6 or 7 set.
+/// Map bit 7 set.
 pub const UNKNOWN_MAP_BIT: Refusal = 9;
 /// Field that says its default.
 pub const SAYS_DEFAULT: Refusal = 10;
@@ -37,14 +37,18 @@ pub const BAD_SECOND_MASK: Refusal = 14;
 pub const BAD_THIRD_MASK: Refusal = 15;
 /// The carry mask malformed.
 pub const BAD_CARRY_MASK: Refusal = 16;
+/// g above 8, or the mask of the dropped bits and the sticky bit malformed.
+pub const BAD_DROPPED_MASK: Refusal = 17;
 /// The largest of these numbers.
-pub const LAST_REFUSAL: Refusal = BAD_CARRY_MASK;
+pub const LAST_REFUSAL: Refusal = BAD_DROPPED_MASK;
 
 pub const SMALLEST_W: u64 = 2;
 pub const LARGEST_W: u64 = 11;
 pub const SMALLEST_F: u64 = 2;
 pub const LARGEST_F: u64 = 52;
 pub const LARGEST_MODE: u64 = 4;
+/// The most dropped bits that a job names.
+pub const LARGEST_G: u64 = 8;
 
 /// A format within the limits. The fields are private so that no other can be made.
 #[derive(Clone, Copy, Debug, PartialEq, Eq)]

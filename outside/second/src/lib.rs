@@ -11,7 +11,8 @@
 //! - `operand`: the kinds of operand and their magnitudes in smallest steps
 //! - `arith`: the rounded result
 //! - `row`: the carry row
-//! - `mask`: masks, well formed, met, joined, the four of a job, and the words that meet one
+//! - `mask`: masks, well formed, met, joined, the first four of a job, and the words that meet one
+//! - `dropped`: the bits below the last fraction bit, and what a job asks of them
 //! - `fits`: conditions, the definition of a fitting case, confirmation
 //! - `choice`: jobs and the generator by trying pairs
 //! - `table`: the same search for many jobs over one small format
@@ -21,14 +22,17 @@
 //! - `listing`: what the listing program prints
 //! - `random`: a small deterministic random generator
 //! - `sample`: random words, pairs and jobs that favour hard places
+//! - `malform`: malformed masks
 
 #![forbid(unsafe_code)]
 
 pub mod arith;
 pub mod choice;
+pub mod dropped;
 pub mod fits;
 pub mod format;
 pub mod listing;
+pub mod malform;
 pub mod mask;
 pub mod operand;
 pub mod random;

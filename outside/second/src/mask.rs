@@ -22,7 +22,7 @@ impl Mask {
     }
 
     /// Refuses a malformed mask with the number that its place has.
-    fn check(&self, width: u32, number: Refusal) -> Result<(), Refusal> {
+    pub(crate) fn check(&self, width: u32, number: Refusal) -> Result<(), Refusal> {
         if self.is_well_formed(width) {
             Ok(())
         } else {
@@ -35,11 +35,11 @@ impl Mask {
         word & self.care == self.value
     }
 
-    /// Whether a row agrees with every fixed bit. Where there is no row, only a mask that
-    /// fixes no bit is met.
-    pub fn is_met_by_row(&self, row: Option<u64>) -> bool {
-        match row {
-            Some(row) => self.is_met(row),
+    /// Whether a word that need not be there agrees with every fixed bit. Where there is none,
+    /// only a mask that fixes no bit is met.
+    pub fn is_met_by_optional(&self, word: Option<u64>) -> bool {
+        match word {
+            Some(word) => self.is_met(word),
             None => self.care == 0,
         }
     }

@@ -1,20 +1,24 @@
-//! Job records and job files (document 01, "Job files"; document 02, W-202).
+//! Job records and job files (document 01, "Job files"; document 02, W-202 and W-206).
 
 use crate::choice::Job;
+use crate::dropped::Dropped;
 use crate::fits::Conditions;
 use crate::format::{Refusal, BUFFER_TOO_SHORT, CUT_SHORT, SAYS_DEFAULT, UNKNOWN_MAP_BIT};
 use crate::mask::Mask;
 
 /// Map byte, w, f and operation.
 const HEADER: usize = 4;
-/// The map bits, from bit 0 on: the masks of a, b, c and carries, the mode, the random words.
-const FIELDS: usize = 6;
-/// The map bit of the mode, which has one byte. Every other field is two words.
+/// The map bits, from bit 0 on: the masks of a, b, c and carries, the mode, the random words, the
+/// dropped bits.
+const FIELDS: usize = 7;
+/// The map bit of the mode, which has one byte. The fields of the bits before it are two words.
 const MODE: usize = 4;
-/// The map bit of the random words.
+/// The map bit of the random words, two words as well.
 const WORDS: usize = 5;
+/// The map bit of the dropped bits: one byte for g, then care and value, two bytes each.
+const DROPPED: usize = 6;
 /// The bytes of a record that has every field, with words of eight bytes.
-pub const LONGEST_RECORD: usize = 85;
+pub const LONGEST_RECORD: usize = 90;
 
 /// The bytes of a word in records, for the carries too: 4 where w + f + 1 is at most 32, else 8.
 /// A header's w and f may be out of their limits here: whether a record is cut short is told
@@ -35,7 +39,7 @@ pub enum Reply {
 }
 
 /// What stands first, and the rest of the file: what follows the record, or on a refusal the
-/// file from the refused record on. Refuses with 9, 8, 1 to 5, 14 to 16, 6, 10.
+/// file from the refused record on. Refuses with 9, 8, 1 to 5, 14 to 17, 6, 10.
 pub fn read(file: &[u8]) -> (Reply, &[u8]) {
     let Some(&map) = file.first() else {
         return (Reply::End, file);
@@ -80,6 +84,7 @@ fn take_fields(layout: Layout, [w, f, operation]: [u64; 3], fields: &[u8]) -> Jo
     });
     let mode = fields.take(MODE).first().copied().map_or(0, u64::from);
     let words = fields.take_words(WORDS);
+    let dropped = fields.take_dropped();
     let conditions = Conditions {
         w,
         f,
@@ -89,6 +94,7 @@ fn take_fields(layout: Layout, [w, f, operation]: [u64; 3], fields: &[u8]) -> Jo
         b,
         c,
         carries,
+        dropped,
     };
     Job { conditions, words }
 }
@@ -113,6 +119,7 @@ impl Layout {
         match (self.map >> bit & 1, bit) {
             (0, _) => 0,
             (_, MODE) => 1,
+            (_, DROPPED) => 5,
             _ => 2 * self.word_bytes,
         }
     }
@@ -144,6 +151,18 @@ impl<'a> Fields<'a> {
         let (first, second) = field.split_at(field.len() / 2);
         [first, second].map(low_byte_first)
     }
+
+    /// What is asked of the dropped bits, nothing where the bit does not stand.
+    fn take_dropped(&mut self) -> Dropped {
+        let Some((&g, mask)) = self.take(DROPPED).split_first() else {
+            return Dropped::FREE;
+        };
+        let [care, value] = [&mask[..2], &mask[2..]].map(low_byte_first);
+        Dropped {
+            g: u64::from(g),
+            mask: Mask { care, value },
+        }
+    }
 }
 
 fn low_byte_first(bytes: &[u8]) -> u64 {
@@ -153,19 +172,21 @@ fn low_byte_first(bytes: &[u8]) -> u64 {
         .fold(0, |word, &byte| word * 256 + u64::from(byte))
 }
 
-/// The map byte that announces exactly the fields that differ from their default.
+/// The map byte that announces exactly the fields that differ from their default. A g beside a mask
+/// that fixes nothing is no field.
 pub fn map_of(job: &Job) -> u8 {
     let [a, b, c, carries] = job.conditions.masks().map(|mask| mask != Mask::FREE);
     let mode = job.conditions.mode != 0;
     let words = job.words != [0, 0];
-    let stated = [a, b, c, carries, mode, words];
+    let dropped = job.conditions.dropped.mask != Mask::FREE;
+    let stated = [a, b, c, carries, mode, words, dropped];
     (0..stated.len())
         .map(|bit| u8::from(stated[bit]) << bit)
         .sum()
 }
 
 /// Writes the record at the front of the buffer and returns its byte count. Refuses with 1 to 5,
-/// 14 to 16, 6, 11; a refusal leaves the buffer as it was.
+/// 14 to 17, 6, 11; a refusal leaves the buffer as it was.
 pub fn write(job: &Job, buffer: &mut [u8]) -> Result<usize, Refusal> {
     let record = encode(job)?;
     let Some(place) = buffer.get_mut(..record.len()) else {
@@ -175,7 +196,7 @@ pub fn write(job: &Job, buffer: &mut [u8]) -> Result<usize, Refusal> {
     Ok(record.len())
 }
 
-/// The bytes of a job's record. Refuses with 1 to 5, 14 to 16, 6.
+/// The bytes of a job's record. Refuses with 1 to 5, 14 to 17, 6.
 pub fn encode(job: &Job) -> Result<Vec<u8>, Refusal> {
     job.check()?;
     Ok(unchecked(map_of(job), job))
@@ -193,7 +214,15 @@ pub fn unchecked(map: u8, job: &Job) -> Vec<u8> {
     }
     put(&mut record, layout, MODE, &[mode]);
     put_words(&mut record, layout, WORDS, job.words);
+    put(&mut record, layout, DROPPED, &dropped_bytes(&c.dropped));
     record
+}
+
+/// The field of the dropped bits: g, care and value, each cut to its bytes.
+pub fn dropped_bytes(Dropped { g, mask }: &Dropped) -> [u8; 5] {
+    let [[care, care_high], [value, value_high]] =
+        [mask.care, mask.value].map(|word| (word as u16).to_le_bytes());
+    [*g as u8, care, care_high, value, value_high]
 }
 
 /// Adds a field where its bit stands in the map.

@@ -1,14 +1,30 @@
 //! Random words, pairs and jobs that favour hard places: close exponents, cancellation,
-//! subnormal numbers, ties, overflow, special words; and malformed masks. For test programs.
+//! subnormal numbers, ties, overflow, special words. For test programs.
 
 use crate::arith::Adder;
 use crate::choice::Job;
-use crate::fits::{Case, Conditions};
-use crate::format::{ones, Format, LARGEST_F, LARGEST_MODE, LARGEST_W, SMALLEST_F, SMALLEST_W};
+use crate::dropped::{Below, Dropped};
+use crate::fits::{Case, Computed, Conditions};
+use crate::format::{
+    ones, Format, LARGEST_F, LARGEST_G, LARGEST_MODE, LARGEST_W, SMALLEST_F, SMALLEST_W,
+};
 use crate::mask::Mask;
 use crate::random::Random;
-use crate::record::word_bytes;
 use crate::whole::WholeJob;
+
+/// Formats with words of at most eight bits.
+pub const SMALL: [(u64, u64); 10] = [
+    (2, 2),
+    (2, 3),
+    (2, 4),
+    (2, 5),
+    (3, 2),
+    (3, 3),
+    (3, 4),
+    (4, 2),
+    (4, 3),
+    (5, 2),
+];
 
 /// A word of the format, often with a special exponent or a special fraction.
 pub fn word(random: &mut Random, format: Format) -> u64 {
@@ -57,6 +73,35 @@ pub fn opposed_pair(random: &mut Random, adder: &Adder) -> (u64, u64) {
         format.signed(negative, (exponent << format.fraction_bits()) + fraction)
     });
     (a, adder.operation.effective(format, b))
+}
+
+/// A pair of finite words of which one lies below the other, so far as up to a few bits beyond all
+/// that a job can name. What stands below the other's last bit is chosen: nothing, the last bit, a
+/// tie, just off a tie, all ones, or any bits.
+pub fn dropping_pair(random: &mut Random, format: Format) -> (u64, u64) {
+    let finite = (1 << format.exponent_bits()) - 1;
+    let exponent = random.below(finite) as i64;
+    let high = fraction(random, format);
+    let gap = 1 + random.below(u64::from(format.precision()) + LARGEST_G + 2);
+    let dropped = gap.min(u64::from(format.fraction_bits())) as u32;
+    let (all, tie) = (ones(dropped), 1 << (dropped - 1));
+    let bits = match random.below(8) {
+        0 => 0,
+        1 => 1,
+        2 | 3 => tie,
+        4 => tie - 1,
+        5 => (tie + 1) & all,
+        6 => all,
+        _ => random.bits(dropped),
+    };
+    let low = random.bits(format.fraction_bits()) & !all | bits;
+    let high = compose(random, format, exponent, high);
+    let low = compose(random, format, exponent - gap as i64, low);
+    if random.one_in(2) {
+        (high, low)
+    } else {
+        (low, high)
+    }
 }
 
 /// A fraction: random, empty, full, one bit, few bits, or ones at one end.
@@ -142,14 +187,18 @@ pub fn all_but_few([w, f, _, _]: [u64; 4]) -> u64 {
 pub fn job(random: &mut Random, numbers: [u64; 4], care_a_b: u64) -> Job {
     let adder = adder(numbers);
     let (a, b) = pair(random, adder.format);
-    job_around(random, &adder, Case::of(&adder, a, b), care_a_b)
+    let computed = Computed::of(&adder, a, b);
+    let dropped = perhaps_dropped(random, computed.below);
+    job_around(random, &adder, computed.case, dropped, care_a_b)
 }
 
 /// The same around a case of opposed operands, whose exponents are fixed.
 pub fn opposed_job(random: &mut Random, numbers: [u64; 4], care_a_b: u64) -> Job {
     let adder = adder(numbers);
     let (a, b) = opposed_pair(random, &adder);
-    let mut job = job_around(random, &adder, Case::of(&adder, a, b), care_a_b);
+    let computed = Computed::of(&adder, a, b);
+    let dropped = perhaps_dropped(random, computed.below);
+    let mut job = job_around(random, &adder, computed.case, dropped, care_a_b);
     let field = adder.format.infinity();
     let masks = &mut job.conditions;
     for (mask, word) in [(&mut masks.a, a), (&mut masks.b, b)] {
@@ -159,11 +208,29 @@ pub fn opposed_job(random: &mut Random, numbers: [u64; 4], care_a_b: u64) -> Job
     job
 }
 
+/// The same around a case with chosen bits below its last one; some of these are always asked for.
+pub fn dropped_job(random: &mut Random, numbers: [u64; 4], care_a_b: u64) -> Job {
+    let adder = adder(numbers);
+    let (a, b) = dropping_pair(random, adder.format);
+    let Computed { case, below } = Computed::of(&adder, a, b);
+    let mut dropped = Dropped::FREE;
+    while dropped == Dropped::FREE {
+        dropped = dropped_around(random, below);
+    }
+    job_around(random, &adder, case, dropped, care_a_b)
+}
+
 fn adder([w, f, operation, mode]: [u64; 4]) -> Adder {
     Adder::new(w, f, operation, mode).expect("numbers within their limits")
 }
 
-fn job_around(random: &mut Random, adder: &Adder, case: Case, care_a_b: u64) -> Job {
+fn job_around(
+    random: &mut Random,
+    adder: &Adder,
+    case: Case,
+    dropped: Dropped,
+    care_a_b: u64,
+) -> Job {
     let format = adder.format;
     let width = format.width();
     let care_c = 8 * (2 + random.below(7));
@@ -180,6 +247,7 @@ fn job_around(random: &mut Random, adder: &Adder, case: Case, care_a_b: u64) -> 
     if let Some(row) = case.row {
         conditions.carries = mask_around(random, row, format.precision(), care_row);
     }
+    conditions.dropped = dropped;
     if random.one_in(2) {
         turn(random, &mut conditions);
     }
@@ -191,7 +259,7 @@ fn job_around(random: &mut Random, adder: &Adder, case: Case, care_a_b: u64) -> 
 }
 
 /// A job that no number but 7 refuses, whose masks are made around no case: each fixes about a
-/// quarter, a half or three quarters of its bits, at random.
+/// quarter, a half or three quarters of its bits, at random. One in three asks for dropped bits.
 pub fn unrelated_job(random: &mut Random, numbers: [u64; 4]) -> Job {
     let [w, f, operation, mode] = numbers;
     let format = Format::new(w, f).expect("numbers within their limits");
@@ -206,6 +274,7 @@ pub fn unrelated_job(random: &mut Random, numbers: [u64; 4]) -> Job {
     conditions.b = any(width);
     conditions.c = any(width);
     conditions.carries = any(format.precision());
+    conditions.dropped = perhaps_dropped(random, None);
     let words = [random.bits(width), random.bits(width)];
     Job { conditions, words }
 }
@@ -222,21 +291,55 @@ fn mask_around(random: &mut Random, word: u64, width: u32, care: u64) -> Mask {
     }
 }
 
-/// Turns one bit among those that the masks of c and of the carries fix, where there is one.
+/// What the bits below a result meet, with any g, often the largest, and about half of the bits
+/// fixed or all; where there are none, any bits.
+fn dropped_around(random: &mut Random, below: Option<Below>) -> Dropped {
+    let g = match random.below(4) {
+        0 => LARGEST_G,
+        _ => random.below(LARGEST_G + 1),
+    };
+    let width = g as u32 + 1;
+    let word = match below {
+        Some(below) => below.word(g),
+        None => random.bits(width),
+    };
+    let care = 32 << random.below(2);
+    let mask = mask_around(random, word, width, care);
+    Dropped { g, mask }.taken()
+}
+
+/// The same in one of three cases, else nothing.
+fn perhaps_dropped(random: &mut Random, below: Option<Below>) -> Dropped {
+    match random.below(3) {
+        0 => dropped_around(random, below),
+        _ => Dropped::FREE,
+    }
+}
+
+/// Turns one bit among those that the masks of c, of the carries and of the dropped bits fix, where
+/// there is one.
 fn turn(random: &mut Random, conditions: &mut Conditions) {
-    let fixed_in_c = u64::from(conditions.c.care.count_ones());
-    let fixed = fixed_in_c + u64::from(conditions.carries.care.count_ones());
+    let Conditions {
+        c,
+        carries,
+        dropped,
+        ..
+    } = conditions;
+    let masks = [c, carries, &mut dropped.mask];
+    let count = |mask: &Mask| u64::from(mask.care.count_ones());
+    let fixed = masks.iter().map(|mask| count(mask)).sum();
     if fixed == 0 {
         return;
     }
-    let chosen = random.below(fixed);
-    let (mask, place) = if chosen < fixed_in_c {
-        (&mut conditions.c, chosen)
-    } else {
-        (&mut conditions.carries, chosen - fixed_in_c)
-    };
-    let mut bits = (0..64).map(|i| 1 << i).filter(|bit| mask.care & bit != 0);
-    mask.value ^= bits.nth(place as usize).expect("as many as were counted");
+    let mut place = random.below(fixed);
+    for mask in masks {
+        let mut bits = (0..64).map(|i| 1 << i).filter(|bit| mask.care & bit != 0);
+        if let Some(bit) = bits.nth(place as usize) {
+            mask.value ^= bit;
+            return;
+        }
+        place -= count(mask);
+    }
 }
 
 /// A whole-number job of a length from 1 to 32 in which every bit is fixed to 0.
@@ -252,51 +355,5 @@ pub fn zeros(n: u64) -> WholeJob {
         z: fixed(n),
         carries: fixed(n + 1),
         words: [0; 3],
-    }
-}
-
-/// Malforms the masks of a set, whose bit 0 stands for the first of a job's four, in ways that the
-/// job's record can state. The other masks stay.
-pub fn malform_job(random: &mut Random, job: &mut Job, set: u64) {
-    let c = &mut job.conditions;
-    let widths = [c.w + c.f + 1, c.f + 1].map(|width| width as u32);
-    let room = 8 * word_bytes(c.w, c.f) as u32;
-    malform(random, c.masks_mut(), set, widths, room);
-}
-
-/// The same for whole numbers, where a mask is given in 64 bits.
-pub fn malform_whole_job(random: &mut Random, job: &mut WholeJob, set: u64) {
-    let n = job.n as u32;
-    malform(random, job.masks_mut(), set, [n, n + 1], 64);
-}
-
-/// Malforms the masks of a set. The first three have `width` bits, and each is given in `room` bits.
-fn malform(
-    random: &mut Random,
-    masks: [&mut Mask; 4],
-    set: u64,
-    [width, carries_width]: [u32; 2],
-    room: u32,
-) {
-    let widths = [width, width, width, carries_width];
-    for (place, (mask, width)) in masks.into_iter().zip(widths).enumerate() {
-        if set >> place & 1 == 1 {
-            malform_one(random, mask, u64::from(width), u64::from(room));
-        }
-    }
-}
-
-/// A value bit outside care, or, where there is room, a bit above the width, every second time the
-/// first one there: in care, in value or in both.
-fn malform_one(random: &mut Random, mask: &mut Mask, width: u64, room: u64) {
-    if width == room || random.one_in(2) {
-        let bit = 1 << random.below(width);
-        mask.care &= !bit;
-        mask.value |= bit;
-    } else {
-        let bit = 1 << (width + random.below(2) * random.below(room - width));
-        let stands_in = 1 + random.below(3);
-        mask.care |= bit * (stands_in & 1);
-        mask.value |= bit * (stands_in >> 1);
     }
 }

@@ -3,7 +3,8 @@
 
 use crate::arith::Adder;
 use crate::choice::{first_fitting, Job};
-use crate::fits::Case;
+use crate::dropped::Below;
+use crate::fits::{Case, Computed};
 use crate::format::Refusal;
 
 /// The widest word for which a table is made: 2^24 cases.
@@ -14,6 +15,7 @@ pub struct Table {
     adder: Adder,
     results: Vec<u16>,
     rows: Vec<Option<u16>>,
+    below: Vec<Option<Below>>,
 }
 
 impl Table {
@@ -24,25 +26,32 @@ impl Table {
         }
         let count = 1u64 << adder.format.width();
         let pairs = || (0..count).flat_map(|a| (0..count).map(move |b| (a, b)));
-        let cases = pairs().map(|(a, b)| Case::of(&adder, a, b));
-        let (results, rows) = cases
-            .map(|case| (case.c as u16, case.row.map(|row| row as u16)))
+        let computed = pairs().map(|(a, b)| Computed::of(&adder, a, b));
+        let (results, (rows, below)) = computed
+            .map(|Computed { case, below }| {
+                (case.c as u16, (case.row.map(|row| row as u16), below))
+            })
             .unzip();
         Some(Table {
             adder,
             results,
             rows,
+            below,
         })
     }
 
-    /// The case that two words of the format make.
-    pub fn case(&self, a: u64, b: u64) -> Case {
+    /// What two words of the format make.
+    fn computed(&self, a: u64, b: u64) -> Computed {
         let at = (a << self.adder.format.width() | b) as usize;
-        Case {
+        let case = Case {
             a,
             b,
             c: u64::from(self.results[at]),
             row: self.rows[at].map(u64::from),
+        };
+        Computed {
+            case,
+            below: self.below[at],
         }
     }
 
@@ -51,6 +60,6 @@ impl Table {
     pub fn generate(&self, job: &Job) -> Result<Case, Refusal> {
         let adder = job.check()?;
         assert!(adder == self.adder, "job of another table");
-        first_fitting(job, &adder, |a, b| self.case(a, b))
+        first_fitting(job, &adder, |a, b| self.computed(a, b))
     }
 }

@@ -3,6 +3,7 @@
 
 use second::arith::rounded;
 use second::choice::{generate, Job};
+use second::dropped::Dropped;
 use second::fits::{confirm, Case, Conditions};
 use second::format::{
     every_format, ones, Refusal, F_OUT_OF_RANGE, LARGEST_MODE, NO_CASE, W_OUT_OF_RANGE,
@@ -179,6 +180,24 @@ fn borrows_by_the_exponent() {
         [Ok(Some(0x1A)), Ok(Some(0x05))]
     );
     assert_eq!([row(0x05, 0x10), row(0x10, 0x05)], [Ok(Some(0x0F)); 2]);
+}
+
+/// Document 02, W-206: 30 + 02 has 100 and a sticky bit of 0 below its last bit, 45 + 2B has 11 and
+/// one of 0.
+#[test]
+fn bits_below_the_last() {
+    for (g, word, a, b) in [(3, 8, 0x30, 0x02), (2, 6, 0x45, 0x2B)] {
+        let c = sum(0, 0, a, b);
+        for other in 0..2 << g {
+            let mut fixed = Conditions::free(3, 4, 0, 0);
+            let mask = Mask {
+                care: (2 << g) - 1,
+                value: other,
+            };
+            fixed.dropped = Dropped { g, mask };
+            assert_eq!(confirm(&fixed, a, b, c), Ok(other == word));
+        }
+    }
 }
 
 #[test]

@@ -5,21 +5,7 @@ use second::format::{every_format, LARGEST_MODE};
 use second::operand::{Finite, Operand};
 use second::random::Random;
 use second::row::{carry_row, row};
-use second::sample::pair;
-
-/// Formats with words of at most eight bits.
-const SMALL: [(u64, u64); 10] = [
-    (2, 2),
-    (2, 3),
-    (2, 4),
-    (2, 5),
-    (3, 2),
-    (3, 3),
-    (3, 4),
-    (4, 2),
-    (4, 3),
-    (5, 2),
-];
+use second::sample::{pair, SMALL};
 
 /// All magnitudes of a format in smallest steps, by rising size, with the exponents going on
 /// two places past the largest finite number.

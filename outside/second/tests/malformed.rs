@@ -1,19 +1,21 @@
-//! Malformed masks (document 02, W-203): each of the four masks of a job has a number of its own,
-//! and where several are malformed the first in the order a, b, c, carries, or x, y, z, carries, is
-//! the one that is named.
+//! Malformed masks (document 02, W-203 and W-206): each of the masks of a job has a number of its
+//! own, and where several are malformed the first in the order a, b, c, carries, dropped bits, or
+//! x, y, z, carries, is the one that is named.
 
 use second::choice::{generate, Job};
+use second::dropped::Dropped;
 use second::fits::{confirm, Conditions};
-use second::format::{ones, Refusal};
+use second::format::{ones, Refusal, LARGEST_G};
 use second::listing::listing;
+use second::malform::{malform_job, malform_whole_job, MASKS, WHOLE_MASKS};
 use second::mask::Mask;
 use second::random::Random;
 use second::record::{encode, map_of, read, unchecked, write, Reply, LONGEST_RECORD};
-use second::sample::{job, malform_job, malform_whole_job, numbers, zeros};
+use second::sample::{job, numbers, zeros};
 use second::whole::generate_whole;
 
-/// The numbers of the four masks, in the order of the masks.
-const NUMBERS: [Refusal; 4] = [5, 14, 15, 16];
+/// The numbers of the masks, in the order of the masks; whole numbers have all but the last.
+const NUMBERS: [Refusal; 5] = [5, 14, 15, 16, 17];
 
 /// How many jobs are tried for each set of malformed masks.
 const EACH: u64 = 400;
@@ -24,9 +26,10 @@ fn number(set: u64) -> Option<Refusal> {
     NUMBERS.get(set.trailing_zeros() as usize).copied()
 }
 
-/// Every set of malformed masks, again and again.
-fn sets() -> impl Iterator<Item = u64> {
-    (0..16 * EACH).map(|n| n % 16)
+/// Every set of malformed masks, again and again, where there are so many masks.
+fn sets(masks: u64) -> impl Iterator<Item = u64> {
+    let count = 1 << masks;
+    (0..count * EACH).map(move |n| n % count)
 }
 
 /// Jobs of any format, each with the set of its malformed masks.
@@ -39,22 +42,29 @@ fn jobs() -> Vec<(Job, u64)> {
         malform_job(&mut random, &mut job, set);
         (job, set)
     };
-    sets().map(one).collect()
+    sets(MASKS).map(one).collect()
 }
 
 /// Exactly the masks of the set are malformed, some by a value bit outside care alone, others by a
-/// bit above the width alone.
+/// bit above the width alone, and that of the dropped bits by g alone too.
 #[test]
 fn the_jobs_are_what_they_are_called() {
-    let mut ways = [0; 3];
+    let (mut ways, mut by_g) = ([0; 3], 0);
     for (job, set) in jobs() {
         let c = &job.conditions;
         let [width, precision] = [c.w + c.f + 1, c.f + 1].map(|width| width as u32);
-        for (place, mask) in c.masks().into_iter().enumerate() {
-            let width = [width, width, width, precision][place];
+        let many = c.dropped.g > LARGEST_G;
+        let masks = c.masks().into_iter().chain([c.dropped.mask]);
+        let widths = [width, width, width, precision, c.dropped.g as u32 + 1];
+        for (place, (mask, width)) in masks.zip(widths).enumerate() {
+            let malformed = set >> place & 1 == 1;
+            if place == 4 && many {
+                assert!(malformed);
+                by_g += 1;
+                continue;
+            }
             let outside = mask.value & !mask.care != 0;
             let above = (mask.value | mask.care) & !ones(width) != 0;
-            let malformed = set >> place & 1 == 1;
             assert_eq!(malformed, outside || above, "{job:x?}");
             assert_eq!(malformed, !mask.is_well_formed(width));
             if malformed {
@@ -62,7 +72,8 @@ fn the_jobs_are_what_they_are_called() {
             }
         }
     }
-    assert!(ways.iter().all(|&count| count > 1000), "{ways:?}");
+    let enough = |&count: &i32| count > 1000;
+    assert!(ways.iter().chain([&by_g]).all(enough), "{ways:?} {by_g}");
 }
 
 #[test]
@@ -107,7 +118,7 @@ fn reading_and_the_listing_name_the_first() {
 #[test]
 fn the_whole_number_generator_names_the_first() {
     let mut random = Random::new(0x303A);
-    for set in sets() {
+    for set in sets(WHOLE_MASKS) {
         let mut job = zeros(1 + random.below(32));
         malform_whole_job(&mut random, &mut job, set);
         assert_eq!(job.check().err(), number(set));
@@ -115,7 +126,7 @@ fn the_whole_number_generator_names_the_first() {
     }
 }
 
-/// What conditions are refused with where one of the four masks fixes one bit.
+/// What conditions are refused with where one of the first four masks fixes one bit.
 fn with_one_bit((w, f): (u64, u64), place: usize, bit: u64) -> Option<Refusal> {
     let mut conditions = Conditions::free(w, f, 0, 0);
     let care = 1 << bit;
@@ -136,6 +147,33 @@ fn each_mask_by_its_width() {
                 assert_eq!(with_one_bit(format, place, bit), Some(NUMBERS[place]));
             }
         }
+    }
+}
+
+/// The mask of the dropped bits has g + 1 bits, and no g above 8 has one.
+#[test]
+fn the_mask_of_the_dropped_bits_by_g() {
+    let refusal = |g, care, value| {
+        let mut conditions = Conditions::free(3, 4, 0, 0);
+        let mask = Mask { care, value };
+        conditions.dropped = Dropped { g, mask };
+        conditions.check().err()
+    };
+    for g in 0..=LARGEST_G {
+        for bit in 0..64 {
+            let wanted = (bit > g).then_some(17);
+            assert_eq!(refusal(g, 1 << bit, 0), wanted);
+            assert_eq!(refusal(g, 1 << bit, 1 << bit), wanted);
+            // Nothing in care, and a value.
+            assert_eq!(refusal(g, 0, 1 << bit), Some(17));
+        }
+        // A g beside nothing fixed is tested all the same.
+        assert_eq!(refusal(g, 0, 0), None);
+    }
+    let high = (0..64).map(|bit| 1 << bit).filter(|&g| g > LARGEST_G);
+    for g in (LARGEST_G + 1..300).chain(high).chain([u64::MAX]) {
+        assert_eq!(refusal(g, 0, 0), Some(17));
+        assert_eq!(refusal(g, 1, 1), Some(17));
     }
 }
 

@@ -6,8 +6,10 @@
 use std::ops::{Add, Neg, Sub};
 
 use second::arith::Adder;
+use second::fits::Computed;
+use second::format::LARGEST_G;
 use second::random::{seed, Random};
-use second::sample::pair;
+use second::sample::{dropping_pair, pair};
 
 const PAIRS: usize = 1_000_000;
 const SEED: u64 = 0x0001_0754_2008;
@@ -138,6 +140,36 @@ fn ties_away_in_single(operation: u64, a: f32, b: f32) -> f32 {
 #[test]
 fn ties_away_by_a_wider_sum() {
     compare::<f32>(4, ties_away_in_single);
+}
+
+/// The bits below a sum in single precision, by a sum in double precision: that has 29 fraction
+/// bits more, and what it loses is the error. Where the error points back towards zero, the number
+/// before is the one that begins with the digits of the exact sum.
+fn bits_by_a_wider_sum(a: f32, b: f32, g: u64) -> Option<u64> {
+    let [a, b] = [a, b].map(f64::from);
+    let (large, small) = if a.abs() < b.abs() { (b, a) } else { (a, b) };
+    let sum = a + b;
+    let error = small - (sum - large);
+    let back = error != 0.0 && (error < 0.0) != (sum < 0.0);
+    let word = sum.to_bits() - u64::from(back);
+    let is_normal = sum.is_finite() && sum.abs() >= f64::from(f32::MIN_POSITIVE);
+    let left = 29 - g;
+    let sticky = error != 0.0 || word & ((1 << left) - 1) != 0;
+    is_normal.then_some((word >> left) % (1 << g) * 2 + u64::from(sticky))
+}
+
+#[test]
+fn dropped_bits_by_a_wider_sum() {
+    let mut random = random();
+    let adder = adder::<f32>(0, 0);
+    for n in 0..PAIRS {
+        let (a, b) = [pair, dropping_pair][n % 2](&mut random, adder.format);
+        let below = Computed::of(&adder, a, b).below;
+        for g in 0..=LARGEST_G {
+            let wanted = bits_by_a_wider_sum(f32::of(a), f32::of(b), g);
+            assert_eq!(below.map(|below| below.word(g)), wanted, "{a:x} {b:x} {g}");
+        }
+    }
 }
 
 #[cfg(target_arch = "x86_64")]

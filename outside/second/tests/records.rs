@@ -1,6 +1,7 @@
 //! Records, files and the listing.
 
 use second::choice::{generate, Job};
+use second::dropped::Dropped;
 use second::fits::Conditions;
 use second::format::{ones, BUFFER_TOO_SHORT, CUT_SHORT, SAYS_DEFAULT, UNKNOWN_MAP_BIT};
 use second::listing::{listing, LONGEST_FILE};
@@ -28,7 +29,10 @@ fn two_jobs() -> Vec<u8> {
 fn random_job(random: &mut Random) -> Job {
     let numbers = sample::numbers(random);
     let care = 8 * random.below(5);
-    sample::job(random, numbers, care)
+    match random.below(3) {
+        0 => sample::dropped_job(random, numbers, care),
+        _ => sample::job(random, numbers, care),
+    }
 }
 
 #[test]
@@ -85,13 +89,11 @@ fn every_cut_is_8_and_every_foreign_bit_is_9() {
             let cut = &record[..length];
             assert_eq!(read(cut), (Reply::Refused(CUT_SHORT), cut));
         }
-        for bits in [0x40, 0x80, 0xC0] {
-            let mut other = record.clone();
-            other[0] |= bits;
-            let number = Reply::Refused(UNKNOWN_MAP_BIT);
-            assert_eq!(read(&other), (number, &other[..]));
-            assert_eq!(read(&other[..1]), (number, &other[..1]));
-        }
+        let mut other = record.clone();
+        other[0] |= 0x80;
+        let number = Reply::Refused(UNKNOWN_MAP_BIT);
+        assert_eq!(read(&other), (number, &other[..]));
+        assert_eq!(read(&other[..1]), (number, &other[..1]));
     }
     assert_eq!(read(&[]), (Reply::End, &[][..]));
 }
@@ -125,6 +127,56 @@ fn defaults_are_refused() {
     }
 }
 
+/// Map bit 6: one byte g, then care and value, two bytes each. 17 comes before 10.
+#[test]
+fn dropped_bits_in_a_record() {
+    let reply = |text: &str| read(&bytes(&format!("40 03 04 00 {text}"))).0;
+    for (g, text) in (0..=255).map(|g| (g, format!("{g:02X}"))) {
+        let number = if g > 8 { 17 } else { SAYS_DEFAULT };
+        assert_eq!(
+            reply(&format!("{text} 00 00 00 00")),
+            Reply::Refused(number)
+        );
+        let stated = reply(&format!("{text} 01 00 01 00"));
+        assert_eq!(matches!(stated, Reply::Job(_)), g <= 8);
+        // A value with nothing in care, and a bit of care above all widths.
+        let outside = reply(&format!("{text} 00 00 01 00"));
+        let above = reply(&format!("{text} 01 02 00 00"));
+        assert_eq!([outside, above], [Reply::Refused(17); 2]);
+    }
+    let mut conditions = Conditions::free(3, 4, 0, 0);
+    conditions.dropped = Dropped {
+        g: 8,
+        mask: Mask {
+            care: 0x1F3,
+            value: 0x102,
+        },
+    };
+    let words = [0, 0];
+    let stated = Reply::Job(Job { conditions, words });
+    assert_eq!(reply("08 F3 01 02 01"), stated);
+    // One g less, and the top bit stands above the width.
+    assert_eq!(reply("07 F3 01 02 01"), Reply::Refused(17));
+}
+
+/// The field stands after the random words, and is cut short like any other.
+#[test]
+fn dropped_bits_come_last() {
+    let file = bytes("70 03 04 01 04 4D 00 00 00 2B 00 00 00 03 0F 00 08 00 FF");
+    let mut conditions = Conditions::free(3, 4, 1, 4);
+    conditions.dropped = Dropped {
+        g: 3,
+        mask: Mask { care: 15, value: 8 },
+    };
+    let words = [0x4D, 0x2B];
+    let job = Job { conditions, words };
+    assert_eq!(read(&file), (Reply::Job(job), &[0xFF][..]));
+    assert_eq!(encode(&job).unwrap(), file[..18]);
+    for length in 13..18 {
+        assert_eq!(read(&file[..length]).0, Reply::Refused(CUT_SHORT));
+    }
+}
+
 #[test]
 fn reading_gives_back_what_was_written() {
     let mut random = Random::new(0x2071);
@@ -149,19 +201,21 @@ fn reading_gives_back_what_was_written() {
 fn writing_gives_back_what_was_read() {
     let mut random = Random::new(0x0B17);
     for (w, f) in [(8, 23), (11, 52)] {
-        let mut read_jobs = 0;
-        for _ in 0..200_000 {
-            let mut file = vec![random.bits(6) as u8, w, f, random.bits(1) as u8];
+        // Without and with dropped bits.
+        let mut read_jobs = [0; 2];
+        for _ in 0..400_000 {
+            let mut file = vec![random.bits(7) as u8, w, f, random.bits(1) as u8];
             let few = [0, 0, 0, 1, 3];
             file.extend((0..LONGEST_RECORD).map(|_| few[random.below(5) as usize]));
             let (reply, rest) = read(&file);
             if let Reply::Job(job) = reply {
                 let length = file.len() - rest.len();
                 assert_eq!(encode(&job).unwrap(), file[..length]);
-                read_jobs += 1;
+                read_jobs[usize::from(file[0] >> 6)] += 1;
             }
         }
-        assert!(read_jobs > 10_000, "{read_jobs} read");
+        let [without, with] = read_jobs;
+        assert!(without > 10_000 && with > 500, "{read_jobs:?} read");
     }
 }
 
@@ -190,6 +244,10 @@ fn full_job(w: u64, f: u64) -> Job {
     conditions.b = conditions.a;
     conditions.c = conditions.a;
     conditions.carries = ends(f + 1);
+    conditions.dropped = Dropped {
+        g: 8,
+        mask: ends(9),
+    };
     Job {
         conditions,
         words: [0, ones((w + f + 1) as u32)],
@@ -210,19 +268,21 @@ fn shortest_record() {
 #[test]
 fn longest_records() {
     let record = encode(&full_job(8, 23)).unwrap();
-    assert_eq!(record.len(), 45);
-    assert_eq!(record[..4], [0x3F, 8, 23, 1]);
+    assert_eq!(record.len(), 50);
+    assert_eq!(record[..4], [0x7F, 8, 23, 1]);
     assert_eq!(record[4..12], [0xFF, 0xFF, 0xFF, 0xFF, 1, 0, 0, 0x80]);
     assert_eq!(record[28..37], [0xFF, 0xFF, 0xFF, 0, 1, 0, 0x80, 0, 3]);
-    assert_eq!(record[37..], [0, 0, 0, 0, 0xFF, 0xFF, 0xFF, 0xFF]);
+    assert_eq!(record[37..45], [0, 0, 0, 0, 0xFF, 0xFF, 0xFF, 0xFF]);
+    assert_eq!(record[45..], [8, 0xFF, 1, 1, 1]);
 
     let record = encode(&full_job(11, 52)).unwrap();
-    assert_eq!([record.len(), LONGEST_RECORD], [85; 2]);
-    assert_eq!(record[..4], [0x3F, 11, 52, 1]);
+    assert_eq!([record.len(), LONGEST_RECORD], [90; 2]);
+    assert_eq!(record[..4], [0x7F, 11, 52, 1]);
     assert_eq!(record[4..12], [0xFF; 8]);
     assert_eq!(record[12..20], [1, 0, 0, 0, 0, 0, 0, 0x80]);
     assert_eq!(record[52..59], [0xFF, 0xFF, 0xFF, 0xFF, 0xFF, 0xFF, 0x1F]);
     assert_eq!(record[59..69], [0, 1, 0, 0, 0, 0, 0, 0x10, 0, 3]);
     assert_eq!(record[69..77], [0; 8]);
-    assert_eq!(record[77..], [0xFF; 8]);
+    assert_eq!(record[77..85], [0xFF; 8]);
+    assert_eq!(record[85..], [8, 0xFF, 1, 1, 1]);
 }

@@ -1,8 +1,10 @@
-//! Refusals and their order: where several causes are present at once, the first one in
-//! the order of the function is the answer. Each mask is malformed in each of the two ways.
+//! Refusals and their order: where several causes are present at once, the first one in the order
+//! of the function is the answer. Each mask is malformed in each of the two ways, and that of the
+//! dropped bits by its g too.
 
 use second::arith::rounded;
 use second::choice::{generate, Job};
+use second::dropped::Dropped;
 use second::fits::{confirm, Conditions};
 use second::format::{Refusal, NO_CASE};
 use second::mask::Mask;
@@ -40,12 +42,31 @@ fn malformed([width, carries_width]: [u32; 2]) -> [[Mask; 4]; 2] {
     ]
 }
 
-/// The widths of the masks in format 3/4.
-const WIDTHS: [u32; 2] = [8, 5];
+/// What stands in a job of format 3/4 where a mask is malformed.
+struct Bad {
+    masks: [Mask; 4],
+    dropped: Dropped,
+}
+
+/// All masks by a value bit outside care; all by a bit just above the width; and that of the
+/// dropped bits by g alone, where nothing is fixed.
+fn bad() -> [Bad; 3] {
+    let [outside, above] = malformed([8, 5]);
+    let dropped = |g, care, value| Dropped {
+        g,
+        mask: Mask { care, value },
+    };
+    [
+        (outside, dropped(2, 2, 3)),
+        (above, dropped(3, 1 << 4, 0)),
+        (outside, dropped(9, 0, 0)),
+    ]
+    .map(|(masks, dropped)| Bad { masks, dropped })
+}
 
 /// A job of format 3/4 with exactly these of the causes that a job can have, and these masks where
 /// one is malformed.
-fn job(causes: &[Refusal], bad: &[Mask; 4]) -> Job {
+fn job(causes: &[Refusal], bad: &Bad) -> Job {
     let mut conditions = Conditions::free(
         pick(causes, 1, 3, 12),
         pick(causes, 2, 4, 1),
@@ -53,12 +74,17 @@ fn job(causes: &[Refusal], bad: &[Mask; 4]) -> Job {
         pick(causes, 4, 2, 5),
     );
     let fixed = |care, value| Mask { care, value };
-    conditions.a = pick(causes, 5, fixed(0x7F, 0x30), bad[0]);
-    conditions.b = pick(causes, 14, Mask::FREE, bad[1]);
+    conditions.a = pick(causes, 5, fixed(0x7F, 0x30), bad.masks[0]);
+    conditions.b = pick(causes, 14, Mask::FREE, bad.masks[1]);
     // 30 − b is never this NaN.
     let c = pick(causes, 7, Mask::FREE, fixed(0xFF, 0x7F));
-    conditions.c = pick(causes, 15, c, bad[2]);
-    conditions.carries = pick(causes, 16, Mask::FREE, bad[3]);
+    conditions.c = pick(causes, 15, c, bad.masks[2]);
+    conditions.carries = pick(causes, 16, Mask::FREE, bad.masks[3]);
+    let exact = Dropped {
+        g: 3,
+        mask: fixed(1, 0),
+    };
+    conditions.dropped = pick(causes, 17, exact, bad.dropped);
     Job {
         conditions,
         words: [0x55, pick(causes, 6, 0x77, 1 << 40)],
@@ -67,7 +93,7 @@ fn job(causes: &[Refusal], bad: &[Mask; 4]) -> Job {
 
 #[test]
 fn rounded_result_and_row() {
-    let [bad, _] = malformed(WIDTHS);
+    let [bad, ..] = bad();
     for set in subsets(&[1, 2, 3, 4, 6]) {
         let c = job(&set, &bad).conditions;
         let b = pick(&set, 6, 0x77, 0x100_0000_0000);
@@ -103,7 +129,7 @@ fn words_are_refused_from_their_width_on() {
 }
 
 /// The generator and confirmation on a job with these causes.
-fn ask(causes: &[Refusal], bad: &[Mask; 4]) {
+fn ask(causes: &[Refusal], bad: &Bad) {
     let job = job(causes, bad);
     let first = causes.first().copied();
     assert_eq!(generate(&job).err(), first);
@@ -118,8 +144,8 @@ fn ask(causes: &[Refusal], bad: &[Mask; 4]) {
 
 #[test]
 fn generator_and_confirmation() {
-    for set in subsets(&[1, 2, 3, 4, 5, 14, 15, 16, 6, 7]) {
-        for bad in malformed(WIDTHS) {
+    for set in subsets(&[1, 2, 3, 4, 5, 14, 15, 16, 17, 6, 7]) {
+        for bad in bad() {
             ask(&set, &bad);
         }
     }
@@ -179,13 +205,13 @@ fn whole_number_widths() {
 }
 
 /// The causes of refusal in reading, in their order.
-const READING: [Refusal; 12] = [9, 8, 1, 2, 3, 4, 5, 14, 15, 16, 6, 10];
+const READING: [Refusal; 13] = [9, 8, 1, 2, 3, 4, 5, 14, 15, 16, 17, 6, 10];
 
 /// A record that has every field, with these causes of refusal; `w` and `f` are out of their limits
 /// and stand where 1 and 2 are causes. Its words are as long as the header's w and f say, good or
 /// not. Where 10 is a cause, every field says its default but those that are bad.
-fn record(causes: &[Refusal], w: u8, f: u8, bad: &[Mask; 4]) -> Vec<u8> {
-    let map = pick(causes, 9, 0x3F, 0x7F);
+fn record(causes: &[Refusal], w: u8, f: u8, bad: &Bad) -> Vec<u8> {
+    let map = pick(causes, 9, 0x7F, 0xFF);
     let [w, f] = [pick(causes, 1, 3, w), pick(causes, 2, 4, f)];
     let word_bytes = match u32::from(w) + u32::from(f) + 1 {
         ..=32 => 4,
@@ -198,19 +224,22 @@ fn record(causes: &[Refusal], w: u8, f: u8, bad: &[Mask; 4]) -> Vec<u8> {
         value: 0,
     };
     let mut bytes = vec![map, w, f, pick(causes, 3, 1, 2)];
-    for (&bad, cause) in bad.iter().zip([5, 14, 15, 16]) {
+    for (&bad, cause) in bad.masks.iter().zip([5, 14, 15, 16]) {
         let mask = pick(causes, cause, fixed, bad);
         bytes.extend([mask.care, mask.value].map(word).concat());
     }
     bytes.push(pick(causes, 4, good as u8, 200));
     bytes.extend([0, pick(causes, 6, good, 0x8000_0000)].map(word).concat());
+    let stated = Dropped { g: 5, mask: fixed };
+    let Dropped { g, mask } = pick(causes, 17, stated, bad.dropped);
+    bytes.extend([g as u8, mask.care as u8, 0, mask.value as u8, 0]);
     if causes.contains(&8) {
         bytes.pop();
     }
     bytes
 }
 
-fn read_with(causes: &[Refusal], w: u8, f: u8, bad: &[Mask; 4]) {
+fn read_with(causes: &[Refusal], w: u8, f: u8, bad: &Bad) {
     let file = record(causes, w, f, bad);
     let (reply, rest) = read(&file);
     match causes.first() {
@@ -233,7 +262,7 @@ fn reading() {
     let formats = w.flat_map(|w| [0, 1, 53, 255].map(|f| (w, f)));
     let formats: Vec<_> = formats.chain([(30, 1), (31, 1)]).collect();
     for set in subsets(&READING) {
-        for bad in malformed(WIDTHS) {
+        for bad in bad() {
             for &(w, f) in &formats {
                 read_with(&set, w, f, &bad);
             }
@@ -241,7 +270,7 @@ fn reading() {
     }
 }
 
-fn write_with(causes: &[Refusal], bad: &[Mask; 4]) {
+fn write_with(causes: &[Refusal], bad: &Bad) {
     let length = encode(&job(&[], bad)).unwrap().len();
     let mut buffer = vec![0xA5; pick(causes, 11, length + 3, length - 1)];
     let before = buffer.clone();
@@ -260,8 +289,8 @@ fn write_with(causes: &[Refusal], bad: &[Mask; 4]) {
 
 #[test]
 fn writing() {
-    for set in subsets(&[1, 2, 3, 4, 5, 14, 15, 16, 6, 11]) {
-        for bad in malformed(WIDTHS) {
+    for set in subsets(&[1, 2, 3, 4, 5, 14, 15, 16, 17, 6, 11]) {
+        for bad in bad() {
             write_with(&set, &bad);
         }
     }

@@ -4,9 +4,9 @@ use Prim.Native.Nat.{ℕ, _-_}
 use native.Mathlib.Omega.{arith}
 use lib.Pow.{pow-pos}
 use Rattle.format.proofs.Laws.{supported-of, unsupported-of}
-use Rattle.format.proofs.Room.{significand-room}
 use Rattle.word.proofs.Bounds.{exponents}
 use Rattle.answers.proofs.Keeping.{end-short, end-long}
+use Rattle.job.proofs.GuardLaws.{reach-most}
 use borrow.Author.Needs.{needs}
 use Rattle.answers.proofs.class_end.Statement.{statement}
 use Rattle.answers.proofs.class_end.Tie as tie
@@ -23,11 +23,14 @@ power-requires c κs = search needs
 sub-ones : tie.Need-sub-ones
 sub-ones c = let ok = supported-of (c .before .before .format-cause .ensures) (c .before .if1 .left) in let F = c .before .before .before .before .args .job .setting .format in omega (arith, exponents F ok (c .power .ensures), pow-pos (F .w))
 
+reach-requires : tie.Need-reach-requires
+reach-requires c κs = search needs
+
 add-if2 : tie.Need-add-if2
-add-if2 c = let ok = supported-of (c .before .before .before .format-cause .ensures) (c .before .before .if1 .left) in record { fits = omega (arith, significand-room (c .before .before .before .before .before .args .job .setting .format) ok) }
+add-if2 c = record { fits = omega (arith, c .reach .ensures, reach-most (c .before .before .before .before .before .args .job)) }
 
 add-if2-2 : tie.Need-add-if2-2
-add-if2-2 c = let ok = supported-of (c .before .before .before .format-cause .ensures) (c .before .before .if1 .left) in record { fits = omega (arith, significand-room (c .before .before .before .before .before .args .job .setting .format) ok) }
+add-if2-2 c = record { fits = omega (arith, c .reach .ensures, reach-most (c .before .before .before .before .before .args .job)) }
 
 returns-2 : tie.Need-returns-2
 returns-2 c = (λ v E e l h. absurd (omega arith), λ n. refl)
@@ -40,7 +43,7 @@ returns-3 c =
     let ok = supported-of (c .before .before .before .before .before .before .format-cause .ensures) (c .before .before .before .before .before .if1 .left) in
     let job = c .before .before .before .before .before .before .before .before .args .job in
     let is = ap (λ (n : ℕ). n - 1) (exponents (job .setting .format) ok (c .before .before .before .before .power .ensures)) in
-    (λ v. end-long job (c .before .before .before .before .power .result - 1) is (omega (arith, is, c .before .before .if2 .left)) (c .before .never-past .ensures (c .if3 .taken)), λ n. absurd (n ok))
+    (λ v. end-long job (c .before .before .before .before .power .result - 1) is (omega (arith, is, c .before .before .if2 .left, c .before .before .before .reach .ensures)) (c .before .never-past .ensures (c .if3 .taken)), λ n. absurd (n ok))
 
 sub-t4 : tie.Need-sub-t4
 sub-t4 c = omega (arith, c .before .before .if2 .left)
@@ -50,7 +53,7 @@ returns-4 c =
     let ok = supported-of (c .before .before .before .before .before .before .format-cause .ensures) (c .before .before .before .before .before .if1 .left) in
     let job = c .before .before .before .before .before .before .before .before .args .job in
     let is = ap (λ (n : ℕ). n - 1) (exponents (job .setting .format) ok (c .before .before .before .before .power .ensures)) in
-    (λ v. end-short job (c .before .before .before .before .power .result - 1) is (omega (arith, is, c .before .before .if2 .left)), λ n. absurd (n ok))
+    (λ v. end-short job (c .before .before .before .before .power .result - 1) is (omega (arith, is, c .before .before .if2 .left, c .before .before .before .reach .ensures)), λ n. absurd (n ok))
 
 pub class-end-spec : {M : Type 1} → statement M
 class-end-spec =
@@ -60,6 +63,7 @@ class-end-spec =
     returns
     power-requires
     sub-ones
+    reach-requires
     add-if2
     add-if2-2
     returns-2

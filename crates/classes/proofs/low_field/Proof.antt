@@ -20,7 +20,7 @@ some f gap zero ne = absurd (ne refl)
 some f gap (suc e) ne = refl
 
 returns : tie.Need-returns
-returns c = λ short. let a = c .before .before .args in none (a .f) _ (a .smaller .0) (c .if1 .taken)
+returns c = λ short. let a = c .before .before .args in none (a .reach) _ (a .smaller .0) (c .if1 .taken)
 
 unit-of-requires : tie.Need-unit-of-requires
 unit-of-requires c κs = search needs
@@ -46,7 +46,7 @@ returns-2 c = λ short.
     let far = c .before .before .wrapping-add-u64 .ensures ∙ mod-eq-of-lt (omega arith) in
     let gap = c .before .before .before .minus .ensures ∙ ap₂ (λ (x y : exponent.Unit). x .0 - y .0) (c .before .before .before .before .before .unit-of .ensures) (c .before .before .before .before .unit-of2 .ensures) in
     let low = c .before .minus2 .ensures ∙ ap₂ _-_ far gap in
-    ap fieldIs (c .field-of .ensures ∙ mod-eq-of-lt (omega arith) ∙ ap (λ (n : ℕ). n + 1) low) ∙ some (a .f) _ (a .smaller .0) (c .before .before .before .before .before .before .if1 .left)
+    ap fieldIs (c .field-of .ensures ∙ mod-eq-of-lt (omega arith) ∙ ap (λ (n : ℕ). n + 1) low) ∙ some (a .reach) _ (a .smaller .0) (c .before .before .before .before .before .before .if1 .left)
 
 pub low-field-spec : {M : Type 1} → statement M
 low-field-spec =

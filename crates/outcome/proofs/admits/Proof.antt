@@ -7,7 +7,8 @@ use Rattle.bits.proofs.Laws.{power-exact}
 use Rattle.format.specs.declared.Format.{Format}
 use Rattle.format.specs.Format.{Supported}
 use Rattle.format.proofs.Laws.{format-none}
-use Rattle.format.proofs.Room.{exponent-room}
+use Rattle.format.proofs.Room.{significand-room, exponent-room}
+use borrow.Author.Tests.{not-true, not-false}
 use borrow.Author.Needs.{needs}
 use Rattle.outcome.proofs.admits.Statement.{statement}
 use Rattle.outcome.proofs.admits.Tie as tie
@@ -36,29 +37,34 @@ returns-3 c =
     let p = c .before .before .power in
     ((λ t. absurd (false≢true t)), λ given. absurd (omega (arith, c .if3 .taken, power F (given .supported) (p .result) (p .ensures), given .unit-lt)))
 
+returns-4 : tie.Need-returns-4
+returns-4 c = ((λ t. absurd (false≢true t)), λ given formed valid. absurd (omega (arith, c .if4 .taken, valid .g-most)))
+
+roomy-requires : tie.Need-roomy-requires
+roomy-requires c κs =
+    let F = c .before .before .before .before .before .before .before .before .args .format in
+    omega (arith, significand-room F (format-none F .0 (sym (c .before .before .before .before .before .before .before .format-cause .ensures) ∙ c .before .before .before .before .before .before .if1 .left)))
+
+returns-5 : tie.Need-returns-5
+returns-5 c = ((λ t. absurd (false≢true t)), λ given formed valid. absurd (false≢true (sym (not-true (c .before .roomy .result) (c .if5 .taken)) ∙ c .before .roomy .ensures .1 (formed .room))))
+
 -- what has passed the checks
 some-count-requires : tie.Need-some-count-requires
 some-count-requires c κs =
-    let F = c .before .before .before .before .before .before .args .format in
-    let p = c .before .before .power in
-    let ok = format-none F .0 (sym (c .before .before .before .before .before .format-cause .ensures) ∙ c .before .before .before .before .if1 .left) in
-    record {
-      supported = ok;
-      sign-lt = omega (arith, c .before .before .before .if2 .left);
-      unit-lt = omega (arith, c .if3 .left, power F ok (p .result) (p .ensures));
-    }
+    let F = c .before .before .before .before .before .before .before .before .before .before .args .format in
+    let p = c .before .before .before .before .before .before .power in
+    let ok = format-none F .0 (sym (c .before .before .before .before .before .before .before .before .before .format-cause .ensures) ∙ c .before .before .before .before .before .before .before .before .if1 .left) in (
+      record {
+        supported = ok;
+        sign-lt = omega (arith, c .before .before .before .before .before .before .before .if2 .left);
+        unit-lt = omega (arith, c .before .before .before .before .if3 .left, power F ok (p .result) (p .ensures));
+      },
+      c .before .roomy .ensures .0 (not-false (c .before .roomy .result) (c .if5 .left)),
+      omega (arith, c .before .before .if4 .left),
+    )
 
-returns-4 : tie.Need-returns-4
-returns-4 c = ((λ t. some-count-requires (c .before) tt), λ given formed. c .some-count .ensures formed)
+returns-6 : tie.Need-returns-6
+returns-6 c = ((λ t. some-count-requires (c .before) tt .0), λ given formed valid. c .some-count .ensures formed valid)
 
 pub admits-spec : {M : Type 1} → statement M
-admits-spec =
-    tie.close
-    (tie.spec
-    format-cause-requires
-    returns
-    returns-2
-    power-requires
-    returns-3
-    some-count-requires
-    returns-4)
+admits-spec = tie.close (tie.spec format-cause-requires returns returns-2 power-requires returns-3 returns-4 roomy-requires returns-5 some-count-requires returns-6)

@@ -6,23 +6,21 @@ use Prim.Native.Nat.{ℕ, _≤_}
 use native.Mathlib.Omega.{arith}
 use lib.Ieee.{size}
 use Rattle.format.specs.declared.Format.{Format}
-use Rattle.mask.specs.declared.Mask.{Mask}
-use Rattle.mask.specs.Mask.{Meets}
 use Rattle.word.specs.declared.Unit as exponent
-use Rattle.rounding.specs.Outcome.{outcome}
 use Rattle.outcome.specs.declared.Aligned as pair
+use Rattle.outcome.specs.declared.Target.{Target}
 use Rattle.outcome.specs.declared.subnormal.Known.{Known}
 use Rattle.outcome.specs.declared.subnormal.Known.the-variants.{AtLeast}
-use Rattle.outcome.specs.Outcome.{Making, Admits}
+use Rattle.outcome.specs.Outcome.{Serves, Making, Admits}
 use Rattle.outcome.specs.Question.{Tells}
 use borrow.Author.Needs.{needs}
 use Rattle.outcome.proofs.some_count.Statement.{statement}
 use Rattle.outcome.proofs.some_count.Tie as tie
 
 -- no number of fewer digits serves
-from-least : (F : Format) (mode s : ℕ) (u : exponent.Unit) (A : pair.Aligned) (c : Mask) (n : ℕ) (r : Bool) → Tells F mode s u A c 0 (AtLeast n)
-    → ((r ≡ true) ↔ Making (F .f) A (λ (x : ℕ). (n ≤ size x) × Meets (outcome F mode (A .like) s u x) c)) → (r ≡ true) ↔ Admits F mode s u A c
-from-least F mode s u A c n r tells asks = (
+from-least : (F : Format) (mode s : ℕ) (u : exponent.Unit) (A : pair.Aligned) (T : Target) (n : ℕ) (r : Bool) → Tells F mode s u A T 0 (AtLeast n)
+    → ((r ≡ true) ↔ Making (F .f) A (λ (x : ℕ). (n ≤ size x) × Serves F mode s u A T x)) → (r ≡ true) ↔ Admits F mode s u A T
+from-least F mode s u A T n r tells asks = (
   (λ t. let m = asks .0 t in record { x = m .x; made = m .made; holds = m .holds .1 }),
   λ m. asks .1 (record { x = m .x; made = m .made; holds = (tells (m .x) (m .made) (omega arith) (m .holds), m .holds) }),
 )
@@ -43,8 +41,8 @@ returns : tie.Need-returns
 returns c =
     let a = c .before .before .before .args in
     let k = c .before .before .first-count in
-    λ formed. (
-      (λ t. subst (λ (r : Known). Tells (a .format) (a .mode) (a .sign) (a .unit) (a .aligned) (a .c) 0 r) (c .enum-told .given .1) (k .ensures formed)),
+    λ formed valid. (
+      (λ t. subst (λ (r : Known). Tells (a .format) (a .mode) (a .sign) (a .unit) (a .aligned) (a .target) 0 r) (c .enum-told .given .1) (k .ensures formed valid)),
       λ p. refl,
     )
 
@@ -53,9 +51,9 @@ returns-2 c =
     let a = c .before .before .before .before .before .args in
     let k = c .before .before .before .before .first-count in
     let n = c .before .before .known .given in
-    λ formed. from-least (a .format) (a .mode) (a .sign) (a .unit) (a .aligned) (a .c) (n .0 .0) (c .some-from .result)
-    (subst (λ (r : Known). Tells (a .format) (a .mode) (a .sign) (a .unit) (a .aligned) (a .c) 0 r) (n .1) (k .ensures formed))
-    (c .some-from .ensures formed)
+    λ formed valid. from-least (a .format) (a .mode) (a .sign) (a .unit) (a .aligned) (a .target) (n .0 .0) (c .some-from .result)
+    (subst (λ (r : Known). Tells (a .format) (a .mode) (a .sign) (a .unit) (a .aligned) (a .target) 0 r) (n .1) (k .ensures formed valid))
+    (c .some-from .ensures formed valid)
 
 pub some-count-spec : {M : Type 1} → statement M
 some-count-spec =

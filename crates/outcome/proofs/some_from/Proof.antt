@@ -6,11 +6,9 @@ use Prim.Native.Nat.{ℕ, _+_, _-_, _≤_, _<_}
 use native.Mathlib.Decide.{decLt}
 use native.Mathlib.Omega.{arith}
 use lib.Ieee.{size}
-use Rattle.mask.specs.Mask.{Meets}
-use Rattle.rounding.specs.Outcome.{outcome}
-use Rattle.outcome.specs.Outcome.{Formed, Making}
-use Rattle.outcome.proofs.Room.{columns-lt}
-use Rattle.outcome.proofs.Range.{most-digits-bounds, made-digits}
+use Rattle.job.specs.Dropped.{ValidDropped}
+use Rattle.outcome.specs.Outcome.{Formed, Serves, Making}
+use Rattle.outcome.proofs.Range.{made-digits}
 use Rattle.outcome.proofs.some_from.Statement.{statement}
 use Rattle.outcome.proofs.some_from.Tie as tie
 
@@ -23,35 +21,31 @@ more n k h below same = go (decLt n k)
     go (no l) = same (omega arith)
 
 abbrev Inv-loop : tie.InvT-loop
-Inv-loop format mode sign unit aligned c first last count₀ count =
+Inv-loop format mode sign unit aligned target first last count₀ count =
     (first ≤ count)
-    × ((n : ℕ) → first ≤ n → n < count → Formed (format .f) aligned → Making (format .f) aligned (λ (x : ℕ). (size x ≡ n) × Meets (outcome format mode (aligned .like) sign unit x) c) → ⊥)
+    × ((n : ℕ) → first ≤ n → n < count → Formed (format .f) aligned → ValidDropped (target .dropped) → Making (format .f) aligned (λ (x : ℕ). (size x ≡ n) × Serves format mode sign unit aligned target x) → ⊥)
 
 abbrev μ-loop : tie.MeasureT-loop
-μ-loop format mode sign unit aligned c first last count₀ count = last + 1 - count
+μ-loop format mode sign unit aligned target first last count₀ count = last + 1 - count
 
-most-requires : tie.Need-most-requires Inv-loop μ-loop
-most-requires c κs = columns-lt (c .args .format) (c .pre .supported)
+columns-requires : tie.Need-columns-requires Inv-loop μ-loop
+columns-requires c κs = c .pre .1 .columns
 
 loop-holds : tie.Need-loop-holds Inv-loop μ-loop
-loop-holds c = (omega arith, λ n l h formed m. absurd (omega arith))
+loop-holds c = (omega arith, λ n l h formed valid m. absurd (omega arith))
 
 fits-requires : tie.Need-fits-requires Inv-loop μ-loop
-fits-requires c κs =
-    let s = c .before .before .before in
-    (s .pre, omega (arith, c .loop-test .taken, c .before .before .most .ensures, most-digits-bounds (s .args .format .f) (s .args .aligned .like) .1))
+fits-requires c κs = (c .before .before .before .pre .0, c .before .before .before .pre .1, c .before .before .before .pre .2, omega (arith, c .loop-test .taken, c .before .before .columns .ensures))
 
 returns : tie.Need-returns Inv-loop μ-loop
 returns c =
-    λ formed. (
-      (λ t. let p = c .before .fits2 .ensures formed .0 (c .if1 .taken) in record { x = p .x; made = p .made; holds = (omega (arith, p .holds .0, c .before .before .before .loop .inv .0), p .holds .1) }),
+    λ formed valid. (
+      (λ t. let p = c .before .fits2 .ensures formed valid .0 (c .if1 .taken) in record { x = p .x; made = p .made; holds = (omega (arith, p .holds .0, c .before .before .before .loop .inv .0), p .holds .1) }),
       λ p. refl,
     )
 
 add-count : tie.Need-add-count Inv-loop μ-loop
-add-count c =
-    let s = c .before .before .before .before .before in
-    omega (arith, c .before .before .loop-test .taken, c .before .before .before .before .most .ensures, most-digits-bounds (s .args .format .f) (s .args .aligned .like) .1, columns-lt (s .args .format) (s .pre .supported))
+add-count c = omega (arith, c .before .before .loop-test .taken, c .before .before .before .before .columns .ensures, c .before .before .before .before .before .pre .1 .columns)
 
 loop-less : tie.Need-loop-less Inv-loop μ-loop
 loop-less c = omega (arith, c .before .before .loop-test .taken)
@@ -61,31 +55,18 @@ loop-again c =
     let l = c .before .before .before .loop in
     let r = c .before .fits2 in (
       omega (arith, l .inv .0),
-      λ n least h formed m. more n (l .count) h (λ below. l .inv .1 n least below formed m)
-          (λ e. false≢true (sym (c .if1 .left) ∙ r .ensures formed .1 (record { x = m .x; made = m .made; holds = (m .holds .0 ∙ e, m .holds .1) }))),
+      λ n least h formed valid m. more n (l .count) h (λ below. l .inv .1 n least below formed valid m)
+          (λ e. false≢true (sym (c .if1 .left) ∙ r .ensures formed valid .1 (record { x = m .x; made = m .made; holds = (m .holds .0 ∙ e, m .holds .1) }))),
     )
 
 returns-2 : tie.Need-returns-2 Inv-loop μ-loop
 returns-2 c =
-    let top = c .before .before .most in
     let a = c .before .before .before .args in
-    λ formed. (
+    λ formed valid. (
       (λ t. absurd (false≢true t)),
-      λ p. absurd (c .before .loop .inv .1 (size (p .x)) (p .holds .0) (omega (arith, top .ensures, made-digits (a .format .f) (a .aligned) (p .x) (p .made), c .loop-test .left)) formed
+      λ p. absurd (c .before .loop .inv .1 (size (p .x)) (p .holds .0) (omega (arith, c .before .before .columns .ensures, made-digits (a .format .f) (a .aligned) (p .x) (p .made), c .loop-test .left)) formed valid
           (record { x = p .x; made = p .made; holds = (refl, p .holds .1) })),
     )
 
 pub some-from-spec : {M : Type 1} → statement M
-some-from-spec =
-    tie.close
-    (tie.spec
-    Inv-loop
-    μ-loop
-    most-requires
-    loop-holds
-    fits-requires
-    returns
-    add-count
-    loop-less
-    loop-again
-    returns-2)
+some-from-spec = tie.close (tie.spec Inv-loop μ-loop columns-requires loop-holds fits-requires returns add-count loop-less loop-again returns-2)

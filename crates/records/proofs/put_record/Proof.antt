@@ -78,7 +78,7 @@ sizes-are c =
     c .field-sizes .ensures ∙ ap₂ fieldSizes (c .before .word-bytes .ensures) (k .pre .1)
 
 put-numbers-requires-2 : tie.Need-put-numbers-requires-2
-unfolding recordBytes
+unfolding recordBytes entryNumbers
 put-numbers-requires-2 c κs =
     let n = c .before .before .before in
     let f = n .before in

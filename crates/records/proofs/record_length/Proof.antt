@@ -23,7 +23,7 @@ slice-aggregate-total c = search needs
 sizes-are : (c : tie.After-field-sizes) → c .field-sizes .result ≡ fieldSizes (wordBytes (c .before .before .args .format)) (c .before .before .args .map)
 sizes-are c = c .field-sizes .ensures ∙ ap (λ (k : ℕ). fieldSizes k (c .before .before .args .map)) (c .before .word-bytes .ensures)
 
-most : (c : tie.After-field-sizes) → total (c .field-sizes .result) ≤ 81
+most : (c : tie.After-field-sizes) → total (c .field-sizes .result) ≤ 86
 most c = omega (arith, ap total (sizes-are c), total-most (c .before .before .args .format) (c .before .before .args .map))
 
 total-requires : tie.Need-total-requires

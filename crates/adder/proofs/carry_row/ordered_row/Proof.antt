@@ -11,7 +11,7 @@ use Rattle.format.proofs.Room.{significand-room}
 use Rattle.word.specs.declared.Unit as exponent
 use Rattle.word.specs.Word.{unitOf}
 use Rattle.adder.specs.Row.{gather, carryIn}
-use Rattle.rounding.specs.Sticky.{sticky}
+use Rattle.rounding.specs.Dropped.{sticky}
 use Rattle.rounding.proofs.Sticky.{sticky-lt}
 use Rattle.adder.proofs.RowBit.{row-bit}
 use borrow.Author.Needs.{needs}

@@ -18,7 +18,7 @@ none g u zero e = refl
 none g u (suc i) e = absurd (omega arith)
 
 returns : tie.Need-returns
-returns c = let a = c .before .before .args in ap fieldIs (none (farGap (a .f)) (a .unit .0) (a .field .0) (c .if1 .taken))
+returns c = let a = c .before .before .args in ap fieldIs (none (farGap (a .reach)) (a .unit .0) (a .field .0) (c .if1 .taken))
 
 add-minus : tie.Need-add-minus
 add-minus c = search needs
@@ -30,7 +30,7 @@ minus-requires : tie.Need-minus-requires
 minus-requires c κs = search needs
 
 returns-2 : tie.Need-returns-2
-returns-2 c = let a = c .before .before .before .before .before .args in ap fieldIs (c .minus .ensures ∙ some (farGap (a .f)) (a .unit .0) (a .field .0) (c .before .before .before .if1 .left))
+returns-2 c = let a = c .before .before .before .before .before .args in ap fieldIs (c .minus .ensures ∙ some (farGap (a .reach)) (a .unit .0) (a .field .0) (c .before .before .before .if1 .left))
 
 pub field-at-spec : {M : Type 1} → statement M
 field-at-spec = tie.close (tie.spec returns add-minus add-minus-2 minus-requires returns-2)

@@ -18,11 +18,11 @@ add-t7 c = search needs
 
 returns : tie.Need-returns
 unfolding leastField
-returns c = let a = c .before .before .args in rw (le-leb (a .class .low .0 + 2) (topField (a .f) .0) (omega (arith, c .if1 .taken)))
+returns c = let a = c .before .before .args in rw (le-leb (a .class .low .0 + 2) (topField (a .reach) .0) (omega (arith, c .if1 .taken)))
 
 returns-2 : tie.Need-returns-2
 unfolding leastField
-returns-2 c = let a = c .before .before .args in rw (lt-leb (a .class .low .0 + 2) (topField (a .f) .0) (omega (arith, c .if1 .left)))
+returns-2 c = let a = c .before .before .args in rw (lt-leb (a .class .low .0 + 2) (topField (a .reach) .0) (omega (arith, c .if1 .left)))
 
 pub least-field-spec : {M : Type 1} → statement M
 least-field-spec = tie.close (tie.spec add-if1 add-if1-2 add-t7 returns returns-2)

@@ -17,7 +17,7 @@ returns-2 : tie.Need-returns-2
 returns-2 c =
     let a = c .before .before .args in
     λ p kept. (
-      marked (a .job) (a .class) (p .valid .setting .format),
+      marked (a .job) (a .class),
       λ e q. false≢true (sym e ∙ c .class-admits .ensures p (any-formed (a .job .setting .format)) .1 q),
     )
 

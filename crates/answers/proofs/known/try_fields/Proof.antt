@@ -4,7 +4,9 @@ use mathlib.Core.Path.{_≡_, sym, ap, _∙_, subst}
 use Prim.Native.Nat.{ℕ, _+_, _-_, _≤_, _<_}
 use native.Mathlib.Decide.{ℕ-discrete}
 use native.Mathlib.Omega.{arith}
-use Rattle.format.proofs.Room.{significand-room}
+use Rattle.job.specs.Guards.{reach}
+use Rattle.job.proofs.GuardLaws.{reach-most}
+use borrow.Author.Needs.{needs}
 use Rattle.mask.specs.Mask.{Meets}
 use Rattle.word.specs.declared.Biased.{Biased}
 use Rattle.word.specs.Masks.{exponentMask}
@@ -23,25 +25,28 @@ next P n some above here i h = go (ℕ-discrete (n - 1) (i .0))
     go (no ne) = above i (omega arith)
 
 abbrev Inv-loop : tie.InvT-loop
-Inv-loop job class unit known least refused₀ n₀ refused n =
-    (n ≤ mostField (job .setting .format .f) + 1)
+Inv-loop job class unit known reach₀ least refused₀ n₀ refused n =
+    (n ≤ mostField (reach job) + 1)
     × (ClassFor job class → Refuses job class known
-    → (Refuses job class refused) × ((i : Biased) → n ≤ i .0 → Meets (fieldAt (job .setting .format .f) unit i .0) (exponentMask (job .setting .format) (job .c .mask)) → Never job class i))
+    → (Refuses job class refused) × ((i : Biased) → n ≤ i .0 → Meets (fieldAt (reach job) unit i .0) (exponentMask (job .setting .format) (job .c .mask)) → Never job class i))
 
 abbrev μ-loop : tie.MeasureT-loop
-μ-loop job class unit known least refused₀ n₀ refused n = n
+μ-loop job class unit known reach₀ least refused₀ n₀ refused n = n
+
+reach-requires : tie.Need-reach-requires Inv-loop μ-loop
+reach-requires c κs = search needs
 
 least-field-requires : tie.Need-least-field-requires Inv-loop μ-loop
-least-field-requires c κs = (omega (arith, significand-room (c .args .job .setting .format) (c .pre .0)), c .pre .1)
+least-field-requires c κs = rw (c .reach .ensures) (omega (arith, reach-most (c .before .args .job)), c .before .pre .1)
 
 add-n : tie.Need-add-n Inv-loop μ-loop
-add-n c = record { fits = omega (arith, significand-room (c .before .before .args .job .setting .format) (c .before .before .pre .0)) }
+add-n c = record { fits = omega (arith, c .before .reach .ensures, reach-most (c .before .before .args .job)) }
 
 add-n-2 : tie.Need-add-n-2 Inv-loop μ-loop
-add-n-2 c = record { fits = omega (arith, significand-room (c .before .before .args .job .setting .format) (c .before .before .pre .0)) }
+add-n-2 c = record { fits = omega (arith, c .before .reach .ensures, reach-most (c .before .before .args .job)) }
 
 loop-holds : tie.Need-loop-holds Inv-loop μ-loop
-loop-holds c = (omega arith, λ p kept. (kept, λ i l met h. absurd (omega arith)))
+loop-holds c = (omega (arith, c .before .reach .ensures), λ p kept. (kept, λ i l met h. absurd (omega (arith, c .before .reach .ensures))))
 
 sub-n : tie.Need-sub-n Inv-loop μ-loop
 sub-n c = omega (arith, c .loop-test .taken)
@@ -63,13 +68,13 @@ loop-again c =
       λ p kept.
           let t = c .before .try-field .ensures p (l .loop .inv .1 p kept .0) in (
             t .0,
-            next (λ (i : Biased). Meets (fieldAt (a .job .setting .format .f) (a .unit) i .0) (exponentMask (a .job .setting .format) (a .job .c .mask)) → Never (a .job) (a .class) i) (l .loop .n)
+            next (λ (i : Biased). Meets (fieldAt (reach (a .job)) (a .unit) i .0) (exponentMask (a .job .setting .format) (a .job .c .mask)) → Never (a .job) (a .class) i) (l .loop .n)
                 (omega (arith, c .before .before .loop-test .taken)) (l .loop .inv .1 p kept .1) (t .1 (c .if1 .left)),
           ),
     )
 
 returns-2 : tie.Need-returns-2 Inv-loop μ-loop
-returns-2 c = λ p kept. let inv = c .before .loop .inv .1 p kept in (inv .0, λ e i least met. inv .1 i (omega (arith, c .loop-test .left, ap (λ (e : Biased). e .0) (c .before .before .before .least-field .ensures))) met)
+returns-2 c = λ p kept. let inv = c .before .loop .inv .1 p kept in (inv .0, λ e i least met. inv .1 i (omega (arith, c .loop-test .left, ap (λ (e : Biased). e .0) (rw (c .before .before .before .reach .ensures) at (c .before .before .least-field .ensures)))) met)
 
 pub try-fields-spec : {M : Type 1} → statement M
 try-fields-spec =
@@ -77,6 +82,7 @@ try-fields-spec =
     (tie.spec
     Inv-loop
     μ-loop
+    reach-requires
     least-field-requires
     add-n
     add-n-2

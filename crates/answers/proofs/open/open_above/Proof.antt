@@ -14,11 +14,11 @@ use Rattle.answers.proofs.open.open_above.Tie as tie
 
 -- the fields within the run, or all where it reaches those with a far gap, are closed
 closed-at : (c : tie.After-run-from) → (d : Biased) → c .before .before .before .before .before .before .args .eb .0 ≤ d .0
-    → (farGap (c .before .before .before .before .before .before .args .f) < farGap (c .before .before .before .before .before .before .args .f) - c .before .minus .result + c .run-from .result) ⊎ (d .0 < c .before .before .before .before .before .before .args .eb .0 + c .run-from .result)
-    → bit (c .before .before .before .before .before .before .args .closed) (closedBit (c .before .before .before .before .before .before .args .f) 1 (lowField (c .before .before .before .before .before .before .args .f) d (c .before .before .before .before .before .before .args .ea) .0)) ≡ 1
+    → (farGap (c .before .before .before .before .before .before .args .reach) < farGap (c .before .before .before .before .before .before .args .reach) - c .before .minus .result + c .run-from .result) ⊎ (d .0 < c .before .before .before .before .before .before .args .eb .0 + c .run-from .result)
+    → bit (c .before .before .before .before .before .before .args .closed) (closedBit (c .before .before .before .before .before .before .args .reach) 1 (lowField (c .before .before .before .before .before .before .args .reach) d (c .before .before .before .before .before .before .args .ea) .0)) ≡ 1
 closed-at c d from reach =
     let s = c .before .before .before .before .before .before in
-    run-over (s .args .f) (s .args .closed) (s .args .ea .0) (s .args .eb .0) (d .0) (farGap (s .args .f) - c .before .minus .result) (c .run-from .result)
+    run-over (s .args .reach) (s .args .closed) (s .args .ea .0) (s .args .eb .0) (d .0) (farGap (s .args .reach) - c .before .minus .result) (c .run-from .result)
     (omega (arith, c .before .before .before .before .if1 .left)) (s .pre .1) from (omega (arith, c .before .minus .ensures)) reach (c .run-from .ensures .1)
 
 add-far : tie.Need-add-far
@@ -36,7 +36,7 @@ returns c =
       omega (arith, s .pre .2),
       omega arith,
       λ d from l.
-          let top : closedBit (s .args .f) 1 (lowField (s .args .f) d (s .args .ea) .0) ≡ s .args .f + 3 + 1 = omega (arith, low-zero (s .args .f) (d .0 - 1 - (s .args .ea .0 - 1)) (s .args .ea .0) (c .before .before .if1 .taken)) in
+          let top : closedBit (s .args .reach) 1 (lowField (s .args .reach) d (s .args .ea) .0) ≡ s .args .reach + 3 + 1 = omega (arith, low-zero (s .args .reach) (d .0 - 1 - (s .args .ea .0 - 1)) (s .args .ea .0) (c .before .before .if1 .taken)) in
           ap (bit (s .args .closed)) top ∙ sym (c .before .bit-at .ensures) ∙ c .if2 .taken,
     )
 

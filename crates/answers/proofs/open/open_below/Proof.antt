@@ -15,12 +15,12 @@ use Rattle.answers.proofs.open.open_below.Tie as tie
 -- the fields before the end of the run are closed
 closed-at : (c : tie.After-run-from) → 0 < c .run-from .result → (d : Biased) → c .before .before .before .before .before .before .args .eb .0 ≤ d .0 → d .0 ≤ c .before .before .before .before .before .before .args .ea .0
     → d .0 < c .before .before .before .before .before .before .args .eb .0 + c .before .before .minus .result + c .run-from .result
-    → bit (c .before .before .before .before .before .before .args .closed) (closedBit (c .before .before .before .before .before .before .args .f) 0 (lowField (c .before .before .before .before .before .before .args .f) (c .before .before .before .before .before .before .args .ea) d .0)) ≡ 1
+    → bit (c .before .before .before .before .before .before .args .closed) (closedBit (c .before .before .before .before .before .before .args .reach) 0 (lowField (c .before .before .before .before .before .before .args .reach) (c .before .before .before .before .before .before .args .ea) d .0)) ≡ 1
 closed-at c pos d from to l =
     let s = c .before .before .before .before .before .before in
     let is = c .before .before .minus .ensures in
-    run-below (s .args .f) (s .args .closed) (s .args .ea .0) (s .args .eb .0) (d .0) (c .run-from .result) (omega (arith, s .pre .1)) (omega (arith, c .before .before .before .before .if1 .left)) from to pos (omega (arith, is))
-    (λ k h. ap (λ (n : ℕ). bit (s .args .closed) (s .args .eb .0 + n - (s .args .ea .0 - (s .args .f + 3)) + 1 + k)) (sym is) ∙ c .run-from .ensures .1 k h)
+    run-below (s .args .reach) (s .args .closed) (s .args .ea .0) (s .args .eb .0) (d .0) (c .run-from .result) (omega (arith, s .pre .1)) (omega (arith, c .before .before .before .before .if1 .left)) from to pos (omega (arith, is))
+    (λ k h. ap (λ (n : ℕ). bit (s .args .closed) (s .args .eb .0 + n - (s .args .ea .0 - (s .args .reach + 3)) + 1 + k)) (sym is) ∙ c .run-from .ensures .1 k h)
 
 bit-at-requires : tie.Need-bit-at-requires
 bit-at-requires c κs = search needs
@@ -33,7 +33,7 @@ returns c =
       λ d from l.
           let none : d .0 ≡ 0 = omega (arith, bit-lt (s .args .closed) 0, is) in (
             omega arith,
-            ap (bit (s .args .closed)) (low-zero (s .args .f) (s .args .ea .0 - 1 - (d .0 - 1)) (d .0) none) ∙ omega (arith, bit-lt (s .args .closed) 0, is),
+            ap (bit (s .args .closed)) (low-zero (s .args .reach) (s .args .ea .0 - 1 - (d .0 - 1)) (d .0) none) ∙ omega (arith, bit-lt (s .args .closed) 0, is),
           ),
     )
 

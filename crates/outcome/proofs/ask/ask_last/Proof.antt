@@ -3,41 +3,45 @@
 use mathlib.Core.Logic.{_↔_}
 use mathlib.Core.Path.{_≡_, sym, ap₂, _∙_}
 use mathlib.Core.Bool.{Bool, true, false}
-use Prim.Native.Nat.{ℕ, _+_, _*_, _%_, _^_, _≤_, _<_}
+use Prim.Native.Nat.{ℕ, _*_, _%_, _^_, _<_}
 use native.Mathlib.Omega.{arith}
 use lib.Pow.{shl-exact}
 use Rattle.bits.specs.Bit.{bit}
 use Rattle.bits.proofs.Laws.{one-shl}
 use Rattle.mask.specs.declared.Mask.{Mask}
 use Rattle.mask.specs.declared.Joined.the-variants as reply
-use Rattle.mask.specs.Mask.{Meets}
 use Rattle.mask.specs.Join.{join}
-use Rattle.rounding.specs.Width.{mostRounded}
 use Rattle.outcome.specs.declared.Aligned as pair
 use Rattle.outcome.specs.Outcome.{Making}
+use Rattle.outcome.specs.Question.{oneBit, Added}
 use Rattle.outcome.proofs.Making.{none-made, making-answer}
-use Rattle.outcome.proofs.Last.{oneBit, last-joined, last-refused}
+use Rattle.outcome.proofs.Last.{last-joined, last-refused}
 use borrow.Author.Needs.{needs}
 use Rattle.outcome.proofs.ask.ask_last.Statement.{statement}
 use Rattle.outcome.proofs.ask.ask_last.Tie as tie
 
 -- the mask that the code forms
-kept : (j b : ℕ) → j ≤ mostRounded → b < 2 → (x : Mask) → join x (record { care = (1 * 2 ^ j) % 2 ^ 64; value = (b * 2 ^ j) % 2 ^ 64 }) ≡ join x (oneBit j b)
-kept j b l h x = ap₂ (λ (s t : ℕ). join x (record { care = s; value = t })) (one-shl j (omega arith)) (shl-exact 1 j 64 h (omega arith))
+kept : (j b : ℕ) → j < 64 → b < 2 → (x : Mask) → join x (record { care = (1 * 2 ^ j) % 2 ^ 64; value = (b * 2 ^ j) % 2 ^ 64 }) ≡ join x (oneBit j b)
+kept j b l h x = ap₂ (λ (s t : ℕ). join x (record { care = s; value = t })) (one-shl j l) (shl-exact 1 j 64 h (omega arith))
 
 -- the question with the joined mask is the question
 module _ (f : ℕ) (A : pair.Aligned) (x z : Mask) (j b constant carry : ℕ) (h : b < 2) where
   met : (m : Mask) → join x (oneBit j b) ≡ reply.Mask m → (r : Bool)
-      → ((r ≡ true) ↔ Making f A (λ (n : ℕ). Meets n m × Meets (n + constant + carry) z))
-      → (r ≡ true) ↔ Making f A (λ (n : ℕ). (Meets n x × (bit n j ≡ b)) × Meets (n + constant + carry) z)
+      → ((r ≡ true) ↔ Making f A (Added f A m z constant carry))
+      → (r ≡ true) ↔ Making f A (λ (n : ℕ). (bit n j ≡ b) × Added f A x z constant carry n)
   met m e r asks =
-      making-answer f A (λ (n : ℕ). Meets n m × Meets (n + constant + carry) z) (λ (n : ℕ). (Meets n x × (bit n j ≡ b)) × Meets (n + constant + carry) z) r
-      (λ n made. let p = last-joined j b h x m e n in ((λ q. (p .0 (q .0), q .1)), λ q. (p .1 (q .0), q .1))) asks
+      making-answer f A (Added f A m z constant carry) (λ (n : ℕ). (bit n j ≡ b) × Added f A x z constant carry n) r
+      (λ n made.
+      let p = last-joined j b h x m e n in (
+        (λ q. let k = p .0 (q .number) in (k .1, record { number = k .0; fits = q .fits; sum = q .sum })),
+        λ q. record { number = p .1 (q .1 .number, q .0); fits = q .1 .fits; sum = q .1 .sum },
+      ))
+      asks
 
-  clash : (k : ℕ) → join x (oneBit j b) ≡ reply.Refused k → (false ≡ true) ↔ Making f A (λ (n : ℕ). (Meets n x × (bit n j ≡ b)) × Meets (n + constant + carry) z)
+  clash : (k : ℕ) → join x (oneBit j b) ≡ reply.Refused k → (false ≡ true) ↔ Making f A (λ (n : ℕ). (bit n j ≡ b) × Added f A x z constant carry n)
   clash k e =
-      none-made f A (λ (n : ℕ). (Meets n x × (bit n j ≡ b)) × Meets (n + constant + carry) z)
-      (λ m. last-refused j b h x k e (m .x) (m .holds .0 .0) (m .holds .0 .1))
+      none-made f A (λ (n : ℕ). (bit n j ≡ b) × Added f A x z constant carry n)
+      (λ m. last-refused j b h x k e (m .x) (m .holds .1 .number) (m .holds .0))
 
 shl-t12 : tie.Need-shl-t12
 shl-t12 c = search needs
@@ -52,7 +56,7 @@ enum-known-joined : tie.Need-enum-known-joined
 enum-known-joined c = search needs
 
 ask-requires : tie.Need-ask-requires
-ask-requires c κs = let s = c .before .before .before .before in (s .pre .0, s .pre .3, s .pre .4, s .pre .5)
+ask-requires c κs = let s = c .before .before .before .before in (s .pre .0, s .pre .3, s .pre .4)
 
 enum-told : tie.Need-enum-told
 enum-told c = search needs

@@ -18,10 +18,10 @@ raised-requires c κs = search needs
 
 returns : tie.Need-returns
 returns c =
-    let a = c .before .before .before .before .args in
-    let up = c .before .before .one-above in
-    let over = c .before .opposite in
-    λ f most. reversed-asked f (a .aligned) (up .result) (over .result) (c .raised .result) (a .z) most (up .ensures) (over .ensures) (c .raised .ensures)
+    let a = c .before .before .before .before .before .args in
+    let up = c .before .before .before .one-above in
+    let over = c .before .before .opposite in
+    λ f. reversed-asked f (a .aligned) (up .result) (over .result) (c .raised .result) (a .z) (up .ensures) (over .ensures) (c .raised .ensures)
 
 pub reversed-wires-spec : {M : Type 1} → statement M
 reversed-wires-spec = tie.close (tie.spec one-above-requires opposite-requires add-raised raised-requires returns)

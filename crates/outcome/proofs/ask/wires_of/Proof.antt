@@ -2,12 +2,14 @@
 -- Assumes nothing.
 use mathlib.Core.Logic.{_↔_}
 use mathlib.Core.Path.{_≡_, sym, subst}
-use Prim.Native.Nat.{ℕ, _+_}
+use Prim.Native.Nat.{ℕ, _+_, _^_, _<_}
 use native.Mathlib.Omega.{arith}
 use Rattle.mask.specs.declared.Mask.{Mask}
 use Rattle.mask.specs.Mask.{Meets}
 use Rattle.outcome.specs.declared.Aligned as pair
-use Rattle.outcome.specs.Outcome.{Making}
+use Rattle.outcome.specs.Outcome.{Making, columnsOf}
+use Rattle.outcome.specs.Question.{Added}
+use Rattle.outcome.proofs.Range.{made-lt}
 use Rattle.outcome.proofs.Making.{making-map}
 use Rattle.outcome.proofs.Asked.{asked}
 use borrow.Author.Needs.{needs}
@@ -18,21 +20,27 @@ module _ (f : ℕ) (A : pair.Aligned) (x z m : Mask) (constant carry : ℕ) (non
   same : (n : ℕ) → n ≡ n + constant + carry
   same n = omega (arith, none)
 
-  apart : Making f A (λ (n : ℕ). Meets n m) → Making f A (λ (n : ℕ). Meets n x × Meets (n + constant + carry) z)
-  apart =
-      making-map f A (λ (n : ℕ). Meets n m) (λ (n : ℕ). Meets n x × Meets (n + constant + carry) z)
-      (λ n met. (both n .0 met .0, subst (λ (k : ℕ). Meets k z) (same n) (both n .0 met .1)))
+  apart : Making f A (λ (n : ℕ). Meets n m) → Making f A (Added f A x z constant carry)
+  apart p = record {
+    x = p .x;
+    made = p .made;
+    holds = record {
+      number = both (p .x) .0 (p .holds) .0;
+      fits = subst (λ (k : ℕ). k < 2 ^ columnsOf f A) (same (p .x)) (made-lt f A (p .x) (p .made));
+      sum = subst (λ (k : ℕ). Meets k z) (same (p .x)) (both (p .x) .0 (p .holds) .1);
+    };
+  }
 
-  together : Making f A (λ (n : ℕ). Meets n x × Meets (n + constant + carry) z) → Making f A (λ (n : ℕ). Meets n m)
+  together : Making f A (Added f A x z constant carry) → Making f A (λ (n : ℕ). Meets n m)
   together =
-      making-map f A (λ (n : ℕ). Meets n x × Meets (n + constant + carry) z) (λ (n : ℕ). Meets n m)
-      (λ n p. both n .1 (p .0, subst (λ (k : ℕ). Meets k z) (sym (same n)) (p .1)))
+      making-map f A (Added f A x z constant carry) (λ (n : ℕ). Meets n m)
+      (λ n p. both n .1 (p .number, subst (λ (k : ℕ). Meets k z) (sym (same n)) (p .sum)))
 
 both-requires : tie.Need-both-requires
 both-requires c κs = search needs
 
 reversed-wires-requires : tie.Need-reversed-wires-requires
-reversed-wires-requires c κs = search needs
+reversed-wires-requires c κs = c .before .before .pre .0
 
 returns : tie.Need-returns
 returns c =
@@ -41,22 +49,22 @@ returns c =
     let reversed = c .before .before .if1 .taken in
     let none = s .pre .2 reversed in
     let m = c .before .both in
-    λ f most formed.
-    let w = c .reversed-wires .ensures f most reversed formed in
+    λ f formed.
+    let w = c .reversed-wires .ensures f reversed formed in
     (λ e. apart f (a .aligned) (a .x) (a .z) (m .result) (a .constant) (a .carry) none (m .ensures) (w .0 e), λ p. w .1 (together f (a .aligned) (a .x) (a .z) (m .result) (a .constant) (a .carry) none (m .ensures) p))
 
 add-raised : tie.Need-add-raised
-add-raised c = search needs
+add-raised c = omega (arith, c .before .before .before .before .pre .0)
 
 raised-requires : tie.Need-raised-requires
-raised-requires c κs = search needs
+raised-requires c κs = omega (arith, c .before .before .before .before .pre .0)
 
 returns-2 : tie.Need-returns-2
 returns-2 c =
-    let s = c .before .before .before .before .before in
+    let s = c .before .before .before .before .before .before in
     let a = s .args in
     let k = c .before .raised in
-    λ f most. asked f (a .aligned) (k .result) (a .x) (a .z) (a .constant) (a .carry) most (s .pre .0, s .pre .1) (k .ensures) (c .before .before .before .before .if1 .left)
+    λ f. asked f (a .aligned) (k .result) (a .x) (a .z) (a .constant) (a .carry) (s .pre .1) (k .ensures) (c .before .before .before .before .before .if1 .left)
 
 pub wires-of-spec : {M : Type 1} → statement M
 wires-of-spec = tie.close (tie.spec both-requires reversed-wires-requires returns add-raised raised-requires returns-2)

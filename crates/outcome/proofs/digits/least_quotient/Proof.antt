@@ -10,6 +10,9 @@ add-if1 c = search needs
 add-if1-2 : tie.Need-add-if1-2
 add-if1-2 c = search needs
 
+add-if1-3 : tie.Need-add-if1-3
+add-if1-3 c = search needs
+
 returns : tie.Need-returns
 returns c = rw (lt-ltb _ _ (c .if1 .taken))
 
@@ -17,4 +20,4 @@ returns-2 : tie.Need-returns-2
 returns-2 c = rw (le-ltb _ _ (c .if1 .left))
 
 pub least-quotient-spec : {M : Type 1} → statement M
-least-quotient-spec = tie.close (tie.spec add-if1 add-if1-2 returns returns-2)
+least-quotient-spec = tie.close (tie.spec add-if1 add-if1-2 add-if1-3 returns returns-2)

@@ -15,6 +15,9 @@ add-minus c = search needs
 add-minus-2 : tie.Need-add-minus-2
 add-minus-2 c = search needs
 
+add-minus-3 : tie.Need-add-minus-3
+add-minus-3 c = search needs
+
 minus-requires : tie.Need-minus-requires
 minus-requires c κs = search needs
 
@@ -23,4 +26,4 @@ unfolding of
 returns c = ap of (c .minus .ensures)
 
 pub rounded-unit-spec : {M : Type 1} → statement M
-rounded-unit-spec = tie.close (tie.spec add-minus add-minus-2 minus-requires returns)
+rounded-unit-spec = tie.close (tie.spec add-minus add-minus-2 add-minus-3 minus-requires returns)

@@ -1,9 +1,7 @@
 -- `outcome::masks::raised` meets its contract: a short shift of a short mask loses no bit. Assumes nothing.
 use mathlib.Core.Path.{ap₂}
 use Prim.Native.Nat.{ℕ}
-use native.Mathlib.Omega.{arith}
 use lib.Pow.{shl-exact}
-use Rattle.rounding.specs.Width.{shortBits}
 use borrow.Author.Needs.{needs}
 use Rattle.outcome.proofs.masks.raised.Statement.{statement}
 use Rattle.outcome.proofs.masks.raised.Tie as tie
@@ -17,7 +15,7 @@ shl-t4 c = search needs
 returns : tie.Need-returns
 returns c =
     let a = c .before .before .args in
-    λ hc hv. ap₂ (λ (s t : ℕ). record { care = s; value = t }) (shl-exact shortBits (a .d) 64 hc (omega arith)) (shl-exact shortBits (a .d) 64 hv (omega arith))
+    λ k room hc hv. ap₂ (λ (s t : ℕ). record { care = s; value = t }) (shl-exact k (a .d) 64 hc room) (shl-exact k (a .d) 64 hv room)
 
 pub raised-spec : {M : Type 1} → statement M
 raised-spec = tie.close (tie.spec shl-t3 shl-t4 returns)

@@ -1,15 +1,26 @@
--- `outcome::subnormal::subnormal` meets its contract: the kept part of a number of few digits is asked, by the mask of the fraction, which is
--- all of it. Assumes nothing.
-use mathlib.Core.Path.{refl}
+-- `outcome::subnormal::subnormal` meets its contract. Assumes nothing.
+use mathlib.Core.Path.{_≡_, refl, ap, _∙_, subst}
+use Prim.Native.Nat.{ℕ, _+_, _-_, _*_, _^_, _≤_, _<_}
 use native.Mathlib.Nat.{lt-of-lt-of-le}
 use native.Mathlib.Omega.{arith}
 use borrow.Author.Tests.{not-true, not-false}
-use lib.Pow.{pow-mono}
-use Rattle.rounding.specs.Width.{shortBits}
-use Rattle.outcome.proofs.Room.{columns-lt, unit-short}
+use lib.Pow.{pow-add, pow-mono}
+use Rattle.rounding.specs.Width.{alignedBits}
+use Rattle.outcome.specs.Outcome.{columnsOf}
+use Rattle.outcome.specs.Question.{Below}
+use Rattle.outcome.proofs.Room.{unit-short}
+use Rattle.outcome.proofs.Range.{most-digits-bounds, made-lt}
 use Rattle.outcome.proofs.BelowNormal.{subnormal-asked, subnormal-refused}
 use Rattle.outcome.proofs.subnormal.subnormal.Statement.{statement}
 use Rattle.outcome.proofs.subnormal.subnormal.Tie as tie
+
+-- a number of so few digits leaves room in the columns
+low-room : (q f u small columns n : ℕ) → small + u ≡ f + q → alignedBits q f ≤ columns → n < 2 ^ small → n + 2 ^ (0 + q - u) ≤ 2 ^ columns
+low-room q f u small columns n place wide lt =
+    let half : 2 ^ columns ≡ 2 ^ (columns - 1) * 2 = ap (λ (k : ℕ). 2 ^ k) (omega arith) ∙ pow-add 2 (columns - 1) 1 in
+    let a = pow-mono {i = small} {j = columns - 1} (omega arith) in
+    let b = pow-mono {i = 0 + q - u} {j = columns - 1} (omega arith) in
+    omega arith
 
 sought-requires : tie.Need-sought-requires
 sought-requires c κs = (c .pre .0 .supported, c .pre .0 .sign-lt)
@@ -19,42 +30,46 @@ returns c =
     let s = c .before .before .before in
     let a = s .args in
     let so = c .before .before .sought in
-    λ formed. subnormal-refused (a .format) (s .pre .0 .supported) (a .sign) (a .unit) (a .small) (s .pre .1) (a .c) (so .result) (so .ensures) (a .aligned)
+    λ formed. subnormal-refused (a .aligned .below) (a .format) (s .pre .0 .supported) (a .sign) (a .unit) (a .small) (s .pre .2) (a .c) (so .result) (so .ensures) (a .aligned)
     (not-true (so .result .possible) (c .if1 .taken))
 
-add-below : tie.Need-add-below
-add-below c = let s = c .before .before .before in omega (arith, columns-lt (s .args .format) (s .pre .0 .supported))
+columns-requires : tie.Need-columns-requires
+columns-requires c κs = c .before .before .before .pre .1 .columns
 
 below-requires : tie.Need-below-requires
 below-requires c κs =
-    let s = c .before .before .before in
-    (columns-lt (s .args .format) (s .pre .0 .supported), omega (arith, s .pre .1))
+    let s = c .before .before .before .before in
+    let a = s .args in
+    (rw (c .columns .ensures) (s .pre .1 .columns), omega (arith, c .columns .ensures, s .pre .2, most-digits-bounds (a .aligned .below) (a .format .f) (a .aligned .like) .0))
 
 rounds-at-requires : tie.Need-rounds-at-requires
 rounds-at-requires c κs =
-    let s = c .before .before .before .before in
+    let s = c .before .before .before .before .before in
     let a = s .args in
-    let so = c .before .before .before .sought .ensures in
-    let room = columns-lt (a .format) (s .pre .0 .supported) in
-    let short = pow-mono {i = a .format .f} {j = shortBits} (omega (arith, room)) in
-    (room, unit-short (a .format) (a .sign) (a .unit) (s .pre .0), omega arith, lt-of-lt-of-le (so .care-lt) short, lt-of-lt-of-le (so .value-lt) short, λ r. refl)
+    let so = c .before .before .before .before .sought .ensures in
+    let b = most-digits-bounds (a .aligned .below) (a .format .f) (a .aligned .like) in
+    let wide = pow-mono {i = a .format .f} {j = 2 + a .format .f} (omega arith) in
+    let x = c .below in (
+      s .pre .1,
+      unit-short (a .format) (a .sign) (a .unit) (s .pre .0),
+      omega arith,
+      lt-of-lt-of-le (so .care-lt) wide,
+      lt-of-lt-of-le (so .value-lt) wide,
+      λ r. refl,
+      omega (arith, b .0),
+      λ formed n made met.
+          low-room (a .aligned .below) (a .format .f) (a .unit .0) (a .small) (columnsOf (a .format .f) (a .aligned)) n (s .pre .2) (b .0)
+          (subst (λ (k : ℕ). Below k (a .small) (x .result)) (c .before .columns .ensures) (x .ensures) n (made-lt (a .format .f) (a .aligned) n made) .0 met),
+    )
 
 returns-2 : tie.Need-returns-2
 returns-2 c =
-    let s = c .before .before .before .before .before in
+    let s = c .before .before .before .before .before .before in
     let a = s .args in
-    let so = c .before .before .before .before .sought in
+    let so = c .before .before .before .before .before .sought in
     let x = c .before .below in
-    λ formed. subnormal-asked (a .format) (s .pre .0 .supported) (a .sign) (a .unit) (a .small) (s .pre .1) (a .c) (so .result) (so .ensures) (a .aligned)
-    (x .result) (c .rounds-at .result) (not-false (so .result .possible) (c .before .before .if1 .left)) (x .ensures) (c .rounds-at .ensures formed)
+    λ formed. subnormal-asked (a .aligned .below) (a .format) (s .pre .0 .supported) (a .sign) (a .unit) (a .small) (s .pre .2) (a .c) (so .result) (so .ensures) (a .aligned)
+    (x .result) (c .rounds-at .result) (not-false (so .result .possible) (c .before .before .before .if1 .left)) (subst (λ (k : ℕ). Below k (a .small) (x .result)) (c .before .before .columns .ensures) (x .ensures)) (c .rounds-at .ensures formed)
 
 pub subnormal-spec : {M : Type 1} → statement M
-subnormal-spec =
-    tie.close
-    (tie.spec
-    sought-requires
-    returns
-    add-below
-    below-requires
-    rounds-at-requires
-    returns-2)
+subnormal-spec = tie.close (tie.spec sought-requires returns columns-requires below-requires rounds-at-requires returns-2)

@@ -6,7 +6,6 @@ use Prim.Native.Nat.{_+_, _-_}
 use native.Mathlib.Omega.{arith}
 use lib.Pow.{pow-pos}
 use borrow.Author.Tests.{not-true}
-use Rattle.format.proofs.Room.{significand-room}
 use Rattle.special.specs.Asked.{fieldIs}
 use Rattle.pair.proofs.LikeSigns.{signs-none}
 use Rattle.pass.proofs.Spans.{only-far, only-zero}
@@ -34,8 +33,8 @@ returns c =
           (λ finite. absurd (signs-none (a .job) valid d e (record { supported = valid .setting .format; a-finite = omega (arith, s .pre .1); b-finite = finite }) (sym (is .signs) ∙ not-true (a .pass .signs) (c .before .before .before .if1 .taken)) P)) P,
     )
 
-add-gap : tie.Need-add-gap
-add-gap c = let s = c .before .before .before in record { fits = omega (arith, significand-room (s .args .job .setting .format) (s .pre .0)) }
+far-gap-requires : tie.Need-far-gap-requires
+far-gap-requires c κs = search needs
 
 returns-2 : tie.Need-returns-2
 returns-2 c = (omega arith, λ valid is kept d e from to. absurd (omega arith))
@@ -44,7 +43,7 @@ all-closed-requires : tie.Need-all-closed-requires
 all-closed-requires c κs = search needs
 
 sub-minus-2 : tie.Need-sub-minus-2
-sub-minus-2 c = search needs
+sub-minus-2 c = omega (arith, c .before .before .if2 .left, c .before .before .before .before .far-gap .ensures .1)
 
 minus-requires-2 : tie.Need-minus-requires-2
 minus-requires-2 c κs = search needs
@@ -60,7 +59,8 @@ returns-3 c =
     let a = c .before .before .before .before .before .before .before .before .before .before .args in
     let one = c .before .before .minus2 .ensures in
     let two = c .before .minus3 .ensures in
-    let large = c .before .before .before .before .before .if2 .left in (
+    let large = c .before .before .before .before .before .if2 .left in
+    let gap = c .before .before .before .before .before .before .before .far-gap .ensures .1 in (
       omega arith,
       λ valid is kept d e from to P.
           let none = c .before .before .before .before .all-closed .ensures (c .before .before .before .if3 .taken) valid kept (a .pass .end) (is .end) in
@@ -72,13 +72,13 @@ returns-4 : tie.Need-returns-4
 returns-4 c = (omega arith, λ valid is kept d e from to. absurd (omega arith))
 
 sub-t16 : tie.Need-sub-t16
-sub-t16 c = search needs
+sub-t16 c = omega (arith, c .before .before .before .before .if2 .left, c .before .before .before .before .before .before .far-gap .ensures .1)
 
 near-from-requires : tie.Need-near-from-requires
 near-from-requires c κs = c .before .before .before .before .before .before .before .before .before .pre .0
 
 sub-minus-3 : tie.Need-sub-minus-3
-sub-minus-3 c = search needs
+sub-minus-3 c = omega (arith, c .before .before .before .before .before .if2 .left, c .before .before .before .before .before .before .before .far-gap .ensures .1)
 
 minus-requires-4 : tie.Need-minus-requires-4
 minus-requires-4 c κs = search needs
@@ -96,10 +96,11 @@ returns-5 c =
     let one = c .before .before .minus4 .ensures in
     let two = c .before .minus5 .ensures in
     let large = c .before .before .before .before .before .before .before .before .if2 .left in
+    let gap = c .before .before .before .before .before .before .before .before .before .before .far-gap .ensures .1 in
     let never = c .before .before .before .before .before .if4 .left in (
       omega arith,
       λ valid is kept d e from to P.
-          let zero = only-zero (a .job) valid (a .pass .end) (is .end) (fieldIs (a .ea .0 - (a .job .setting .format .f + 3))) (near .result) (near .ensures .0) (near .ensures .1 valid is) d e (omega (arith, large)) (omega (arith, large)) (omega arith) in
+          let zero = only-zero (a .job) valid (a .pass .end) (is .end) (fieldIs (a .ea .0 - c .before .before .before .before .before .before .before .before .before .before .far-gap .result)) (near .result) (near .ensures .0) (near .ensures .1 valid is) d e (omega (arith, large)) (omega (arith, large)) (omega arith) in
           only-far (a .job) valid d e (is .end d d (inl (omega (arith, large))) (omega (arith, near .ensures .0)) .1) (λ l. (omega (arith, large), λ nearer. is .zero never (zero nearer P))) P,
     )
 
@@ -111,7 +112,7 @@ far-end-spec =
     minus-requires
     add-t10
     returns
-    add-gap
+    far-gap-requires
     returns-2
     all-closed-requires
     sub-minus-2

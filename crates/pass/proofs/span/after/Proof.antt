@@ -6,7 +6,6 @@ use Prim.Native.Nat.{ℕ, _-_}
 use native.Mathlib.Omega.{arith}
 use lib.Dec.{eqb, ltb, leb}
 use borrow.Author.Tests.{eqb-true, ltb-true, leb-true}
-use Rattle.format.proofs.Room.{significand-room}
 use Rattle.special.specs.Asked.{fieldIs, PairFits}
 use Rattle.pass.proofs.Spans.{field-answered}
 use borrow.Author.Needs.{needs}
@@ -28,8 +27,8 @@ returns c =
 add-minus : tie.Need-add-minus
 add-minus c = search needs
 
-add-minus-2 : tie.Need-add-minus-2
-add-minus-2 c = let s = c .before .before .before .before .before .before in record { fits = omega (arith, significand-room (s .args .job .setting .format) (s .pre .0)) }
+far-gap-requires : tie.Need-far-gap-requires
+far-gap-requires c κs = search needs
 
 minus-requires : tie.Need-minus-requires
 minus-requires c κs = search needs
@@ -45,6 +44,7 @@ returns-2 c =
     let some = leb-true 1 (a .eb .0) (u .1) in
     let below = ltb-true (a .eb .0) near (t .1) in
     let is = c .before .before .before .before .minus .ensures in
+    let gap = c .before .before .before .before .before .far-gap .ensures .1 in
     (below, λ valid met none d from to. field-answered (a .job) valid (a .ea) (a .eb) d (inl (some, omega arith, omega (arith, s .pre .1))) (inl (omega arith, omega arith, omega (arith, s .pre .1))) met none)
 
 add-t11 : tie.Need-add-t11
@@ -56,4 +56,14 @@ returns-3 c =
     (omega arith, λ valid met none d from to. subst (λ (n : ℕ). PairFits (a .job) (a .ea) (fieldIs n) → ⊥) (omega arith) none)
 
 pub after-spec : {M : Type 1} → statement M
-after-spec = tie.close (tie.spec sub-ones returns add-minus add-minus-2 minus-requires returns-2 add-t11 returns-3)
+after-spec =
+    tie.close
+    (tie.spec
+    sub-ones
+    returns
+    add-minus
+    far-gap-requires
+    minus-requires
+    returns-2
+    add-t11
+    returns-3)

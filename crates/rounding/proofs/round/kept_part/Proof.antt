@@ -25,7 +25,7 @@ returns : tie.Need-returns
 unfolding keptPart
 returns c =
     let s = c .before .before in
-    (rw (lt-ltb _ _ (c .before .if1 .taken)) (c .round-off .ensures), omega (arith, c .round-off .ensures, round-off-le (s .args .direction) (s .args .x) mostRounded))
+    (rw (lt-ltb _ _ (c .before .if1 .taken)) (c .round-off .ensures), omega (arith, c .round-off .ensures, round-off-le (s .args .direction) (s .args .x) (mostRounded guardBits)))
 
 returns-2 : tie.Need-returns-2
 unfolding keptPart

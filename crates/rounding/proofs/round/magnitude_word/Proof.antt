@@ -10,17 +10,17 @@ use Rattle.format.specs.declared.Format.{Format}
 use Rattle.format.specs.Format.{Supported}
 use Rattle.rounding.specs.Rounding.{dropped, magnitudeWord}
 use Rattle.rounding.specs.Sticky.{keptPart}
-use Rattle.rounding.specs.Width.{alignedBits, sumBits}
+use Rattle.rounding.specs.Width.{guardBits, alignedBits, sumBits}
 use Rattle.format.proofs.Room.{significand-room}
 use Rattle.word.proofs.Bounds.{place-power, exponent-place}
-use Rattle.rounding.proofs.Held.{held-size, held-part}
+use Rattle.rounding.proofs.Held.{adder-guards, held-size, held-part}
 use borrow.Author.Needs.{needs}
 use Rattle.rounding.proofs.round.magnitude_word.Statement.{statement}
 use Rattle.rounding.proofs.round.magnitude_word.Tie as tie
 
-module _ (F : Format) (ok : Supported F) (x u k : ℕ) (hu : u < 2 ^ F .w) (hx : x < 2 ^ sumBits (F .f)) (hk : k ≡ size x + u - alignedBits (F .f)) where
-  digits : size x ≤ sumBits (F .f)
-  digits = size-le x (sumBits (F .f)) hx
+module _ (F : Format) (ok : Supported F) (x u k : ℕ) (hu : u < 2 ^ F .w) (hx : x < 2 ^ sumBits guardBits (F .f)) (hk : k ≡ size x + u - alignedBits guardBits (F .f)) where
+  digits : size x ≤ sumBits guardBits (F .f)
+  digits = size-le x (sumBits guardBits (F .f)) hx
 
   -- the exponent part of the word
   upper : (p : ℕ) → p ≡ 2 ^ F .f % 2 ^ 64 → k * p ≤ 2 ^ 63 + 2 ^ 62
@@ -54,7 +54,7 @@ kept-part-requires c κs =
     let s = c .before .before in
     let a = s .args in
     let room = significand-room (a .format) (s .pre .0) in
-    let b = pow-mono {i = sumBits (a .format .f)} {j = 61} (omega arith) in
+    let b = pow-mono {i = sumBits guardBits (a .format .f)} {j = 61} (omega arith) in
     (omega (arith, b, s .pre .2), omega (arith, c .before .dropped .ensures), shifted (a .format) (s .pre .0) (a .x) (a .u .0) (c .before .dropped .result) (s .pre .1) (s .pre .2) (c .before .dropped .ensures))
 
 add-result : tie.Need-add-result
@@ -70,9 +70,9 @@ returns c = λ X pos held.
     let F = s .args .format in
     let d = s .args .direction in
     let u = s .args .u .0 in
-    let k : c .before .before .dropped .result ≡ dropped F X = omega (arith, c .before .before .dropped .ensures, held-size F X (s .args .x) u pos held) in
+    let k : c .before .before .dropped .result ≡ dropped F X = omega (arith, c .before .before .dropped .ensures, held-size F guardBits 1 X (s .args .x) u adder-guards pos held) in
     ap₂ _+_ (ap₂ _*_ k (exponent-place F (s .pre .0) (c .before .power .ensures)))
-    (c .kept-part .ensures .0 ∙ ap (keptPart d (s .args .x) u) k ∙ held-part F X (s .args .x) u pos held d (s .pre .2))
+    (c .kept-part .ensures .0 ∙ ap (keptPart guardBits d (s .args .x) u) k ∙ held-part F guardBits 1 X (s .args .x) u adder-guards pos held d (s .pre .2))
 
 pub magnitude-word-spec : {M : Type 1} → statement M
 magnitude-word-spec =

@@ -8,7 +8,7 @@ use Rattle.bits.proofs.Laws.{power-exact}
 use Rattle.format.proofs.Laws.{supported-of, unsupported-of}
 use Rattle.format.proofs.Room.{significand-room}
 use Rattle.word.proofs.Bounds.{exponents}
-use Rattle.rounding.specs.Width.{sumBits}
+use Rattle.rounding.specs.Width.{guardBits, sumBits}
 use borrow.Author.Needs.{needs}
 use Rattle.rounding.proofs.round.roundable.Statement.{statement}
 use Rattle.rounding.proofs.round.roundable.Tie as tie
@@ -38,7 +38,7 @@ returns-2 c =
     let p = c .before .before .before .power .result in
     let q = c .power2 .result in
     let ep = exponents F ok (c .before .before .before .power .ensures) in
-    let eq = c .power2 .ensures ∙ power-exact (sumBits (F .f)) (omega (arith, significand-room F ok)) in
+    let eq = c .power2 .ensures ∙ power-exact (sumBits guardBits (F .f)) (omega (arith, significand-room F ok)) in
     let t = ltb (s .args .sign) 2 && ltb (s .args .u .0) p in (
       λ e.
           let outer = and-eq-true-iff t (ltb (s .args .x) q) .0 e in

@@ -10,6 +10,7 @@ use Rattle.rounding.specs.declared.Direction.{Direction}
 use Rattle.rounding.specs.Rounding.{direction, magnitudeWord, boundedWord}
 use Rattle.rounding.specs.Rounding as rounding
 use Rattle.rounding.specs.Sticky.{Held}
+use Rattle.rounding.specs.Width.{guardBits}
 use Rattle.word.proofs.Bounds.{infinity-lt}
 use Rattle.rounding.proofs.Held.{held-zero, held-pos}
 use Rattle.rounding.proofs.Rounded.{overflow-le, bounded-within, bounded-past, rounded-zero}
@@ -35,7 +36,7 @@ returns-2 c =
     let u = s .args .u .0 in
     let yes = not-false (c .before .before .before .roundable .result) (c .before .before .if1 .left) in (
       λ R X held.
-          let z : X ≡ 0 = held-zero F X u (subst (λ (n : ℕ). Held F X n u) (c .before .if2 .taken) held) in
+          let z : X ≡ 0 = held-zero F guardBits 1 X u (subst (λ (n : ℕ). Held F guardBits 1 X n u) (c .before .if2 .taken) held) in
           c .signed .ensures .0 (record { supported = R .supported; sign-lt = R .sign-lt; magnitude-lt = pow-pos (F .w + F .f) })
           ∙ sym (ap (rounding.rounded F (s .args .mode) (s .args .sign)) z ∙ rounded-zero F (R .supported) (s .args .mode) (s .args .sign)),
       λ no. absurd (no (c .before .before .before .roundable .ensures .0 yes)),
@@ -69,7 +70,7 @@ returns-3 c =
     let inf = c .before .before .infinity-word in
     let yes = not-false (c .before .before .before .before .before .before .before .roundable .result) (c .before .before .before .before .before .before .if1 .left) in (
       λ R X held.
-          let m = c .before .before .before .magnitude-word .ensures X (held-pos F X (s .args .x) (s .args .u .0) held (c .before .before .before .before .before .if2 .left)) held in
+          let m = c .before .before .before .magnitude-word .ensures X (held-pos F guardBits 1 X (s .args .x) (s .args .u .0) held (c .before .before .before .before .before .if2 .left)) held in
           let w : magnitudeWord F (d .result) X < infinityWord F = rw (← m, ← inf .ensures .0 (R .supported)) (c .before .if3 .taken) in
           let below = lt-trans (rw (inf .ensures .0 (R .supported)) at (c .before .if3 .taken)) (infinity-lt F (R .supported)) in
           c .signed2 .ensures .0 (record { supported = R .supported; sign-lt = R .sign-lt; magnitude-lt = below })
@@ -86,7 +87,7 @@ returns-4 c =
     let past = c .before .overflow-word in
     let yes = not-false (c .before .before .before .before .before .before .before .before .roundable .result) (c .before .before .before .before .before .before .before .if1 .left) in (
       λ R X held.
-          let m = c .before .before .before .before .magnitude-word .ensures X (held-pos F X (s .args .x) (s .args .u .0) held (c .before .before .before .before .before .before .if2 .left)) held in
+          let m = c .before .before .before .before .magnitude-word .ensures X (held-pos F guardBits 1 X (s .args .x) (s .args .u .0) held (c .before .before .before .before .before .before .if2 .left)) held in
           let w : infinityWord F ≤ magnitudeWord F (d .result) X = rw (← m, ← inf .ensures .0 (R .supported)) (c .before .before .if3 .left) in
           let below = lt-of-le-of-lt (rw (← past .ensures .0 (R .supported)) at (overflow-le F (d .result))) (infinity-lt F (R .supported)) in
           c .signed3 .ensures .0 (record { supported = R .supported; sign-lt = R .sign-lt; magnitude-lt = below })

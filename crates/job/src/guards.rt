@@ -1,0 +1,28 @@
+// How many bits below the last one a question about it tells apart.
+use crate::Dropped;
+use crate::Job;
+use crate::below::normalised;
+use format::limits;
+ghost use mathlib.Core.Path.{_≡_};
+ghost use Rattle.job.specs.Guards.{guardsOf, reach};
+
+// How many bits below the last one a question tells apart: g, and one where none is fixed or g is 0.
+pub fn guards(dropped: Dropped) -> u64
+    ensures { λ r. ⌜ r ≡ guardsOf dropped ⌝ }
+{
+    let taken = normalised(dropped);
+    if taken.g == 0 { 1 } else { taken.g }
+}
+
+// f and these bits, less one; 0 where f or g is above its limit, so that no sum wraps.
+pub fn reach(job: Job) -> u64
+    ensures { λ r. ⌜ r ≡ reach job ⌝ }
+{
+    let g = guards(job.dropped);
+    let f = job.setting.format.f;
+    if (f <= limits::MOST_FRACTION_BITS) & (g <= limits::MOST_DROPPED) {
+        f + g - 1
+    } else {
+        0
+    }
+}
