@@ -22,7 +22,8 @@
  * 1 where something nonzero lies further down. Their mask has g + 1 bits, bit 0 for the sticky bit
  * and bit g for the first dropped bit; other results meet it only where it fixes nothing. Map bit 6
  * of a job record announces, after the random words, one byte g, then care and value of 2 bytes
- * each, low byte first.
+ * each, low byte first. Where care is 0 the field is refused: with 17 for a g above 8 or a value
+ * that is not 0, else with 10.
  */
 #ifndef VINDACSOR_H
 #define VINDACSOR_H

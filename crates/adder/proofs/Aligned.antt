@@ -1,5 +1,5 @@
--- What the adder publishes beside its contracts: c and the carry row of two finite words, from their fields and from their aligned
--- significands. Of operands x and y, y's unit not above x's, H is x's significand with some bits below it, and T is y's aligned to it: c
+-- What the adder publishes beside its contracts: c, the carry row and the dropped bits of two finite words, from their fields and from
+-- their aligned significands. Of operands x and y, y's unit not above x's, H is x's significand with some bits below it, and T is y's aligned to it: c
 -- and the dropped bits come from them with bits enough, where y is not the larger or the signs are like; the row with any number of bits,
 -- where x is a and y has not the larger exponent. The search cites these laws and no other of the adder. Assumes nothing.
 use mathlib.Core.Path.{_≡_, refl, sym, ap, ap₂, _∙_}

@@ -1,12 +1,9 @@
 -- Laws of the bits below the last: which magnitude they are of, in either order of the operands, and whether there are any, which does not
 -- depend on how many are asked for. Assumes nothing.
-use mathlib.Core.Path.{_≡_, sym, ap, _∙_}
+use mathlib.Core.Path.{_≡_, ap}
 use mathlib.Core.Bool.{Bool, true, false}
 use Prim.Native.Nat.{ℕ, _+_, _-_, _^_, _≤_, _<_}
-use native.Mathlib.Decide.{decLt, ℕ-discrete}
-use native.Mathlib.Nat.{add-comm}
-use native.Mathlib.Omega.{arith}
-use borrow.Author.Tests.{lt-ltb, le-ltb, eq-eqb, ne-eqb, le-leb, lt-leb}
+use borrow.Author.Tests.{le-leb, lt-leb}
 use lib.Dec.{leb}
 use Rattle.format.specs.declared.Format.{Format}
 use Rattle.word.specs.declared.Finite as record-of
@@ -19,6 +16,7 @@ use Rattle.adder.specs.declared.Below.{Below}
 use Rattle.adder.specs.declared.Below.the-variants.{Bits, NoBits}
 use Rattle.adder.specs.Exact.{exactMagnitude}
 use Rattle.adder.specs.Below.{bitsIf, magnitudeBelow, finiteBelow, kindBelow, belowOf}
+use Rattle.adder.proofs.ExactMagnitude.{magnitude-like, magnitude-unlike, magnitude-comm}
 
 -- ---- a magnitude
 module _ (F : Format) (g X : ℕ) where
@@ -27,30 +25,6 @@ module _ (F : Format) (g X : ℕ) where
 
   pub small-below : X < 2 ^ F .f → magnitudeBelow F g X ≡ NoBits
   small-below h = ap (λ (t : Bool). bitsIf t (droppedWord F g X)) (lt-leb (2 ^ F .f) X h)
-
--- ---- the exact magnitude
-module _ (x y : record-of.Finite) where
-  pub magnitude-like : x .sign ≡ y .sign → exactMagnitude x y ≡ magnitude x + magnitude y
-  unfolding exactMagnitude
-  magnitude-like e = rw (eq-eqb _ _ e)
-
-  pub magnitude-unlike : (x .sign ≡ y .sign → ⊥) → magnitude y ≤ magnitude x → exactMagnitude x y ≡ magnitude x - magnitude y
-  unfolding exactMagnitude
-  magnitude-unlike ne le = rw (ne-eqb _ _ ne, le-ltb (magnitude x) (magnitude y) le)
-
-  magnitude-second : (x .sign ≡ y .sign → ⊥) → magnitude x < magnitude y → exactMagnitude x y ≡ magnitude y - magnitude x
-  unfolding exactMagnitude
-  magnitude-second ne lt = rw (ne-eqb _ _ ne, lt-ltb (magnitude x) (magnitude y) lt)
-
--- it does not depend on the order
-pub magnitude-comm : (x y : record-of.Finite) → exactMagnitude x y ≡ exactMagnitude y x
-magnitude-comm x y = go (ℕ-discrete (x .sign) (y .sign)) (decLt (magnitude x) (magnitude y)) (decLt (magnitude y) (magnitude x))
-  where
-    go : Dec (x .sign ≡ y .sign) → Dec (magnitude x < magnitude y) → Dec (magnitude y < magnitude x) → exactMagnitude x y ≡ exactMagnitude y x
-    go (yes e) l g = magnitude-like x y e ∙ add-comm (magnitude x) (magnitude y) ∙ sym (magnitude-like y x (sym e))
-    go (no e) (yes l) g = magnitude-second x y e l ∙ sym (magnitude-unlike y x (λ q. e (sym q)) (omega arith))
-    go (no e) (no l) (yes g) = magnitude-unlike x y e (omega arith) ∙ sym (magnitude-second y x (λ q. e (sym q)) g)
-    go (no e) (no l) (no g) = magnitude-unlike x y e (omega arith) ∙ omega arith ∙ sym (magnitude-unlike y x (λ q. e (sym q)) (omega arith))
 
 -- ---- two finite operands
 module _ (F : Format) (g : ℕ) (x y : record-of.Finite) where

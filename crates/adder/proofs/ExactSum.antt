@@ -14,6 +14,7 @@ use Rattle.word.specs.Operand.{finiteOf, magnitude}
 use Rattle.rounding.specs.Rounding.{rounded, cancelledSign}
 use Rattle.adder.specs.Result.{finiteSum, kindSum, result}
 use Rattle.adder.specs.Exact.{exactMagnitude, exactSign}
+use Rattle.adder.proofs.ExactMagnitude.{magnitude-like, magnitude-unlike, magnitude-second}
 use Rattle.adder.proofs.FiniteSum.{sum-like, sum-unlike, sum-unlike-second, sum-cancelled}
 use Rattle.rounding.proofs.Rounded.{rounded-zero, cancelled-lt}
 use Rattle.word.proofs.Canonical.{operand-finite}
@@ -21,25 +22,25 @@ use Rattle.word.proofs.Fields.{effective-biased}
 
 module _ (mode : ℕ) (x y : record-of.Finite) where
   exact-like : x .sign ≡ y .sign → (exactSign mode x y ≡ x .sign) × (exactMagnitude x y ≡ magnitude x + magnitude y)
-  unfolding exactSign exactMagnitude
-  exact-like e = (rw (eq-eqb _ _ e), rw (eq-eqb _ _ e))
+  unfolding exactSign
+  exact-like e = (rw (eq-eqb _ _ e), magnitude-like x y e)
 
   exact-first : (x .sign ≡ y .sign → ⊥) → magnitude y < magnitude x → (exactSign mode x y ≡ x .sign) × (exactMagnitude x y ≡ magnitude x - magnitude y)
-  unfolding exactSign exactMagnitude
+  unfolding exactSign
   exact-first ne h =
       let n = le-ltb (magnitude x) (magnitude y) (omega arith) in
-      (rw (ne-eqb _ _ ne, n, lt-ltb (magnitude y) (magnitude x) h), rw (ne-eqb _ _ ne, n))
+      (rw (ne-eqb _ _ ne, n, lt-ltb (magnitude y) (magnitude x) h), magnitude-unlike x y ne (omega arith))
 
   exact-second : (x .sign ≡ y .sign → ⊥) → magnitude x < magnitude y → (exactSign mode x y ≡ y .sign) × (exactMagnitude x y ≡ magnitude y - magnitude x)
-  unfolding exactSign exactMagnitude
-  exact-second ne h = let l = lt-ltb (magnitude x) (magnitude y) h in (rw (ne-eqb _ _ ne, l), rw (ne-eqb _ _ ne, l))
+  unfolding exactSign
+  exact-second ne h = (rw (ne-eqb _ _ ne, lt-ltb (magnitude x) (magnitude y) h), magnitude-second x y ne h)
 
   exact-zero : (x .sign ≡ y .sign → ⊥) → magnitude x ≡ magnitude y → (exactSign mode x y ≡ cancelledSign mode) × (exactMagnitude x y ≡ 0)
-  unfolding exactSign exactMagnitude
+  unfolding exactSign
   exact-zero ne e =
       let n = le-ltb (magnitude x) (magnitude y) (omega arith) in
       let m = le-ltb (magnitude y) (magnitude x) (omega arith) in
-      (rw (ne-eqb _ _ ne, n, m), rw (ne-eqb _ _ ne, n) (omega arith))
+      (rw (ne-eqb _ _ ne, n, m), magnitude-unlike x y ne (omega arith) ∙ omega arith)
 
   pub exact-sign-lt : x .sign < 2 → y .sign < 2 → exactSign mode x y < 2
   exact-sign-lt hx hy = go (ℕ-discrete (x .sign) (y .sign)) (decLt (magnitude x) (magnitude y)) (decLt (magnitude y) (magnitude x))

@@ -2,6 +2,7 @@ pub mod Causes
 pub mod FiniteSum
 pub mod RowBit
 pub mod ResultLaws
+pub mod ExactMagnitude
 pub mod ExactSum
 pub mod RowLaws
 pub mod AlignedTail

@@ -1,5 +1,6 @@
 -- The exact result of two finite operands, a whole number of smallest steps and a sign (document 01, "The rounded result"; W-206).
--- Laws about c speak of it; a zero has the sign that document 01 gives it, so that rounding it is no case of its own. Assumes nothing.
+-- The dropped bits (`Below`) are those of its magnitude, and laws about c speak of it; a zero has the sign that document 01 gives it, so
+-- that rounding it is no case of its own. Assumes nothing.
 use mathlib.Core.Bool.{cond}
 use Prim.Native.Nat.{ℕ, _+_, _-_}
 use lib.Dec.{eqb, ltb}

@@ -22,16 +22,17 @@ use Rattle.classes.specs.Class.{farGap, topField, fieldAt, mostField, leastFiel
 
 -- ---- the table
 
--- its places
+-- its places: for either order the 64 smaller fields of the longest reach, 59, and one for its closed classes
 abbrev pub places : ℕ
 places = 130
 
--- the place of a class, and how many classes there are: each order has the smaller fields from 0 to the larger one
+-- the place of a class, where r is the reach of the job, and how many classes there are: each order has the smaller fields from 0 to the
+-- larger one
 abbrev pub placeOf : ℕ → Class → ℕ
-placeOf f k = k .order * (topField f .0 + 1) + k .low .0
+placeOf r k = k .order * (topField r .0 + 1) + k .low .0
 
 abbrev pub classPlaces : ℕ → ℕ
-classPlaces f = 2 * (topField f .0 + 1)
+classPlaces r = 2 * (topField r .0 + 1)
 
 -- no case of the class k has c's exponent field i
 abbrev pub Never : Job → Class → Biased → Type 0
@@ -43,7 +44,7 @@ askedBit = 62
 
 -- the bit of c's exponent field i, as a word: the largest field has bit 0, and one whose bit would not be below `askedBit` has none
 unfoldable pub bitOf : ℕ → ℕ → ℕ
-bitOf f i = cond (ltb (mostField f - i) askedBit) (2 ^ (mostField f - i)) 0
+bitOf r i = cond (ltb (mostField r - i) askedBit) (2 ^ (mostField r - i)) 0
 
 -- each bit of the class's word is such an answer
 abbrev pub Refuses : Job → Class → ℕ → Type 0
@@ -55,11 +56,11 @@ Closed j k = ClassAdmits j k anyField → ⊥
 
 -- the place of an order's closed classes, and the bit of a class there: the bits go up with b's exponent field
 abbrev pub closedPlace : ℕ → ℕ → ℕ
-closedPlace f o = classPlaces f + o
+closedPlace r o = classPlaces r + o
 
 abbrev pub closedBit : ℕ → ℕ → ℕ → ℕ
-closedBit f zero low = low
-closedBit f (suc o) low = topField f .0 - low
+closedBit r zero low = low
+closedBit r (suc o) low = topField r .0 - low
 
 -- each word of the table is an answer, of a class or of the classes of an order
 pub record Kept (j : Job) (table : List ℕ) : Type 0 where

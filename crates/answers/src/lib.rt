@@ -4,7 +4,6 @@ use bits::power;
 use classes::FAR_GAP;
 use classes::Fields;
 use classes::MOST_FIELD;
-use classes::TOP_FIELD;
 use classes::class_of;
 use classes::fields_of;
 use format::Format;
@@ -31,7 +30,7 @@ ghost use Rattle.special.specs.Asked.{InRange, PairFits};
 ghost use Rattle.classes.specs.Class.{InOrder, Ordered, Asked, NeverPast, Normal};
 ghost use Rattle.answers.specs.Kept.{Kept, ClassEnd};
 
-// The places of the table that a pass over the exponent fields keeps; its words are 0 in the beginning.
+// The places of the table that a pass over the exponent fields keeps, enough for the longest reach; its words are 0 in the beginning.
 pub const PLACES: usize = 130;
 
 // Whether each sum of a pair is 0 or has digits enough for a normal number, by its unit or by its gap.

@@ -8,8 +8,8 @@ use Prim.Native.Nat.{ℕ, _^_, _<_}
 use Rattle.format.specs.declared.Format.{Format}
 use Rattle.format.specs.Format.{wordBits}
 use Rattle.mask.specs.declared.Mask.{Mask}
-use Rattle.job.specs.declared.Dropped.{Dropped}
 use Rattle.job.specs.declared.Job.{Job}
+use Rattle.job.specs.Dropped.{withDropped}
 use Rattle.job.specs.Job.{jobCause}
 use Rattle.job.specs.Role.{maskedJob}
 use Rattle.adder.specs.declared.Reply.the-variants.{Word}
@@ -167,24 +167,27 @@ byExponent =
     subtract 0 0x30 0x31 0x84 (row 0x1F) ∷ subtract 0 0x31 0x30 0x04 (row 0x00) ∷ subtract 0 0x05 0x0A 0x85 (row 0x1A)
     ∷ subtract 0 0x0A 0x05 0x05 (row 0x05) ∷ subtract 0 0x05 0x10 0x8B (row 0x0F) ∷ subtract 0 0x10 0x05 0x0B (row 0x0F) ∷ []
 
--- the job with another condition on the dropped bits
-abbrev pub withDropped : Job → Dropped → Job
-withDropped j D = record { setting = j .setting; a = j .a; b = j .b; c = j .c; carries = j .carries; dropped = D }
+-- the masks of case 1 with one on the carries and one on g dropped bits and the sticky bit
+abbrev pub dropping : Mask → ℕ → Mask → Job
+dropping carries g m = withDropped (masked 0 carries) (record { g = g; mask = m })
 
--- the job of case 1, with a mask on g dropped bits and the sticky bit
-abbrev pub dropping : ℕ → Mask → Job
-dropping g m = withDropped (masked 0 nothingFixed) (record { g = g; mask = m })
+-- W-206. Dropped bits and the sticky bit: 30 + 02 at g = 3 has 8, a tie, and at g = 8 100; 45 + 2B at g = 2 has 6, 4D + 3B has 2, and at
+-- g = 0 the former's sticky bit is 1. 30 - 01 has 8, by the digits of the difference; 6F + 41, which overflows, has A. The smallest normal
+-- result 0F + 01 has 0; a smaller one, a zero and one of an infinite operand have none.
+abbrev pub droppedBits : List Claim
+droppedBits =
+    below eight 0 3 0x30 0x02 (Bits 0x8) ∷ below eight 0 8 0x30 0x02 (Bits 0x100) ∷ below eight 0 2 0x45 0x2B (Bits 0x6)
+    ∷ below eight 0 2 0x4D 0x3B (Bits 0x2) ∷ below eight 0 0 0x45 0x2B (Bits 0x1) ∷ below eight 1 3 0x30 0x01 (Bits 0x8)
+    ∷ below eight 0 3 0x6F 0x41 (Bits 0xA) ∷ below eight 0 3 0x0F 0x01 (Bits 0x0) ∷ below eight 0 3 0x0E 0x01 NoBits
+    ∷ below eight 1 3 0x30 0x30 NoBits ∷ below eight 0 3 0x70 0x30 NoBits ∷ []
 
--- W-206. Dropped bits and the sticky bit: 30 + 02 at g = 3 has 8, a tie; 45 + 2B at g = 2 has 6, 4D + 3B has 2, and at g = 0 the former's
--- sticky bit is 1. The smallest normal result 0F + 01 has 0; a smaller one, a zero and one of an infinite operand have none. With the masks
--- of case 1 and 6 at g = 2 only (45, 2B, 4C) fits, with the sticky bit 1 there neither. A g of 9 is refused, whatever the mask.
-abbrev pub bitsBelow : List Claim
-bitsBelow =
-    below eight 0 3 0x30 0x02 (Bits 8) ∷ below eight 0 2 0x45 0x2B (Bits 6) ∷ below eight 0 2 0x4D 0x3B (Bits 2)
-    ∷ below eight 0 0 0x45 0x2B (Bits 1) ∷ below eight 0 3 0x0F 0x01 (Bits 0) ∷ below eight 0 3 0x0E 0x01 NoBits
-    ∷ below eight 1 3 0x30 0x30 NoBits ∷ below eight 0 3 0x70 0x30 NoBits
-    ∷ exactly (dropping 2 (record { care = 0x7; value = 0x6 })) ((0x45, 0x2B, 0x4C) ∷ [])
-    ∷ refused (dropping 2 (record { care = 0x1; value = 0x1 })) 7 ∷ refused (dropping 9 nothingFixed) 17 ∷ []
+-- W-206. With the masks of case 1 and 6 at g = 2 only (45, 2B, 4C) fits, and with the sticky bit 1 there no case does. A bit above the g + 1
+-- bits is refused with 17, and so is a g of 9 though nothing is fixed; a malformed carry mask is named before it.
+abbrev pub droppedJobs : List Claim
+droppedJobs =
+    exactly (dropping nothingFixed 2 (record { care = 0x7; value = 0x6 })) ((0x45, 0x2B, 0x4C) ∷ [])
+    ∷ refused (dropping nothingFixed 2 (record { care = 0x1; value = 0x1 })) 7 ∷ refused (dropping nothingFixed 2 (record { care = 0x8; value = 0x0 })) 17
+    ∷ refused (dropping nothingFixed 9 nothingFixed) 17 ∷ refused (dropping outsideCare 9 nothingFixed) 16 ∷ []
 
 abbrev pub cases : List Claim
-cases = case1 ++ case2 ++ case3 ++ case4 ++ case5 ++ case6 ++ case7 ++ case8 ++ case9 ++ case10 ++ case11 ++ tiesAway ++ malformed ++ byExponent ++ bitsBelow
+cases = case1 ++ case2 ++ case3 ++ case4 ++ case5 ++ case6 ++ case7 ++ case8 ++ case9 ++ case10 ++ case11 ++ tiesAway ++ malformed ++ byExponent ++ droppedBits ++ droppedJobs

@@ -60,7 +60,7 @@ smallerMask j (suc o) = exponentMask (j .setting .format) (j .a .mask)
 -- ---- the pair that stands for a class
 
 -- the gap from which on an aligned significand is its sticky bit alone; r is the reach of the job, its fraction bits and those that it tells
--- apart below the last kept one, beyond the first
+-- apart below the last kept one, but for the first: so this is f and the bits below a difference, two more than are told apart
 abbrev pub farGap : ℕ → ℕ
 farGap r = r + guardBits
 

@@ -1,6 +1,7 @@
--- A case fits a job (document 01, "Masks and choice"): it is right in the job's setting, and it meets what the job states. Beside that the
--- reply about a proposed case ("Causes and replies"). Each statement comes twice: as a record, which laws and contracts read, and as a Bool,
--- which confirmation computes; `proofs/Laws.antt` has that they say the same. Neither runs a search. Assumes nothing.
+-- A case fits a job (document 01, "Masks and choice"; document 02, W-206): it is right in the job's setting, and it meets what the job
+-- states. Beside that the reply about a proposed case ("Causes and replies"). Each statement comes twice: as a record, which laws and
+-- contracts read, and as a Bool, which confirmation computes; `proofs/Laws.antt` has that they say the same. Neither runs a search.
+-- Assumes nothing.
 use mathlib.Core.Path.{_≡_}
 use mathlib.Core.Bool.{Bool, true, false, _&&_}
 use Prim.Native.Nat.{ℕ, zero, suc, _^_, _<_}
@@ -88,7 +89,7 @@ satisfies j a b c =
 
 -- ---- fits
 
--- "A case (a, b, c) fits when its words and its row agree with every fixed bit and c is the rounded result"
+-- W-206: "a case fits when c is the rounded result and the case meets everything that its job states"
 pub record Fits (j : Job) (a b c : ℕ) : Type 0 where
   pub right : Right (j .setting) a b c
   pub satisfies : Satisfies j a b c

@@ -1,6 +1,6 @@
 -- Demand 3 in one statement, sentence by sentence: of the reply p to a job j and two random words against which no cause stands. That none
--- stands is `Request`: a supported format, either operation, each of the modes, four well-formed masks, words no wider than the format.
--- Assumes nothing.
+-- stands is `Request`: a supported format, either operation, each of the modes, five well-formed masks, that of the dropped bits with a g of
+-- 8 at most, and words no wider than the format. Assumes nothing.
 use mathlib.Core.Path.{_≡_}
 use mathlib.Core.Logic.{_⊎_, _↔_}
 use Prim.Native.Nat.{ℕ, _<_}
@@ -36,7 +36,8 @@ pub record Reachable (j : Job) (a b c : ℕ) : Type 0 where
 
 -- "no case" is the number 7
 pub record Demand3 (j : Job) (r1 r2 : ℕ) (p : Reply) : Type 0 where
-  -- "'no case' is said exactly when no three words of the format .. fit all four masks with c the rounded result"
+  -- "'no case' is said exactly when no three words of the format .. fit": W-206, "when c is the rounded result and the case meets everything
+  -- that its job states"
   pub no-case : (p ≡ Refused cause.noCase) ↔ ((a b c : ℕ) → Fits j a b c → ⊥)
   -- "Otherwise the reply is a case that fits, and every other .."
   pub otherwise : (p ≡ Refused cause.noCase) ⊎ ((x : Case) × (p ≡ Found x) × Best j r1 r2 x)

@@ -113,7 +113,7 @@ fn refused(count: Count, g: u64, care: u64, value: u64) -> Count {
     asked(count, job, 0, 0, Reply::Refused(cause::DROPPED_MASK))
 }
 
-// A g above 8, also where no bit is fixed; a bit above g + 1; a value outside care, also where no bit is fixed. A g up to 8 is taken.
+// A g above 8, also where no bit is fixed; a bit above the g + 1 bits; a value outside care, also where no bit is fixed. A g up to 8 is taken.
 pub(crate) fn malformed(count: Count) -> Count {
     let large = refused(refused(count, 9, 0, 0), 9, 1, 1);
     let largest = refused(large, 0xFFFFFFFFFFFFFFFF, 0, 0);

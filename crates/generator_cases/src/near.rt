@@ -1,5 +1,5 @@
-// W-206: 1 and a number near half a unit of its last place, every bit below the last one fixed: ties, the numbers next to a tie, exact and
-// inexact sums. In each mode, at f = 2, 23 and 52. b is fixed but for its last two bits; no sum has a carry.
+// W-206: 1 and a number near half a unit of its last place, or both with the sign -, every bit below the last one fixed: ties, the numbers
+// next to a tie, exact and inexact sums. In each mode, at f = 2, 23 and 52. b is fixed but for its last two bits; no sum has a carry.
 use crate::jobs::adding;
 use crate::jobs::asked;
 use crate::jobs::dropping;
@@ -8,15 +8,15 @@ use crate::jobs::free;
 use crate::jobs::mask;
 use crate::jobs::none;
 use format::Format;
-use generator::Reply;
 use job::words::masked_job;
 use tally::Count;
 
-// A format, the greatest word of it, and the words of 1, of half a unit of 1's last place, of the number four places before that half, and
-// of the unit.
+// A format, the greatest word of it, the mode that rounds away from zero, and the words of 1, of half a unit of 1's last place, of the number
+// four places before that half, and of the unit.
 struct Words {
     format: Format,
     all: u64,
+    away: u64,
     one: u64,
     half: u64,
     before: u64,
@@ -24,7 +24,7 @@ struct Words {
 }
 
 // What is asked: a mode, and the bits of g dropped bits and the sticky bit.
-struct Below {
+struct Question {
     mode: u64,
     g: u64,
     bits: u64,
@@ -39,8 +39,8 @@ struct Sum {
 }
 
 // A line: b is the number, but for its last two bits.
-fn line(count: Count, words: Words, below: Below, sum: Sum) -> Count {
-    let setting = adding(words.format.w, words.format.f, below.mode);
+fn line(count: Count, words: Words, question: Question, sum: Sum) -> Count {
+    let setting = adding(words.format.w, words.format.f, question.mode);
     let one = mask(words.all, words.one);
     let near = mask(words.all / 4 * 4, sum.b / 4 * 4);
     let job = masked_job(setting, one, near, free(), free());
@@ -49,7 +49,7 @@ fn line(count: Count, words: Words, below: Below, sum: Sum) -> Count {
     } else {
         none()
     };
-    let job = dropping(job, below.g, below.bits, sum.value);
+    let job = dropping(job, question.g, question.bits, sum.value);
     asked(count, job, 0, 0, expected)
 }
 
@@ -58,22 +58,22 @@ fn one_if(is: bool) -> u64 {
 }
 
 // The first dropped bit is 1, the others and the sticky bit are 0: half a unit.
-fn tie(words: Words, below: Below) -> Sum {
+fn tie(words: Words, question: Question) -> Sum {
     Sum {
-        value: below.bits / 2 + 1,
+        value: question.bits / 2 + 1,
         b: words.half,
-        places: one_if((below.mode == 2) | (below.mode == 4)),
+        places: one_if((question.mode == words.away) | (question.mode == 4)),
         exists: true,
     }
 }
 
 // The sticky bit is 1 too: the next number. At f = 2 its last bit is the third dropped one, and nothing is left for the sticky bit.
-fn after_tie(words: Words, below: Below) -> Sum {
+fn after_tie(words: Words, question: Question) -> Sum {
     Sum {
-        value: below.bits / 2 + 2,
+        value: question.bits / 2 + 2,
         b: words.half | 1,
-        places: one_if((below.mode == 0) | (below.mode == 2) | (below.mode == 4)),
-        exists: (words.format.f != 2) | (below.g < 3),
+        places: one_if((question.mode == 0) | (question.mode == words.away) | (question.mode == 4)),
+        exists: (words.format.f != 2) | (question.g < 3),
     }
 }
 
@@ -89,13 +89,13 @@ fn last_bits(f: u64, g: u64) -> u64 {
 }
 
 // The first dropped bit is 0 and all else 1: a number before half a unit. At f = 2 it has three ones at most.
-fn before_tie(words: Words, below: Below) -> Sum {
+fn before_tie(words: Words, question: Question) -> Sum {
     let f = words.format.f;
     Sum {
-        value: below.bits / 2,
-        b: words.before | last_bits(f, below.g),
-        places: one_if(below.mode == 2),
-        exists: (f != 2) | (below.g < 4),
+        value: question.bits / 2,
+        b: words.before | last_bits(f, question.g),
+        places: one_if(question.mode == words.away),
+        exists: (f != 2) | (question.g < 4),
     }
 }
 
@@ -114,36 +114,50 @@ fn inexact(words: Words, mode: u64) -> Sum {
     Sum {
         value: 1,
         b: words.unit | 1,
-        places: if mode == 2 { 2 } else { 1 },
+        places: if mode == words.away { 2 } else { 1 },
         exists: true,
     }
 }
 
 // The sticky bit alone.
 fn sticky(count: Count, words: Words, mode: u64) -> Count {
-    let below = Below {
+    let question = Question {
         mode,
         g: 0,
         bits: 1,
     };
-    let one = line(count, words, below, exact(words));
-    line(one, words, below, inexact(words, mode))
+    let one = line(count, words, question, exact(words));
+    line(one, words, question, inexact(words, mode))
 }
 
 // A tie, and the numbers next to it.
 fn near(count: Count, words: Words, mode: u64, g: u64, bits: u64) -> Count {
-    let below = Below { mode, g, bits };
-    let one = line(count, words, below, tie(words, below));
-    let two = line(one, words, below, after_tie(words, below));
-    line(two, words, below, before_tie(words, below))
+    let question = Question { mode, g, bits };
+    let one = line(count, words, question, tie(words, question));
+    let two = line(one, words, question, after_tie(words, question));
+    line(two, words, question, before_tie(words, question))
 }
 
+// The same words with the sign -.
+fn negative(words: Words) -> Words {
+    let sign = words.all ^ (words.all / 2);
+    let mut less = words;
+    less.away = 3;
+    less.one = words.one | sign;
+    less.half = words.half | sign;
+    less.before = words.before | sign;
+    less.unit = words.unit | sign;
+    less
+}
+
+// Each g, the odd ones with the sign -.
 fn every_g(count: Count, words: Words, mode: u64) -> Count {
+    let less = negative(words);
     let none = sticky(count, words, mode);
-    let two = near(near(none, words, mode, 1, 0x3), words, mode, 2, 0x7);
-    let four = near(near(two, words, mode, 3, 0xF), words, mode, 4, 0x1F);
-    let six = near(near(four, words, mode, 5, 0x3F), words, mode, 6, 0x7F);
-    near(near(six, words, mode, 7, 0xFF), words, mode, 8, 0x1FF)
+    let two = near(near(none, less, mode, 1, 0x3), words, mode, 2, 0x7);
+    let four = near(near(two, less, mode, 3, 0xF), words, mode, 4, 0x1F);
+    let six = near(near(four, less, mode, 5, 0x3F), words, mode, 6, 0x7F);
+    near(near(six, less, mode, 7, 0xFF), words, mode, 8, 0x1FF)
 }
 
 fn every_mode(count: Count, words: Words) -> Count {
@@ -156,6 +170,7 @@ fn small() -> Words {
     Words {
         format: Format { w: 5, f: 2 },
         all: 0xFF,
+        away: 2,
         one: 0x3C,
         half: 0x30,
         before: 0x2C,
@@ -167,6 +182,7 @@ fn single() -> Words {
     Words {
         format: Format { w: 8, f: 23 },
         all: 0xFFFFFFFF,
+        away: 2,
         one: 0x3F800000,
         half: 0x33800000,
         before: 0x337FFFFC,
@@ -178,6 +194,7 @@ fn double() -> Words {
     Words {
         format: Format { w: 11, f: 52 },
         all: 0xFFFFFFFFFFFFFFFF,
+        away: 2,
         one: 0x3FF0000000000000,
         half: 0x3CA0000000000000,
         before: 0x3C9FFFFFFFFFFFFC,

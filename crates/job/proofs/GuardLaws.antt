@@ -8,7 +8,7 @@ use lib.Dec.{leb}
 use Rattle.format.specs.Limits.{mostFractionBits, mostDropped}
 use Rattle.job.specs.declared.Dropped.{Dropped}
 use Rattle.job.specs.declared.Job.{Job}
-use Rattle.job.specs.Dropped.{ValidDropped, normalised}
+use Rattle.job.specs.Dropped.{ValidDropped}
 use Rattle.job.specs.Job.{Valid}
 use Rattle.job.specs.Guards.{guardsOf, reachOf, reach}
 use Rattle.job.proofs.DroppedLaws.{normalised-none, normalised-some, normalised-valid}

@@ -27,6 +27,10 @@ freeDropped = record { g = 0; mask = record { care = 0; value = 0 } }
 unfoldable pub normalised : Dropped → Dropped
 normalised D = record { g = cond (eqb (D .mask .care) 0) 0 (D .g); mask = D .mask }
 
+-- the job with something else wanted of the dropped bits
+abbrev pub withDropped : Job → Dropped → Job
+withDropped j D = record { setting = j .setting; a = j .a; b = j .b; c = j .c; carries = j .carries; dropped = D }
+
 -- the job with its g taken so
 abbrev pub normalisedJob : Job → Job
-normalisedJob j = record { setting = j .setting; a = j .a; b = j .b; c = j .c; carries = j .carries; dropped = normalised (j .dropped) }
+normalisedJob j = withDropped j (normalised (j .dropped))

@@ -12,7 +12,7 @@ use Rattle.job.specs.Dropped.{normalised}
 unfoldable pub guardsOf : Dropped → ℕ
 guardsOf D = max 1 (normalised D .g)
 
--- the fraction bits and these, less one
+-- the fraction bits and these, but for the first: f where one bit is told apart
 abbrev pub reachOf : Job → ℕ
 reachOf j = j .setting .format .f + guardsOf (j .dropped) - 1
 

@@ -1,6 +1,5 @@
 // What is wanted of the bits that rounding drops: whether it is well made, and with g taken as 0 where none of them is fixed.
 use crate::Dropped;
-use crate::Job;
 use format::cause;
 use format::limits;
 use format::unless;

@@ -1,4 +1,4 @@
-// How many bits below the last one a question about it tells apart.
+// How far below the last bit a question about a job looks.
 use crate::Dropped;
 use crate::Job;
 use crate::below::normalised;
@@ -14,7 +14,7 @@ pub fn guards(dropped: Dropped) -> u64
     if taken.g == 0 { 1 } else { taken.g }
 }
 
-// f and these bits, less one; 0 where f or g is above its limit, so that no sum wraps.
+// f and these bits, but for the first; 0 where f or g is above its limit, so that no sum wraps.
 pub fn reach(job: Job) -> u64
     ensures { λ r. ⌜ r ≡ reach job ⌝ }
 {

@@ -13,7 +13,7 @@ use Rattle.mask.specs.declared.Mask.{Mask}
 use Rattle.mask.specs.Mask.{Inside}
 use Rattle.mask.proofs.Bitwise.{bit-case}
 use Rattle.job.specs.declared.Dropped.{Dropped}
-use Rattle.job.specs.Dropped.{ValidDropped, freeDropped, normalised}
+use Rattle.job.specs.Dropped.{ValidDropped, freeDropped, normalised, withDropped}
 use Rattle.job.proofs.DroppedLaws.{normalised-again, normalised-none, normalised-mask, normalised-same}
 use Rattle.layout.specs.Layout.{isDefault, saysDefault}
 use Rattle.layout.specs.Fields.{fieldCount, layout, maskNumbers, fieldNumbers, normalisedEntry, entryNumbers, entryWith}
@@ -26,13 +26,8 @@ abbrev droppedBit : ℕ
 droppedBit = 6
 
 -- an entry with other dropped bits
-abbrev withDropped : Entry → Dropped → Entry
-withDropped e D =
-    record {
-      job = record { setting = e .job .setting; a = e .job .a; b = e .job .b; c = e .job .c; carries = e .job .carries; dropped = D };
-      r1 = e .r1;
-      r2 = e .r2;
-    }
+abbrev entryDropping : Entry → Dropped → Entry
+entryDropping e D = record { job = withDropped (e .job) D; r1 = e .r1; r2 = e .r2 }
 
 -- ---- entries and their numbers
 
@@ -43,12 +38,12 @@ entry-back e = refl
 
 pub numbers-again : (e : Entry) → entryNumbers (normalisedEntry e) ≡ entryNumbers e
 unfolding entryNumbers
-numbers-again e = ap (λ (D : Dropped). fieldNumbers (withDropped e D)) (normalised-again (e .job .dropped))
+numbers-again e = ap (λ (D : Dropped). fieldNumbers (entryDropping e D)) (normalised-again (e .job .dropped))
 
 -- an entry that carries no g where no dropped bit is fixed
 module _ (e : Entry) (same : normalised (e .job .dropped) ≡ e .job .dropped) where
   pub entry-same : normalisedEntry e ≡ e
-  entry-same = ap (withDropped e) same
+  entry-same = ap (entryDropping e) same
 
   pub numbers-same : entryNumbers e ≡ fieldNumbers e
   unfolding entryNumbers
@@ -82,7 +77,7 @@ entry-absent m word e absent i z = go (eqb (e .job .dropped .mask .care) 0)
         maskNumbers (e .job .a .mask) ++ (maskNumbers (e .job .b .mask) ++ (maskNumbers (e .job .c .mask) ++ (maskNumbers (e .job .carries)
         ++ (e .job .setting .mode ∷ e .r1 ∷ e .r2 ∷ []))))
 
-    go : (t : Bool) → isDefault i (layout word) (fieldNumbers (withDropped e (record { g = cond t 0 (e .job .dropped .g); mask = e .job .dropped .mask }))) ≡ true
+    go : (t : Bool) → isDefault i (layout word) (fieldNumbers (entryDropping e (record { g = cond t 0 (e .job .dropped .g); mask = e .job .dropped .mask }))) ≡ true
     go true = default-zero i (layout word) others (e .job .dropped .g) (maskNumbers (e .job .dropped .mask)) (absent i z)
     go false = absent i z
 

@@ -147,7 +147,7 @@ normalised-lines : {n : ℕ} {es : List Entry} {t : List ℕ} → Writable es �
 unfolding normalisedEntries
 normalised-lines no-entry none = none
 normalised-lines (entry-first {e = e} ok rest) (next r replied lines) =
-    next r (normalised-replied (e .job) (e .r1) (e .r2) r ok replied) (normalised-lines rest lines)
+    next r (normalised-replied (e .job) (e .r1) (e .r2) r ok .0 replied) (normalised-lines rest lines)
 
 -- entries that are written list as the replies to them
 pub file-listed : {es : List Entry} {t : List ℕ} → Writable es → length (fileBytes es) ≤ longest → Lines 0 es t → Listing (fileBytes es) t

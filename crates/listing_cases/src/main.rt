@@ -42,7 +42,7 @@ fn listed() {
     );
 }
 
-// 30 + 02 with three dropped bits and the sticky bit fixed: the tie that it is, then a number above a tie, then a g that is refused.
+// W-206: 30 + 02 with three dropped bits and the sticky bit fixed: the tie that it is, then a number above a tie, then a g that is refused.
 fn dropped_bits() {
     list(
         b"dropped bits\n",

@@ -1,5 +1,5 @@
--- Two finite numbers with the signs and the exponent fields of two sides, whose fractions meet the sides' masks, have a sum and a row that
--- meet the job's masks exactly when aligned significands make such, with the one or the other side as the larger. Assumes nothing.
+-- Two finite numbers with the signs and the exponent fields of two sides, whose fractions meet the sides' masks, have a sum, a row and
+-- dropped bits that meet the job's masks exactly when aligned significands make such, with the one or the other side as the larger. Assumes nothing.
 use mathlib.Core.Path.{_≡_, refl, sym, ap, ap₂, _∙_, subst}
 use mathlib.Core.Bool.{Bool, true, false, not, cond, false≢true}
 use mathlib.Core.Logic.{_↔_, inl, inr, ⊎-elim}

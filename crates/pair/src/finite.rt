@@ -36,7 +36,8 @@ fn reversed(x: Side, y: Side) -> bool
     y.lhs & ((x.exponent.0 == y.exponent.0) & (x.sign != y.sign))
 }
 
-// How many bits stand below the larger significand's last one: of those that the job tells apart one more in a sum, and two in a difference.
+// How many bits stand below the larger significand's last one: one more than the job tells apart in a sum, two more in a difference; 0 for a
+// g above its limit, so that no sum wraps.
 fn bits_below(dropped: Dropped, like: bool) -> u64
     ensures { λ r. ⌜ (ValidDropped dropped → r ≡ bitsBelow (guardsOf dropped) like) ⌝ }
 {

@@ -16,7 +16,7 @@ use Rattle.job.proofs.Laws.{request-none}
 use Rattle.layout.specs.declared.Entry.{Entry}
 use Rattle.layout.proofs.JobLayout.{narrow-bytes}
 use Rattle.layout.proofs.Entries.{dropped-absent}
-use Rattle.records.specs.Version.{Version, Takes, Extends, current, base, sixFields}
+use Rattle.records.specs.Version.{Version, Takes, Extends, current, base, beforeDropped}
 use Rattle.records.specs.Record.{recordCause, formatIn, entryIn, firstBy, firstIn}
 use Rattle.records.specs.File.{Reads, end as no-byte, next as record-first, ReadsBy, end, next}
 use Rattle.records.specs.declared.First.the-variants as found
@@ -94,11 +94,11 @@ pub base-file-read : {s : List ℕ} {es : List Entry} → ReadsBy base s es → 
 base-file-read r = current-file .0 (file-as-before base-extended r)
 
 -- the job files before W-206
-six-extended : Extends sixFields current
-six-extended = record { fields = omega arith; widths = record { w-most = omega arith; f-most = omega arith }; words = λ F t. refl }
+before-dropped-extended : Extends beforeDropped current
+before-dropped-extended = record { fields = omega arith; widths = record { w-most = omega arith; f-most = omega arith }; words = λ F t. refl }
 
-pub six-file-read : {s : List ℕ} {es : List Entry} → ReadsBy sixFields s es → Reads s es
-six-file-read r = current-file .0 (file-as-before six-extended r)
+pub before-dropped-read : {s : List ℕ} {es : List Entry} → ReadsBy beforeDropped s es → Reads s es
+before-dropped-read r = current-file .0 (file-as-before before-dropped-extended r)
 
 -- of what they accept nothing is wanted of the dropped bits
 pub before-free : (v : Version) → v .fields ≤ 6 → (s : List ℕ) (e : Entry) (n : ℕ) → firstBy v s ≡ found.Job e n → e .job .dropped ≡ freeDropped

@@ -28,8 +28,8 @@ abbrev pub base : Version
 base = record { fields = 6; word = λ F. 4; most = record { w = 8; f = 23 } }
 
 -- the files before W-206: no field for the dropped bits
-abbrev pub sixFields : Version
-sixFields = record { fields = 6; word = wordBytes; most = current .most }
+abbrev pub beforeDropped : Version
+beforeDropped = record { fields = 6; word = wordBytes; most = current .most }
 
 -- the later version knows what the earlier one knows: no fewer fields, no smaller widths, and words as long in the formats that that one takes
 pub record Extends (earlier later : Version) : Type 0 where

@@ -1,4 +1,4 @@
-// The field of the dropped bits: g, then care and value of two bytes each; read, written, and each of its refusals.
+// W-206: the field of the dropped bits: g, then care and value of two bytes each; read, written, and each of its refusals.
 use crate::reading;
 use crate::writing;
 use job::Dropped;
@@ -13,7 +13,7 @@ pub(crate) fn read() {
     reading::show(b"\x40\x03\x04\x00\x00\x01\x00\x00\x00");
     // cut short
     reading::show(b"\x40\x03\x04\x00\x03\x0f\x00\x09");
-    // g above 8, also where no bit is fixed; a bit above g + 1; a value outside care, also where care is 0
+    // g above 8, also where no bit is fixed; a bit above the g + 1 bits; a value outside care, also where care is 0
     reading::show(b"\x40\x03\x04\x00\x09\x01\x00\x00\x00");
     reading::show(b"\x40\x03\x04\x00\x09\x00\x00\x00\x00");
     reading::show(b"\x40\x03\x04\x00\x03\x10\x00\x00\x00");
@@ -63,7 +63,7 @@ pub(crate) fn written() {
     writing::show(with(short, 0, 1, 1), 9);
     writing::show(with(short, 3, 0, 0), 4);
     writing::show(with(short, 3, 0, 0), 3);
-    // g above 8, also where no bit is fixed; a bit above g + 1; a value outside care; each with no room
+    // g above 8, also where no bit is fixed; a bit above the g + 1 bits; a value outside care; each with no room
     writing::show(with(short, 9, 1, 1), 0);
     writing::show(with(short, 9, 0, 0), 0);
     writing::show(with(short, 0xffffffffffffffff, 0, 0), 0);

@@ -1,17 +1,18 @@
--- Laws of the dropped bits (document 02, W-206): what is kept and they make up the magnitude, and they decide its rounding; scaling by a power
+-- Laws of the dropped bits (document 02, W-206): they are what the request says, and decide the rounding; scaling by a power
 -- of two keeps them, and so what holds a magnitude has the magnitude's own.
 -- Assumes nothing.
 use mathlib.Core.Bool.{Bool, cond}
 use mathlib.Core.Path.{_≡_, refl, sym, ap, ap₂, _∙_, subst}
 use mathlib.Core.Logic.{⊎-elim, _↔_}
 use Prim.Native.Nat.{ℕ, zero, suc, _+_, _-_, _*_, _/_, _%_, _^_, _≤_, _<_}
-use native.Mathlib.Nat.{add-comm, zero-add, mod-lt, mod-one, mul-one, zero-mul, mul-assoc, mul-comm, mul-mod-left, mul-pos, div-add-mod'}
+use native.Mathlib.Nat.{add-comm, zero-add, mod-lt, mod-one, mul-one, zero-mul, mul-assoc, mul-comm, mul-mod-left, mul-pos, div-add-mod', le-div-iff-mul-le, div-lt-iff-lt-mul}
 use native.Mathlib.Decide.{decLe}
 use native.Mathlib.Omega.{arith}
+use lib.Arith.{digits-div, digits-mod}
 use lib.Dec.{eqb}
 use lib.Ieee.{size}
 use lib.Ieee.Digits.{size-reaches}
-use lib.Pow.{pow-pos, pow-add, mod-pow-add}
+use lib.Pow.{pow-pos, pow-add, shr-shr, mod-pow-add}
 use Rattle.format.specs.declared.Format.{Format}
 use Rattle.format.specs.Format.{precision}
 use Rattle.rounding.specs.declared.Direction.{Direction}
@@ -21,8 +22,8 @@ use Rattle.rounding.specs.Sticky.{guardedAt, Held}
 use Rattle.rounding.specs.Width.{longBits}
 use Rattle.rounding.specs.Outcome.{NormalAt}
 use Rattle.bits.proofs.Division.{div-scale}
-use Rattle.rounding.proofs.Size.{size-least, size-scale}
-use Rattle.rounding.proofs.Sticky.{equal-sticky, with-sticky-above, with-sticky-below, with-sticky-scale, with-sticky-none, with-sticky-exact}
+use Rattle.rounding.proofs.Size.{size-least, size-top, size-scale}
+use Rattle.rounding.proofs.Sticky.{sticky-lt, equal-sticky, with-sticky-above, with-sticky-below, with-sticky-scale, with-sticky-none, with-sticky-exact}
 use Rattle.rounding.proofs.RoundOff.{round-off-scale, round-off-sticky}
 use Rattle.rounding.proofs.Held.{Guards, guarded-double, held-size, held-zero}
 
@@ -50,18 +51,37 @@ with-sticky-twice Z u i =
         sticky-twice (Z / 2 ^ u % 2 ^ i) (Z % 2 ^ u) (2 ^ u) (mod-lt Z (pow-pos u))
         ∙ ap sticky (sym (mod-pow-add Z i u) ∙ ap (λ (m : ℕ). Z % 2 ^ m) (add-comm i u))
 
--- ---- what the definition comes to
+-- ---- what the definition comes to, by the sentence of the request
 module _ (F : Format) (X : ℕ) where
-  above : (g : ℕ) → withSticky (2 ^ g * X) (dropped F X) / 2 ^ (g + 1) ≡ X / 2 ^ dropped F X
-  above g =
-      with-sticky-above (2 ^ g * X) (dropped F X) g ∙ ap (λ (n : ℕ). n / 2 ^ (dropped F X + g)) (mul-comm (2 ^ g) X) ∙ div-scale X (dropped F X) g
+  -- "a leading 1, then f fraction bits": what is kept of a magnitude that is at least the smallest normal one
+  pub kept-digits : 2 ^ F .f ≤ X → (2 ^ F .f ≤ X / 2 ^ dropped F X) × (X / 2 ^ dropped F X < 2 ^ precision F)
+  kept-digits h = go (size-top X (omega (arith, h, pow-pos (F .f))))
+    where
+      go : (n : ℕ) × (size X ≡ suc n) × (2 ^ n ≤ X) × (X < 2 ^ suc n) → (2 ^ F .f ≤ X / 2 ^ dropped F X) × (X / 2 ^ dropped F X < 2 ^ precision F)
+      go (n, digits, least, most) =
+          let least-digits : F .f + dropped F X ≡ n = omega (arith, digits, size-least X (F .f) h) in
+          let most-digits : precision F + dropped F X ≡ suc n = omega (arith, least-digits) in (
+            le-div-iff-mul-le (pow-pos (dropped F X)) .1 (omega (arith, least, pow-add 2 (F .f) (dropped F X), ap (λ (m : ℕ). 2 ^ m) least-digits)),
+            div-lt-iff-lt-mul (pow-pos (dropped F X)) .1 (omega (arith, most, pow-add 2 (precision F) (dropped F X), ap (λ (m : ℕ). 2 ^ m) most-digits)),
+          )
 
-  -- a magnitude is written as what is kept of it, its g dropped bits and the sticky bit of what lies further down
-  pub dropped-written : (g : ℕ) → withSticky (2 ^ g * X) (dropped F X) ≡ X / 2 ^ dropped F X * 2 ^ (g + 1) + droppedWord F g X
+  above : (g : ℕ) → 2 ^ g * X / 2 ^ (dropped F X + g) ≡ X / 2 ^ dropped F X
+  above g = ap (λ (n : ℕ). n / 2 ^ (dropped F X + g)) (mul-comm (2 ^ g) X) ∙ div-scale X (dropped F X) g
+
+  -- "then g dropped bits": with what is kept above them they are the magnitude down to them
+  pub dropped-bits : (g : ℕ) → 2 ^ g * X / 2 ^ dropped F X ≡ X / 2 ^ dropped F X * 2 ^ g + droppedWord F g X / 2
   unfolding droppedWord
-  dropped-written g =
-      sym (div-add-mod' (withSticky (2 ^ g * X) (dropped F X)) (2 ^ (g + 1)))
-      ∙ ap (λ (n : ℕ). n * 2 ^ (g + 1) + withSticky (2 ^ g * X) (dropped F X) % 2 ^ (g + 1)) (above g)
+  dropped-bits g =
+      sym (div-add-mod' (2 ^ g * X / 2 ^ dropped F X) (2 ^ g))
+      ∙ ap₂ (λ (m n : ℕ). m * 2 ^ g + n) (shr-shr (2 ^ g * X) (dropped F X) g ∙ above g)
+      (sym (ap (λ (n : ℕ). n / 2) (with-sticky-below (2 ^ g * X) (dropped F X) g) ∙ digits-div (2 ^ g * X / 2 ^ dropped F X % 2 ^ g) (sticky-lt (2 ^ g * X % 2 ^ dropped F X))))
+
+  -- "then a sticky bit that is 1 exactly when something nonzero lies further down"
+  pub dropped-sticky : (g : ℕ) → droppedWord F g X % 2 ≡ sticky (2 ^ g * X % 2 ^ dropped F X)
+  unfolding droppedWord
+  dropped-sticky g =
+      ap (λ (n : ℕ). n % 2) (with-sticky-below (2 ^ g * X) (dropped F X) g)
+      ∙ digits-mod (2 ^ g * X / 2 ^ dropped F X % 2 ^ g) (sticky-lt (2 ^ g * X % 2 ^ dropped F X))
 
   -- with one dropped bit or more, these and the sticky bit decide the rounding, in every direction: a tie is 2^g, the first of them alone
   pub dropped-rounds : (d : Direction) (j : ℕ)
@@ -71,7 +91,8 @@ module _ (F : Format) (X : ℕ) where
       sym (round-off-scale d X (dropped F X) (suc j))
       ∙ ap₂ (roundOff d) (mul-comm X (2 ^ suc j)) (add-comm (dropped F X) (suc j))
       ∙ sym (round-off-sticky d (2 ^ suc j * X) (dropped F X) j) ∙ ap (roundOff d (withSticky (2 ^ suc j * X) (dropped F X))) up
-      ∙ ap (λ (q : ℕ). q + increment d q (withSticky (2 ^ suc j * X) (dropped F X) % 2 ^ (suc j + 1)) (2 ^ (suc j + 1))) (above (suc j))
+      ∙ ap (λ (q : ℕ). q + increment d q (withSticky (2 ^ suc j * X) (dropped F X) % 2 ^ (suc j + 1)) (2 ^ (suc j + 1)))
+      (with-sticky-above (2 ^ suc j * X) (dropped F X) (suc j) ∙ above (suc j))
     where
       up : j + 2 ≡ suc j + 1
       up = omega arith

@@ -46,9 +46,9 @@ fn dropped(format: Format, x: u64, u: Unit) -> u64
     requires { ⌜ Supported format × (u .0 < 2 ^ format .w) ⌝ }
     ensures { λ r. ⌜ r ≡ size x + u .0 - alignedBits guardBits (format .f) ⌝ }
 {
-    let reach = size(x) + u.0;
+    let top = size(x) + u.0;
     let kept = format.f + ALIGNED;
-    if kept < reach { reach - kept } else { 0 }
+    if kept < top { top - kept } else { 0 }
 }
 
 // x shifted to have the guard bits, or one more after a carry, below the last kept one, and rounded.

@@ -35,7 +35,7 @@ extreme f m (suc n) = greatest f m
 unfoldable pub representative : Format → Mask → Biased → ℕ → ℕ
 representative F m e k = wordOf F (k / 2) (e .0) (extreme (F .f) (fractionMask F m) (k % 2))
 
--- a, b and their rounded result are as wanted ("As c follows from a and b"); there is no row to look at
+-- a, b and their rounded result are as wanted ("As c follows from a and b"); there is no row and no dropped bit to look at
 unfoldable pub together : Job → ℕ → ℕ → Bool
 together j a b = allowed (j .setting .format) a (j .a) && allowed (j .setting .format) b (j .b) && allowed (j .setting .format) (resultIn (j .setting) a b) (j .c)
 

@@ -1,10 +1,8 @@
 -- `pair::finite::bits_below` meets its contract: no job that is valid tells more bits apart. Assumes nothing.
-use mathlib.Core.Path.{_≡_, ap, _∙_}
-use mathlib.Core.Bool.{Bool}
+use mathlib.Core.Path.{ap}
 use Prim.Native.Nat.{ℕ, _+_}
 use native.Mathlib.Omega.{arith}
 use Rattle.job.proofs.GuardLaws.{guards-most}
-use Rattle.pair.specs.Pair.{bitsBelow}
 use borrow.Author.Needs.{needs}
 use Rattle.pair.proofs.finite.bits_below.Statement.{statement}
 use Rattle.pair.proofs.finite.bits_below.Tie as tie

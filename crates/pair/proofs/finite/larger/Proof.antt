@@ -25,7 +25,7 @@ use Rattle.outcome.specs.declared.Target.{Target}
 use Rattle.outcome.specs.Outcome.{Bounded, ZerosBelow, Admits, InFormat, mostDigits, Formed}
 use Rattle.pair.specs.declared.Side.{Side}
 use Rattle.pair.specs.Pair.{FiniteSide, significandsOf, gapOf, reversedOf, bitsBelow, alignedOf, targetOf}
-use Rattle.pair.proofs.Below.{guards-of, below-pos, below-room}
+use Rattle.pair.proofs.Below.{below-pos, below-room}
 use Rattle.pair.proofs.Rows.{reversed-parts}
 use borrow.Author.Needs.{needs}
 use Rattle.pair.proofs.finite.larger.Statement.{statement}

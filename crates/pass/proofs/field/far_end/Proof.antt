@@ -2,7 +2,7 @@
 -- contract of `all_closed`, else by `only-zero`. Assumes nothing.
 use mathlib.Core.Logic.{inl}
 use mathlib.Core.Path.{sym, _∙_}
-use Prim.Native.Nat.{_+_, _-_}
+use Prim.Native.Nat.{_-_}
 use native.Mathlib.Omega.{arith}
 use lib.Pow.{pow-pos}
 use borrow.Author.Tests.{not-true}

@@ -10,8 +10,8 @@ use Rattle.rounding.proofs.round.dropped.Tie as tie
 size-requires : tie.Need-size-requires
 size-requires c κs = search needs
 
-add-reach : tie.Need-add-reach
-add-reach c =
+add-top : tie.Need-add-top
+add-top c =
     let a = c .before .before .args in
     omega (arith, c .before .size .ensures, size-le (a .x) 64 (c .before .before .fits .x .fits), exponents-le (a .format) (c .before .before .pre .0))
 
@@ -28,4 +28,4 @@ returns-2 : tie.Need-returns-2
 returns-2 c = search needs
 
 pub dropped-spec : {M : Type 1} → statement M
-dropped-spec = tie.close (tie.spec size-requires add-reach add-kept sub-result returns returns-2)
+dropped-spec = tie.close (tie.spec size-requires add-top add-kept sub-result returns returns-2)
