@@ -27,7 +27,7 @@ use Rattle.significand.specs.Significand.{topBit, significandMask}
 use Rattle.significand.specs.Tail.{tailMask}
 use Rattle.significand.proofs.Significand.{significand-formed, significand-meets}
 use Rattle.significand.proofs.Tail.{Room, tail-complete, tail-far}
-use Rattle.outcome.specs.Outcome.{Made}
+use Rattle.making.specs.Making.{Made}
 use Rattle.outcome.proofs.Range.{made-like, made-unlike}
 use Rattle.pair.specs.declared.Side.{Side}
 use Rattle.special.specs.Asked.{fieldIs}

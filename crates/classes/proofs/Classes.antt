@@ -27,8 +27,9 @@ use Rattle.rounding.specs.Outcome.{outcome, NormalAt}
 use Rattle.rounding.specs.Width.{alignedBits}
 use Rattle.significand.specs.Tail.{tailMask}
 use Rattle.significand.proofs.Tail.{Room}
-use Rattle.outcome.specs.declared.Aligned as pair
-use Rattle.outcome.specs.Outcome.{Made, Admits}
+use Rattle.making.specs.declared.Aligned as pair
+use Rattle.making.specs.Making.{Made}
+use Rattle.outcome.specs.Outcome.{Admits}
 use Rattle.outcome.proofs.Topped.{size-none}
 use Rattle.outcome.proofs.Range.{made-most}
 use Rattle.special.specs.Asked.{fieldIs, PairFits}

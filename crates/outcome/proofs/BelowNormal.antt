@@ -1,4 +1,4 @@
--- Numbers of at most `small` digits, below the smallest normal number: small and the exponent u of the unit make f and the guard bits. Where
+-- Numbers of at most `small` digits, below the smallest normal number: small and the exponent u of the unit make f and the bits below. Where
 -- the bits below a smallest step are 0 they are exact, and their word is the sign and what they keep. So one question serves for all of them,
 -- but for 0, whose word has a sign of its own. Assumes nothing.
 use mathlib.Core.Logic.{_↔_, inl, ⊎-elim}
@@ -27,18 +27,19 @@ use Rattle.rounding.specs.Sticky.{keptPart}
 use Rattle.rounding.specs.Outcome.{roundedUnit, keptOf, boundedHeld, zeroSign, outcome}
 use Rattle.rounding.proofs.RoundOff.{round-off-exact}
 use Rattle.rounding.proofs.AddConstant.{round-toward-zero}
-use Rattle.outcome.specs.declared.Aligned as pair
+use Rattle.making.specs.declared.Aligned as pair
+use Rattle.making.specs.Making.{Made, Making, columnsOf}
+use Rattle.making.proofs.Rounds.{kept-scaled}
+use Rattle.making.proofs.Making.{none-made, making-answer}
+use Rattle.making.proofs.Made.{made-lt}
 use Rattle.outcome.specs.declared.Target.{Target}
 use Rattle.outcome.specs.declared.sought.Fractions as fractions-of
-use Rattle.outcome.specs.Outcome.{Made, Making, Serves, Admits, columnsOf}
-use Rattle.outcome.specs.Question.{Below, wordOrOverflow, Seeks, subnormalWord}
+use Rattle.outcome.specs.Outcome.{Serves, Admits}
+use Rattle.outcome.specs.Question.{UnderPower, wordOrOverflow, Seeks, subnormalWord}
 use Rattle.outcome.proofs.Topped.{size-none}
-use Rattle.outcome.proofs.Kept.{kept-scaled}
 use Rattle.outcome.proofs.Fields.{held-word, within-meets}
-use Rattle.outcome.proofs.Making.{none-made, making-answer}
 use Rattle.outcome.proofs.Carried.{cut-lt}
 use Rattle.outcome.proofs.Counted.{outcome-zero, outcome-some}
-use Rattle.outcome.proofs.Range.{made-lt}
 
 -- what is kept
 module _ (q : ℕ) (u : exponent.Unit) where
@@ -106,7 +107,7 @@ module _ (q : ℕ) (F : Format) (ok : Supported F) (s : ℕ) (u : exponent.Unit)
       low-meets n h = rw (plain-word TowardZero (keptPart q TowardZero n (u .0) 0)) at (seeks .meets (keptPart q TowardZero n (u .0) 0) (low-lt q u (F .f) small place n h))
 
       module _ (A : pair.Aligned) where
-        pub subnormal-asked : (x : Mask) (r : Bool) → so .possible ≡ true → Below (columnsOf (F .f) A) small x
+        pub subnormal-asked : (x : Mask) (r : Bool) → so .possible ≡ true → UnderPower (columnsOf (F .f) A) small x
             → ((r ≡ true) ↔ Making (F .f) A (λ (n : ℕ). Meets n x × Meets (keptPart q TowardZero n (u .0) 0) (so .fraction)))
             → (r ≡ true) ↔ Making (F .f) A (λ (n : ℕ). (n < 2 ^ small) × Meets (subnormalWord q F s u n) c)
         subnormal-asked x r able below asks =

@@ -20,11 +20,11 @@ use Rattle.rounding.proofs.RoundOff.{round-off-most}
 use Rattle.rounding.proofs.AddConstant.{round-toward-zero}
 use Rattle.rounding.specs.Width.{alignedBits, sumBits, maskBits}
 use Rattle.rounding.specs.Outcome.{keptOf}
-use Rattle.outcome.specs.declared.Aligned as pair
-use Rattle.outcome.specs.Outcome.{Made, mostDigits, columnsOf, mostAligned, Formed}
+use Rattle.making.specs.declared.Aligned as pair
+use Rattle.making.specs.Making.{Made, mostDigits, columnsOf, mostAligned, Formed}
+use Rattle.making.proofs.Made.{most-digits-bounds, aligned-lt, made-sum, made-difference}
 use Rattle.outcome.specs.Question.{leastQuotient, NextQuotient}
 use Rattle.outcome.proofs.Kept.{roundedBits, addedZeros, kept-shifted, least-known}
-use Rattle.outcome.proofs.Range.{most-digits-bounds, aligned-lt, made-sum, made-difference}
 
 -- the low j bits dropped, and s zeros added
 pub cut-lt : (x j s N b : ℕ) → x < 2 ^ N → N - j + s ≤ b → x / 2 ^ j * 2 ^ s < 2 ^ b

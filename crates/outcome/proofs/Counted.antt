@@ -16,26 +16,29 @@ use Rattle.mask.specs.Mask.{Meets, meets}
 use Rattle.mask.proofs.Checks.{meets-true}
 use Rattle.word.specs.declared.Biased.{Biased}
 use Rattle.rounding.specs.declared.Direction.{Direction}
+use Rattle.rounding.specs.declared.Direction.the-variants.{TowardZero}
 use Rattle.word.specs.declared.Unit as exponent
 use Rattle.word.specs.Word.{fieldOf, signed}
 use Rattle.rounding.specs.Rounding.{direction}
 use Rattle.rounding.proofs.Size.{size-zero}
 use Rattle.job.specs.Dropped.{ValidDropped}
-use Rattle.outcome.specs.declared.Aligned as pair
+use Rattle.making.specs.declared.Aligned as pair
 use Rattle.outcome.specs.declared.Target.{Target}
 use Rattle.outcome.specs.declared.sought.Fractions as fractions-of
 use Rattle.rounding.specs.Sticky.{keptPart}
 use Rattle.rounding.specs.Width.{sumBits}
 use Rattle.rounding.specs.Outcome.{roundedUnit, keptOf, boundedHeld, zeroSign, outcome}
-use Rattle.outcome.specs.Outcome.{Serves, Making, columnsOf}
-use Rattle.outcome.specs.Question.{anything, leastQuotient, NextQuotient, Added, OnlyDigits, topped, OfDigits, wordOrOverflow, Seeks}
-use Rattle.outcome.specs.Choices.{choicesOf, InWay}
+use Rattle.making.specs.Making.{Making, columnsOf}
+use Rattle.making.specs.Question.{anything}
+use Rattle.making.proofs.Making.{some-made, none-made, making-map, making-answer}
+use Rattle.making.proofs.Made.{made-lt}
+use Rattle.outcome.specs.Outcome.{Serves}
+use Rattle.outcome.specs.Question.{leastQuotient, NextQuotient, OnlyDigits, topped, OfDigits, wordOrOverflow, Seeks}
+use Rattle.outcome.specs.Ways.{waysAt, InWay}
 use Rattle.outcome.proofs.Topped.{topped-meets, size-none}
 use Rattle.outcome.proofs.Kept.{kept-lt, quotient-low, quotient-high, least-known}
 use Rattle.outcome.proofs.Fields.{held-word}
-use Rattle.outcome.proofs.Making.{some-made, none-made, making-map, making-answer}
-use Rattle.outcome.proofs.Range.{made-lt}
-use Rattle.outcome.proofs.Choices.{drops-in-way}
+use Rattle.outcome.proofs.Ways.{drops-in-way}
 
 module _ (q f : ℕ) (d : Direction) (u : exponent.Unit) (h : ℕ) (fraction : Mask) (hc : fraction .care < 2 ^ f) (hv : fraction .value < 2 ^ f) where
   -- for one number
@@ -144,16 +147,16 @@ module _ (q : ℕ) (F : Format) (mode : ℕ) (like : Bool) (s : ℕ) (u : expone
 module _ (F : Format) (mode s : ℕ) (u : exponent.Unit) (A : pair.Aligned) (T : Target) where
   -- 0 has no dropped bits
   pub zero-asked : (word : ℕ) (x : Mask) (r : Bool) → T .dropped .mask .care ≡ 0 → word ≡ signed F (zeroSign mode (A .like) s) 0 → meets word (T .c) ≡ true
-      → OfDigits (columnsOf (F .f) A) 0 x → ((r ≡ true) ↔ Making (F .f) A (Added (F .f) A x anything 0 0))
+      → OfDigits (columnsOf (F .f) A) 0 x → ((r ≡ true) ↔ Making (F .f) A (λ (n : ℕ). Meets n x × Meets (keptPart (A .below) TowardZero n 0 0) anything))
       → (r ≡ true) ↔ Making (F .f) A (λ (n : ℕ). (size n ≡ 0) × Serves F mode s u A T n)
   zero-asked word x r free ew met digits asks =
-      making-answer (F .f) A (Added (F .f) A x anything 0 0) (λ (n : ℕ). (size n ≡ 0) × Serves F mode s u A T n) r
+      making-answer (F .f) A (λ (n : ℕ). Meets n x × Meets (keptPart (A .below) TowardZero n 0 0) anything) (λ (n : ℕ). (size n ≡ 0) × Serves F mode s u A T n) r
       (λ n made.
       let g = digits n (made-lt (F .f) A n made) in (
         (λ p.
-            let e = g .0 (p .number) in
+            let e = g .0 (p .0) in
             (e, record { word = rw (outcome-zero (A .below) F mode (A .like) s u n e ∙ sym ew) (meets-true word (T .c) .0 met); drops = inl free })),
-        λ p. record { number = g .1 (p .0); fits = omega (arith, made-lt (F .f) A n made); sum = and-zero-r (n + 0 + 0) },
+        λ p. (g .1 (p .0), and-zero-r (keptPart (A .below) TowardZero n 0 0)),
       ))
       asks
 
@@ -183,7 +186,7 @@ module _ (F : Format) (mode s : ℕ) (u : exponent.Unit) (A : pair.Aligned) (T :
     positive zero e = absurd (omega (arith, e, size-zero))
     positive (suc n) e = omega arith
 
-    pub in-one-serves : (t n : ℕ) → t < choicesOf (A .below) (F .f) u (T .dropped) count → InOne t n → (size n ≡ count) × Serves F mode s u A T n
+    pub in-one-serves : (t n : ℕ) → t < waysAt (A .below) (F .f) u (T .dropped) count → InOne t n → (size n ≡ count) × Serves F mode s u A T n
     in-one-serves t n lt p = (
       p .digits,
       record {
@@ -192,7 +195,7 @@ module _ (F : Format) (mode s : ℕ) (u : exponent.Unit) (A : pair.Aligned) (T :
       },
     )
 
-    pub serves-in-one : (n : ℕ) → (size n ≡ count) × Serves F mode s u A T n → (t : ℕ) × (t < choicesOf (A .below) (F .f) u (T .dropped) count) × InOne t n
+    pub serves-in-one : (n : ℕ) → (size n ≡ count) × Serves F mode s u A T n → (t : ℕ) × (t < waysAt (A .below) (F .f) u (T .dropped) count) × InOne t n
     serves-in-one n p =
         let w = drops-in-way F (A .below) u (T .dropped) count valid n (positive n (p .0)) (p .0) .0 (p .1 .drops) in
         (w .0, w .1, record { digits = p .0; in-way = w .2; word = rw (word-is n (p .0)) at (p .1 .word) })

@@ -1,36 +1,29 @@
 -- Where both significands have 0 in each bit that is rounded off, so does what they make, and every direction keeps the same part of it: a
--- question may be put in another direction. Assumes nothing.
+-- question may be put in another direction. The difference of a reversed row is such (document 02, W-205). Assumes nothing.
 use mathlib.Core.Logic.{_↔_}
 use mathlib.Core.Path.{_≡_, sym, ap, ap₂, _∙_, subst}
 use mathlib.Core.Bool.{Bool, true, false, not}
 use Prim.Native.Nat.{ℕ, zero, suc, _+_, _-_, _*_, _/_, _%_, _^_, _≤_, _<_}
-use native.Mathlib.Nat.{mod-lt, mul-comm, mul-add, mul-sub, mul-mod-right}
+use native.Mathlib.Nat.{zero-mod, mul-comm, mul-add, mul-sub, mul-mod-right}
 use native.Mathlib.Omega.{arith}
-use lib.Bits.{bitAnd}
 use lib.Ieee.{size}
-use lib.Pow.{pow-pos, split}
+use lib.Pow.{split, mod-mod-pow}
 use Rattle.mask.specs.declared.Mask.{Mask}
-use Rattle.mask.specs.Mask.{Meets, low}
-use Rattle.mask.proofs.ByParts.{meets-parts}
+use Rattle.mask.specs.Mask.{Meets}
 use Rattle.columns.specs.Carry.{combined}
 use Rattle.word.specs.declared.Unit as exponent
 use Rattle.rounding.specs.declared.Direction.{Direction}
 use Rattle.rounding.proofs.RoundOff.{round-off-exact}
-use Rattle.rounding.specs.Width.{sumBits}
+use Rattle.rounding.specs.Width.{alignedBits, sumBits}
 use Rattle.rounding.specs.Outcome.{keptOf}
-use Rattle.outcome.specs.declared.Aligned as pair
-use Rattle.outcome.specs.Outcome.{Made, Making}
+use Rattle.making.specs.declared.Aligned as pair
+use Rattle.making.specs.Making.{Made, Making, mostDigits, Formed}
+use Rattle.making.proofs.Zeros.{zeros-below}
+use Rattle.making.proofs.Making.{making-answer}
+use Rattle.making.proofs.Made.{made-lt}
 use Rattle.outcome.specs.Question.{NextQuotient, KeepAlike, OnlyDigits}
-use Rattle.outcome.proofs.Topped.{and-ones}
 use Rattle.outcome.proofs.Kept.{roundedBits, addedZeros, kept-shifted}
-use Rattle.outcome.proofs.Making.{making-answer}
-use Rattle.outcome.proofs.Range.{made-lt}
-
--- a mask that fixes the low j bits to 0
-pub zeros-meets-low : (j : ℕ) (m l : Mask) → l ≡ low j m → l .value ≡ 0 → l .care ≡ 2 ^ j - 1 → (n : ℕ) → Meets n m → n % 2 ^ j ≡ 0
-zeros-meets-low j m l e v c n met =
-    sym (and-ones j (n % 2 ^ j) (mod-lt n (pow-pos j))) ∙ ap (bitAnd (n % 2 ^ j)) (sym c ∙ ap (λ (k : Mask). k .care) e) ∙ meets-parts j n m .0 met .0
-    ∙ sym (ap (λ (k : Mask). k .value) e) ∙ v
+use Rattle.outcome.proofs.Range.{made-digits}
 
 -- what is made of two multiples of 2^j is one
 factor : (n j : ℕ) → n % 2 ^ j ≡ 0 → n ≡ 2 ^ j * (n / 2 ^ j)
@@ -49,6 +42,20 @@ pub made-zeros : (A : pair.Aligned) (j : ℕ) → ((n : ℕ) → Meets n (A .hea
 made-zeros A j head tail f x made =
     subst (λ (n : ℕ). n % 2 ^ j ≡ 0) (made .makes)
     (combined-zeros (not (A .like)) (made .H) (made .T) j (head (made .H) (made .head-meets)) (tail (made .T) (made .tail-meets)))
+
+-- so does the difference of a reversed row, in each bit that is rounded off
+pub reversed-zeros : (f : ℕ) (u : exponent.Unit) (A : pair.Aligned) (N : ℕ) → Formed f A → A .reversed ≡ true → (x : ℕ) → Made f A x → size x ≡ N → x % 2 ^ roundedBits (A .below) f N u ≡ 0
+reversed-zeros f u A N formed reversed x made digits =
+    let q = A .below in
+    let one = formed .one-unit reversed in
+    let most : size x ≤ alignedBits q f = subst (λ (b : Bool). size x ≤ mostDigits q f b) (one .unlike) (made-digits f A x made) in
+    let few : roundedBits q f N u ≤ q = omega (arith, most, digits) in
+    let back : q - roundedBits q f N u + roundedBits q f N u ≡ q = omega (arith, few) in
+    let all : x % 2 ^ q ≡ 0 = made-zeros A q (zeros-below q (A .head) (one .head)) (zeros-below q (A .tail) (one .tail)) f x made in
+    sym (mod-mod-pow x (q - roundedBits q f N u) (roundedBits q f N u))
+    ∙ ap (λ (k : ℕ). x % 2 ^ k % 2 ^ roundedBits q f N u) back
+    ∙ ap (λ (k : ℕ). k % 2 ^ roundedBits q f N u) all
+    ∙ zero-mod (2 ^ roundedBits q f N u)
 
 -- then all directions keep the same part
 pub exact-alike : (f : ℕ) (d e : Direction) (u : exponent.Unit) (A : pair.Aligned) (N : ℕ) → 0 < N → N ≤ sumBits (A .below) f

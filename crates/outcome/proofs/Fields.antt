@@ -25,7 +25,8 @@ use Rattle.word.specs.declared.Unit as exponent
 use Rattle.word.specs.Word.{fieldOf, allOnes, signed, infinityWord}
 use Rattle.rounding.specs.Rounding.{overflowWord}
 use Rattle.rounding.specs.Outcome.{roundedUnit, keptOf, heldWord, boundedHeld}
-use Rattle.outcome.specs.Question.{anything, wordOrOverflow, Seeks}
+use Rattle.making.specs.Question.{anything}
+use Rattle.outcome.specs.Question.{wordOrOverflow, Seeks}
 
 -- k and a part Y make the exponent field k + Y / 2^f and the fraction Y % 2^f
 apart : (f k Y : ℕ) → k * 2 ^ f + Y ≡ (k + Y / 2 ^ f) * 2 ^ f + Y % 2 ^ f

@@ -1,15 +1,13 @@
 -- The kept part of x as one rounding off and one shift: j bits are rounded off, or none and s zeros are added. For a number x of N digits
 -- what stands above the fraction is then one of two neighbours: 0 or 1 below the smallest normal number's digits, else 1 or 2.
 -- Assumes nothing.
-use mathlib.Core.Path.{_≡_, refl, sym, ap, ap₂, _∙_, subst}
+use mathlib.Core.Path.{_≡_, refl, sym, ap, _∙_, subst}
 use mathlib.Core.Logic.{_⊎_, inl, inr, ⊎-elim}
-use mathlib.Core.Bool.{cond}
 use Prim.Native.Nat.{ℕ, zero, suc, _+_, _-_, _*_, _/_, _%_, _^_, _≤_, _<_}
-use native.Mathlib.Nat.{zero-add, mul-one, mul-assoc, le-trans, lt-of-lt-of-le, div-lt-iff-lt-mul, le-div-iff-mul-le}
+use native.Mathlib.Nat.{mul-one, le-trans, lt-of-lt-of-le, div-lt-iff-lt-mul, le-div-iff-mul-le}
 use native.Mathlib.Decide.{decLt, decLe}
 use native.Mathlib.Omega.{arith}
 use borrow.Author.Tests.{lt-ltb, le-ltb}
-use lib.Dec.{ltb}
 use lib.Ieee.{size}
 use lib.Ieee.Digits.{size-lt, size-reaches}
 use lib.Pow.{pow-pos, pow-add, pow-mono, shl-lt, shr-lt}
@@ -17,35 +15,11 @@ use Rattle.rounding.specs.declared.Direction.{Direction}
 use Rattle.word.specs.declared.Unit as exponent
 use Rattle.rounding.specs.Rounding.{roundOff}
 use Rattle.rounding.specs.Sticky.{keptPart}
-use Rattle.rounding.proofs.RoundOff.{increment-le, round-off-none, round-off-scale}
-use Rattle.rounding.specs.Width.{alignedBits, sumBits, mostRounded}
+use Rattle.rounding.proofs.RoundOff.{increment-le, round-off-none}
+use Rattle.rounding.specs.Width.{alignedBits, sumBits}
 use Rattle.rounding.specs.Outcome.{roundedUnit, keptOf}
+use Rattle.making.proofs.Rounds.{kept-scaled}
 use Rattle.outcome.specs.Question.{leastQuotient}
-
--- q less u - k bits are rounded off, one more than they after a carry, or else zeros are added
-pub kept-scaled : (q : ℕ) (d : Direction) (x u k : ℕ) → k ≤ suc u → keptPart q d x u k ≡ roundOff d x (k + q - u) * 2 ^ (u - (k + q))
-unfolding keptPart
-kept-scaled q d x u k most = go (decLt u k) (decLe u (k + q))
-  where
-    -- no zeros are added
-    alone : (j : ℕ) → k + q - u ≡ j → u ≤ k + q → roundOff d x j ≡ roundOff d x (k + q - u) * 2 ^ (u - (k + q))
-    alone j e l =
-        let none : u - (k + q) ≡ 0 = omega arith in
-        sym (ap₂ (λ (a b : ℕ). roundOff d x a * 2 ^ b) e none ∙ mul-one (roundOff d x j))
-
-    go : Dec (u < k) → Dec (u ≤ k + q) → cond (ltb u k) (roundOff d x (mostRounded q)) (roundOff d (x * 2 ^ (u - k)) q) ≡ roundOff d x (k + q - u) * 2 ^ (u - (k + q))
-    go (yes h) l = rw (lt-ltb u k h) (alone (mostRounded q) (omega arith) (omega arith))
-    go (no h) (yes l) =
-        let e : q ≡ (k + q - u) + (u - k) = omega arith in
-        rw (le-ltb u k (omega arith))
-        (ap (roundOff d (x * 2 ^ (u - k))) e ∙ round-off-scale d x (k + q - u) (u - k) ∙ alone (k + q - u) refl l)
-    go (no h) (no l) =
-        let e : u - k ≡ (u - (k + q)) + q = omega arith in
-        let none : k + q - u ≡ 0 = omega arith in
-        rw (le-ltb u k (omega arith))
-        (ap (λ (n : ℕ). roundOff d n q) (ap (λ (i : ℕ). x * 2 ^ i) e ∙ ap (_*_ x) (pow-add 2 (u - (k + q)) q) ∙ sym (mul-assoc x (2 ^ (u - (k + q))) (2 ^ q)))
-        ∙ ap (roundOff d (x * 2 ^ (u - (k + q)) * 2 ^ q)) (sym (zero-add q)) ∙ round-off-scale d (x * 2 ^ (u - (k + q))) 0 q ∙ round-off-none d (x * 2 ^ (u - (k + q)))
-        ∙ ap (λ (n : ℕ). n * 2 ^ (u - (k + q))) (sym (ap (roundOff d x) none ∙ round-off-none d x)))
 
 -- j bits are rounded off or s zeros are added, and not both
 module _ (d : Direction) (x j s : ℕ) (either : (j ≡ 0) ⊎ (s ≡ 0)) where

@@ -2,14 +2,9 @@ pub mod Room
 pub mod Topped
 pub mod Kept
 pub mod Fields
-pub mod Rounds
-pub mod Making
-pub mod Last
-pub mod Choices
+pub mod Ways
 pub mod Range
-pub mod Asked
 pub mod Carried
 pub mod Exact
-pub mod Reversed
 pub mod Counted
 pub mod BelowNormal

@@ -4,9 +4,9 @@
 use mathlib.Core.Logic.{_↔_}
 use mathlib.Core.Path.{_≡_, sym, ap, _∙_, subst}
 use Prim.Native.Nat.{ℕ, suc, _+_, _-_, _/_, _%_, _^_, _<_}
-use native.Mathlib.Nat.{mod-eq-of-lt, div-eq-of-lt, div-lt-iff-lt-mul, le-div-iff-mul-le, pow-suc}
+use native.Mathlib.Nat.{div-eq-of-lt, div-lt-iff-lt-mul, le-div-iff-mul-le, pow-suc}
 use native.Mathlib.Omega.{arith}
-use lib.Bits.{bitAnd, and-mask, and-zero-r}
+use lib.Bits.{bitAnd, and-zero-r}
 use lib.Ieee.{size}
 use lib.Ieee.Digits.{size-lt, size-reaches}
 use lib.Pow.{pow-pos, high, low, shr-lt}
@@ -14,11 +14,9 @@ use Rattle.mask.specs.declared.Mask.{Mask}
 use Rattle.mask.specs.Mask.{Meets}
 use Rattle.mask.proofs.ByParts.{meets-parts}
 use Rattle.rounding.proofs.Size.{size-zero, size-between}
-use Rattle.outcome.specs.Question.{anything, topped, OfDigits, Below}
-
--- all bits of a number below 2^r
-pub and-ones : (r y : ℕ) → y < 2 ^ r → bitAnd y (2 ^ r - 1) ≡ y
-and-ones r y h = and-mask y r ∙ mod-eq-of-lt h
+use Rattle.making.specs.Question.{anything}
+use Rattle.making.proofs.Zeros.{and-ones}
+use Rattle.outcome.specs.Question.{topped, OfDigits, UnderPower}
 
 module _ (r k h x : ℕ) (m : Mask) (hc : m .care < 2 ^ k) (hv : m .value < 2 ^ k) (below : x < 2 ^ (r + k)) where
   pub topped-meets : Meets x (topped r k h m) ↔ ((x / 2 ^ k ≡ h) × Meets (x % 2 ^ k) m)
@@ -75,7 +73,7 @@ pub digits-of : (n count r k : ℕ) → n ≡ suc r + k → count ≡ suc k → 
 digits-of n count r k en ec a b ea eb = rw (en, ec, ea, eb) (digits-some r k)
 
 -- the mask of the numbers below 2^k
-pub below-power : (n r k : ℕ) → n ≡ r + k → Below n k (topped r k 0 anything)
+pub below-power : (n r k : ℕ) → n ≡ r + k → UnderPower n k (topped r k 0 anything)
 below-power n r k e = rw e meets
   where
     meets : (x : ℕ) → x < 2 ^ (r + k) → Meets x (topped r k 0 anything) ↔ (x < 2 ^ k)

@@ -1,3 +1,3 @@
 pub mod Outcome
 pub mod Question
-pub mod Choices
+pub mod Ways

@@ -3,10 +3,9 @@
 -- Contracts inside this crate speak of them. Assumes nothing.
 -- Internal: no public contract cites this.
 use mathlib.Core.Path.{_≡_}
-use mathlib.Core.Bool.{Bool, true, false, cond}
+use mathlib.Core.Bool.{true, cond}
 use mathlib.Core.Logic.{_↔_}
 use Prim.Native.Nat.{ℕ, _+_, _-_, _*_, _/_, _^_, _≤_, _<_}
-use lib.Bits.{bitXor}
 use lib.Dec.{ltb}
 use lib.Ieee.{size}
 use Rattle.format.specs.declared.Format.{Format}
@@ -21,32 +20,17 @@ use Rattle.rounding.specs.Rounding.{overflowWord}
 use Rattle.rounding.specs.Width.{alignedBits}
 use Rattle.rounding.specs.Sticky.{keptPart}
 use Rattle.rounding.specs.Outcome.{keptOf}
-use Rattle.outcome.specs.declared.Aligned as pair
+use Rattle.making.specs.declared.Aligned as pair
+use Rattle.making.specs.Making.{Made, Making, columnsOf}
 use Rattle.outcome.specs.declared.Target.{Target}
 use Rattle.outcome.specs.declared.sought.Fractions as fractions-of
 use Rattle.outcome.specs.declared.subnormal.Known as reply
 use Rattle.outcome.specs.declared.subnormal.Known.the-variants.{Found, AtLeast}
-use Rattle.outcome.specs.Outcome.{Made, Making, Serves, Admits, columnsOf}
-
--- no bit is fixed
-abbrev pub anything : Mask
-anything = record { care = 0; value = 0 }
-
--- bit j fixed to b, and no other
-abbrev pub oneBit : ℕ → ℕ → Mask
-oneBit j b = record { care = 2 ^ j; value = b * 2 ^ j }
+use Rattle.outcome.specs.Outcome.{Serves, Admits}
 
 -- the mask m on the low k bits, and the number h on r bits above them
 abbrev pub topped : ℕ → ℕ → ℕ → Mask → Mask
 topped r k h m = record { care = (2 ^ r - 1) * 2 ^ k + m .care; value = h * 2 ^ k + m .value }
-
--- the mask with each fixed bit turned over
-abbrev pub opposite : Mask → Mask
-opposite m = record { care = m .care; value = bitXor (m .care) (m .value) }
-
--- the mask of the numbers one above those that meet m, where m fixes the lowest bit to 0
-abbrev pub oneAbove : Mask → Mask
-oneAbove m = record { care = m .care; value = m .value + 1 }
 
 -- the smaller of the two numbers that can stand above the fraction of what is made, rounded, where that has N digits
 abbrev pub leastQuotient : ℕ → ℕ → ℕ → exponent.Unit → ℕ
@@ -60,16 +44,6 @@ NextQuotient f d u A N = Making f A (λ (x : ℕ). (size x ≡ N) × (keptOf (A 
 abbrev pub KeepAlike : ℕ → way.Direction → way.Direction → exponent.Unit → pair.Aligned → ℕ → Type 0
 KeepAlike f d e u A N = (x : ℕ) → Made f A x → size x ≡ N → keptOf (A .below) f d x u ≡ keptOf (A .below) f e x u
 
--- n meets x, and with a constant and a carry added it fits the columns and meets z
-pub record Added (f : ℕ) (A : pair.Aligned) (x z : Mask) (constant carry n : ℕ) : Type 0 where
-  pub number : Meets n x
-  pub fits : n + constant + carry < 2 ^ columnsOf f A
-  pub sum : Meets (n + constant + carry) z
-
--- what they make and meets x leaves room in the columns for what rounding off j bits adds
-abbrev pub Leaves : ℕ → pair.Aligned → ℕ → Mask → Type 0
-Leaves f A j x = (n : ℕ) → Made f A n → Meets n x → n + 2 ^ j ≤ 2 ^ columnsOf f A
-
 -- only numbers of N digits meet x, of those that fit the columns
 abbrev pub OnlyDigits : ℕ → pair.Aligned → ℕ → Mask → Type 0
 OnlyDigits f A N x = (n : ℕ) → n < 2 ^ columnsOf f A → Meets n x → size n ≡ N
@@ -79,8 +53,8 @@ abbrev pub OfDigits : ℕ → ℕ → Mask → Type 0
 OfDigits n N m = (x : ℕ) → x < 2 ^ n → Meets x m ↔ (size x ≡ N)
 
 -- m is met by exactly those numbers of n bits that are below 2^k
-abbrev pub Below : ℕ → ℕ → Mask → Type 0
-Below n k m = (x : ℕ) → x < 2 ^ n → Meets x m ↔ (x < 2 ^ k)
+abbrev pub UnderPower : ℕ → ℕ → Mask → Type 0
+UnderPower n k m = (x : ℕ) → x < 2 ^ n → Meets x m ↔ (x < 2 ^ k)
 
 -- the word of the sign s, the exponent field e and the fraction t; past the largest finite number what the direction gives
 abbrev pub wordOrOverflow : Format → way.Direction → ℕ → Biased → ℕ → ℕ

@@ -1,16 +1,15 @@
 // Whether two aligned significands make a number of so many binary digits that serves.
-use crate::Aligned;
 use crate::Target;
-use crate::ask::ask;
-use crate::ask::rounds_at;
-use crate::columns;
-use crate::dropped::choices;
 use crate::dropped::numbers;
+use crate::dropped::ways_at;
 use crate::masks;
 use crate::sought::Fractions;
 use crate::sought::sought;
 use bits::minus;
 use format::Format;
+use making::Aligned;
+use making::ask::rounds_at;
+use making::columns;
 use mask::Mask;
 use rounding::Direction;
 use rounding::mode::direction;
@@ -32,7 +31,8 @@ ghost use Rattle.word.specs.Word.{signed};
 ghost use Rattle.rounding.specs.declared.Direction.the-variants.{TowardZero};
 ghost use Rattle.rounding.specs.Width.{alignedBits, sumBits};
 ghost use Rattle.rounding.specs.Outcome.{roundedUnit, keptOf, boundedHeld};
-ghost use Rattle.outcome.specs.Outcome.{Made, Serves, InFormat, columnsOf, Room, Formed, Making};
+ghost use Rattle.making.specs.Making.{Made, Making, columnsOf, Room, Formed};
+ghost use Rattle.outcome.specs.Outcome.{Serves, InFormat};
 ghost use Rattle.outcome.specs.Question.{leastQuotient, NextQuotient, KeepAlike, OnlyDigits};
 
 // The exponent of the unit of what they make, rounded, where that has so many digits.
@@ -114,11 +114,11 @@ fn rounds_to(
 }
 
 // Whether they make a number that meets x, of so many digits and with `quotient` above the fraction, whose word meets c. It is asked about
-// in the direction `way`, which keeps the same part of it.
+// in the direction `asked`, which keeps the same part of it.
 fn at_quotient(
     format: Format,
     direction: Direction,
-    way: Direction,
+    asked: Direction,
     sign: u64,
     unit: Unit,
     aligned: Aligned,
@@ -127,13 +127,13 @@ fn at_quotient(
     x: Mask,
     quotient: u64,
 ) -> bool
-    requires { ⌜ InFormat format sign unit × Room (format .f) aligned × (0 < count) × (count ≤ columnsOf (format .f) aligned) × (quotient < 4) × (Formed (format .f) aligned → KeepAlike (format .f) way direction unit aligned count) × (aligned .reversed ≡ true → way ≡ TowardZero) × OnlyDigits (format .f) aligned count x ⌝ }
+    requires { ⌜ InFormat format sign unit × Room (format .f) aligned × (0 < count) × (count ≤ columnsOf (format .f) aligned) × (quotient < 4) × (Formed (format .f) aligned → KeepAlike (format .f) asked direction unit aligned count) × (aligned .reversed ≡ true → asked ≡ TowardZero) × OnlyDigits (format .f) aligned count x ⌝ }
     ensures { λ r. ⌜ (Formed (format .f) aligned → (r ≡ true) ↔ Making (format .f) aligned (λ (n : ℕ). Meets n x × (keptOf (aligned .below) (format .f) direction n unit / 2 ^ format .f ≡ quotient) × Meets (signed format sign (boundedHeld (aligned .below) format direction n unit)) c)) ⌝ }
 {
     let f = format.f;
     let exponent = field_of(rounded_unit(f, aligned.below, count, unit), quotient);
     let fractions = sought(format, direction, sign, c, exponent);
-    rounds_to(aligned, f, way, unit, count, x, quotient, fractions)
+    rounds_to(aligned, f, asked, unit, count, x, quotient, fractions)
 }
 
 // Whether rounding may carry into the next quotient. It never does toward zero, nor in the longest sum or difference: that is at most the
@@ -166,18 +166,18 @@ fn at_count(
 {
     let f = format.f;
     let h = least_quotient(f, aligned.below, unit, count);
-    let way = asked_direction(f, direction, unit, aligned, count);
-    if at_quotient(format, direction, way, sign, unit, aligned, c, count, x, h) {
+    let by = asked_direction(f, direction, unit, aligned, count);
+    if at_quotient(format, direction, by, sign, unit, aligned, c, count, x, h) {
         return true;
     }
-    if !may_carry(f, way, aligned, count) {
+    if !may_carry(f, by, aligned, count) {
         return false;
     }
     let next = h + 1;
     at_quotient(
         format,
         direction,
-        way,
+        by,
         sign,
         unit,
         aligned,
@@ -188,7 +188,8 @@ fn at_count(
     )
 }
 
-// Whether they make 0, and the word of a zero sum meets c. A zero has no dropped bits.
+// Whether they make 0, and the word of a zero sum meets c. A zero has no dropped bits. It is asked for toward zero, where rounding adds
+// nothing, and any part may be kept.
 fn at_zero(format: Format, mode: u64, sign: u64, aligned: Aligned, target: Target) -> bool
     requires { ⌜ Supported format × (sign < 2) × Room (format .f) aligned ⌝ }
     ensures { λ r. ⌜ (Formed (format .f) aligned → (unit : Unit) → (r ≡ true) ↔ Making (format .f) aligned (λ (x : ℕ). (size x ≡ 0) × Serves format mode sign unit aligned target x)) ⌝ }
@@ -201,8 +202,16 @@ fn at_zero(format: Format, mode: u64, sign: u64, aligned: Aligned, target: Targe
         signed(format, zero_sign(mode, aligned.like, sign), 0),
     ) {
         let x = masks::digits(columns(aligned, format.f), 0);
-        let z = Mask { care: 0, value: 0 };
-        return ask(aligned, format.f, x, z, 0, 0);
+        let any = Mask { care: 0, value: 0 };
+        return rounds_at(
+            aligned,
+            format.f,
+            Direction::TowardZero,
+            Unit(0),
+            Unit(0),
+            x,
+            any,
+        );
     }
     false
 }
@@ -221,7 +230,7 @@ fn at_digits(
     ensures { λ r. ⌜ (Formed (format .f) aligned → ValidDropped (target .dropped) → (r ≡ true) ↔ Making (format .f) aligned (λ (x : ℕ). (size x ≡ count) × Serves format mode sign unit aligned target x)) ⌝ }
 {
     let direction = direction(mode, sign);
-    let ways = choices(aligned, format.f, unit, target.dropped, count);
+    let ways = ways_at(aligned, format.f, unit, target.dropped, count);
     let mut way = 0;
     while way < ways {
         let x = numbers(aligned, format.f, target.dropped, count, way);

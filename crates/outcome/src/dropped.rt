@@ -1,12 +1,12 @@
 // The numbers of so many digits whose dropped bits meet a mask. What lies below these bits is told by the sticky bit alone: where that is to
 // be 1 some bit there is, and a mask can only say which. So there are several ways, and a mask for each.
-use crate::Aligned;
-use crate::columns;
-use crate::masks::both;
 use crate::masks::digits;
-use crate::masks::raised;
 use bits::minus;
 use job::Dropped;
+use making::Aligned;
+use making::columns;
+use making::masks::both;
+use making::masks::raised;
 use mask::Mask;
 use mask::high;
 use word::Unit;
@@ -14,12 +14,12 @@ ghost use mathlib.Core.Path.{_≡_};
 ghost use Prim.Native.Nat.{_+_, _-_, _^_, _≤_, _<_};
 ghost use Rattle.format.specs.Limits.{mostDropped};
 ghost use Rattle.job.specs.Dropped.{ValidDropped};
-ghost use Rattle.outcome.specs.Outcome.{columnsOf, Room};
+ghost use Rattle.making.specs.Making.{columnsOf, Room};
 ghost use Rattle.outcome.specs.Question.{OnlyDigits};
-ghost use Rattle.outcome.specs.Choices.{waysOf, upperOf, lowerOf, choicesOf, OfWay};
+ghost use Rattle.outcome.specs.Ways.{waysOf, upperOf, lowerOf, waysAt, OfWay};
 
 // In how many ways a number that has j bits below the last kept one may have the dropped bits. With no more than g + 1 of them they are the
-// upper ones, and zeros stand below; with more of them the lowest are told by the sticky bit.
+// upper bits of the mask, and zeros stand below; with more of them the lowest are told by the sticky bit.
 fn ways(dropped: Dropped, j: u64) -> u64
     requires { ⌜ (dropped .g ≤ mostDropped) × (j < 64) ⌝ }
     ensures { λ r. ⌜ r ≡ waysOf dropped j ⌝ }
@@ -72,9 +72,9 @@ fn lower(dropped: Dropped, j: u64, way: u64) -> Mask
 
 // In how many ways a number of so many digits may have dropped bits as they are wanted: in one where none is fixed, in none below the
 // smallest normal number.
-pub(crate) fn choices(aligned: Aligned, f: u64, unit: Unit, dropped: Dropped, count: u64) -> u64
+pub(crate) fn ways_at(aligned: Aligned, f: u64, unit: Unit, dropped: Dropped, count: u64) -> u64
     requires { ⌜ Room f aligned × (dropped .g ≤ mostDropped) × (unit .0 < 2 ^ 63) × (count < 64) ⌝ }
-    ensures { λ r. ⌜ r ≡ choicesOf (aligned .below) f unit dropped count ⌝ }
+    ensures { λ r. ⌜ r ≡ waysAt (aligned .below) f unit dropped count ⌝ }
 {
     if dropped.mask.care == 0 {
         return 1;

@@ -3,12 +3,14 @@ use digits::fits;
 use format::Format;
 use format::limits::MOST_DROPPED;
 use job::Dropped;
+use making::Aligned;
+use making::columns;
+use making::roomy;
 use mask::Mask;
 use subnormal::Known;
 use subnormal::first_count;
 use word::Unit;
 
-mod ask;
 mod digits;
 mod dropped;
 mod masks;
@@ -24,35 +26,13 @@ ghost use Rattle.mask.specs.Mask.{Meets};
 ghost use Rattle.format.specs.Limits.{mostDropped};
 ghost use Rattle.job.specs.Dropped.{ValidDropped};
 ghost use Rattle.rounding.specs.Width.{alignedBits};
-ghost use Rattle.outcome.specs.Outcome.{Made, Making, Serves, Admits, InFormat, columnsOf, Room, Formed};
-
-// The masks of two aligned significands and of their carries; like tells whether they are added, reversed whether the carries are those
-// of the smaller one less the larger, below how many bits stand below the larger one's last.
-pub struct Aligned {
-    pub like: bool,
-    pub reversed: bool,
-    pub below: u64,
-    pub head: Mask,
-    pub tail: Mask,
-    pub carries: Mask,
-}
+ghost use Rattle.making.specs.Making.{Made, Making, Room, Formed};
+ghost use Rattle.outcome.specs.Outcome.{Serves, Admits, InFormat};
 
 // What is wanted of the result: of its word, and of the bits that rounding drops.
 pub struct Target {
     pub c: Mask,
     pub dropped: Dropped,
-}
-
-// The columns of a question: the most digits that what they make has, a sum's where they are like, else a difference's.
-pub(crate) fn columns(aligned: Aligned, f: u64) -> u64
-    requires { ⌜ columnsOf f aligned < 64 ⌝ }
-    ensures { λ r. ⌜ r ≡ columnsOf f aligned ⌝ }
-{
-    if aligned.like {
-        f + (2 + aligned.below)
-    } else {
-        f + (1 + aligned.below)
-    }
 }
 
 // Whether an aligned significand's mask keeps its two top bits 0.
@@ -128,24 +108,6 @@ fn some_count(
     match known {
         Known::Found => true,
         Known::AtLeast(first) => some_from(format, mode, sign, unit, aligned, target, first),
-    }
-}
-
-// Whether some bit stands below and the columns fit a word; the fraction's bits are few.
-fn roomy(aligned: Aligned, f: u64) -> bool
-    requires { ⌜ f < 64 ⌝ }
-    ensures { λ r. ⌜ (r ≡ true) ↔ Room f aligned ⌝ }
-{
-    if aligned.below == 0 {
-        return false;
-    }
-    if 63 <= aligned.below {
-        return false;
-    }
-    if aligned.like {
-        f + (2 + aligned.below) < 64
-    } else {
-        f + (1 + aligned.below) < 64
     }
 }
 

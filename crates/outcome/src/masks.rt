@@ -1,54 +1,10 @@
-// The masks that a question is made of.
-use mask::Joined;
+// The masks of numbers by their digits, and of low bits that are 0.
 use mask::Mask;
 ghost use mathlib.Core.Bool.{true};
-ghost use mathlib.Core.Logic.{_↔_};
 ghost use mathlib.Core.Path.{_≡_};
 ghost use Prim.Native.Nat.{ℕ, _+_, _%_, _^_, _≤_, _<_};
-ghost use Rattle.mask.specs.Mask.{Meets, raised};
-ghost use Rattle.outcome.specs.Question.{opposite, oneAbove, topped, OfDigits, Below};
-
-// The mask moved up by d places.
-pub(crate) fn raised(m: Mask, d: u64) -> Mask
-    requires { ⌜ d < 64 ⌝ }
-    ensures { λ r. ⌜ ((k : ℕ) → k + d ≤ 64 → m .care < 2 ^ k → m .value < 2 ^ k → r ≡ raised d m) ⌝ }
-{
-    Mask {
-        care: m.care << d,
-        value: m.value << d,
-    }
-}
-
-// The mask of the numbers that meet both masks; one that no number meets where they clash.
-pub(crate) fn both(m: Mask, n: Mask) -> Mask
-    ensures { λ r. ⌜ ((x : ℕ) → Meets x r ↔ (Meets x m × Meets x n)) ⌝ }
-{
-    let joined = mask::join(m, n);
-    match joined {
-        Joined::Mask(whole) => whole,
-        Joined::Refused(_) => Mask { care: 0, value: 1 },
-    }
-}
-
-// The mask with each fixed bit turned over.
-pub(crate) fn opposite(m: Mask) -> Mask
-    ensures { λ r. ⌜ r ≡ opposite m ⌝ }
-{
-    Mask {
-        care: m.care,
-        value: m.care ^ m.value,
-    }
-}
-
-// The mask of the numbers one above those that meet m, where m fixes the lowest bit to 0.
-pub(crate) fn one_above(m: Mask) -> Mask
-    ensures { λ r. ⌜ (m .value % 2 ≡ 0 → r ≡ oneAbove m) ⌝ }
-{
-    Mask {
-        care: m.care,
-        value: m.value | 1,
-    }
-}
+ghost use Rattle.mask.specs.Mask.{Meets};
+ghost use Rattle.outcome.specs.Question.{topped, OfDigits, UnderPower};
 
 // The mask m on the low k bits, and the number h on r bits above them.
 pub(crate) fn topped(r: u64, k: u64, h: u64, m: Mask) -> Mask
@@ -79,7 +35,7 @@ pub(crate) fn digits(n: u64, count: u64) -> Mask
 // The mask of the numbers of n bits that are below 2^k.
 pub(crate) fn below(n: u64, k: u64) -> Mask
     requires { ⌜ (n < 64) × (k ≤ n) ⌝ }
-    ensures { λ r. ⌜ Below n k r ⌝ }
+    ensures { λ r. ⌜ UnderPower n k r ⌝ }
 {
     let low = Mask { care: 0, value: 0 };
     topped(n - k, k, 0, low)

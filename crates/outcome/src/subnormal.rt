@@ -1,8 +1,5 @@
 // The numbers below the smallest normal one: where nothing is rounded off, one question serves for all of them.
-use crate::Aligned;
 use crate::Target;
-use crate::ask::rounds_at;
-use crate::columns;
 use crate::digits::exact;
 use crate::digits::fits;
 use crate::fewest;
@@ -10,6 +7,9 @@ use crate::masks;
 use crate::sought::sought;
 use bits::minus;
 use format::Format;
+use making::Aligned;
+use making::ask::rounds_at;
+use making::columns;
 use mask::Mask;
 use rounding::Direction;
 use word::Biased;
@@ -21,7 +21,8 @@ ghost use Prim.Native.Nat.{ℕ, _+_, _^_, _≤_, _<_};
 ghost use Rattle.mask.specs.Mask.{Meets};
 ghost use Rattle.format.specs.Limits.{mostDropped};
 ghost use Rattle.job.specs.Dropped.{ValidDropped};
-ghost use Rattle.outcome.specs.Outcome.{InFormat, Room, Formed, Making};
+ghost use Rattle.making.specs.Making.{Making, Room, Formed};
+ghost use Rattle.outcome.specs.Outcome.{InFormat};
 ghost use Rattle.outcome.specs.Question.{subnormalWord, Tells};
 
 // What is known of the numbers whose words meet c: one is made, or they have so many digits at least.

@@ -24,7 +24,7 @@ use Rattle.rounding.specs.Rounding.{direction, overflowWord}
 use Rattle.word.proofs.Bounds.{infinity-lt}
 use Rattle.rounding.proofs.Rounded.{overflow-le}
 use Rattle.word.proofs.Fields.{signed-sign}
-use Rattle.outcome.specs.declared.Aligned as pair
+use Rattle.making.specs.declared.Aligned as pair
 use Rattle.outcome.specs.declared.Target.{Target}
 use Rattle.rounding.specs.Outcome.{heldWord, boundedHeld, outcome}
 use Rattle.outcome.specs.Outcome.{Admits}

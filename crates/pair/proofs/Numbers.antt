@@ -41,7 +41,8 @@ use Rattle.columns.specs.Carry.{combined}
 use Rattle.rounding.specs.Outcome.{outcome}
 use Rattle.pair.specs.declared.Side.{Side}
 use Rattle.pair.specs.Pair.{FiniteSide, significandsOf, gapOf, reversedOf, bitsBelow, alignedOf, Larger, Sums}
-use Rattle.outcome.specs.Outcome.{rowCarry, DropsAs}
+use Rattle.making.specs.Making.{rowCarry}
+use Rattle.outcome.specs.Outcome.{DropsAs}
 use Rattle.adder.proofs.Aligned.{sum-exchanged, below-exchanged, tail-ordered, tail-below, sum-outcome}
 use Rattle.pair.proofs.Below.{guards-of, below-pos, below-more, below-room, drops-of, drops-back}
 use Rattle.pair.proofs.Rows.{number, rowFrom, reversed-parts, row-from-lt, made-row}

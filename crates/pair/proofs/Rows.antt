@@ -19,7 +19,7 @@ use Rattle.rounding.proofs.Align.{tail-none}
 use Rattle.adder.specs.Row.{finiteRow}
 use Rattle.adder.proofs.Aligned.{row-exchanged, row-lt, row-columns}
 use Rattle.columns.specs.Carry.{borrow, carryOf}
-use Rattle.outcome.specs.Outcome.{rowCarry}
+use Rattle.making.specs.Making.{rowCarry}
 use Rattle.pair.specs.declared.Side.{Side}
 use Rattle.pair.specs.Pair.{gapOf, reversedOf, alignedOf}
 

@@ -14,7 +14,7 @@ use Rattle.word.specs.Word.{unitOf, allOnes}
 use Rattle.significand.specs.Significand.{significandMask}
 use Rattle.significand.specs.Tail.{tailMask}
 use Rattle.job.specs.Guards.{guardsOf}
-use Rattle.outcome.specs.declared.Aligned as pair
+use Rattle.making.specs.declared.Aligned as pair
 use Rattle.outcome.specs.declared.Target.{Target}
 use Rattle.outcome.specs.Outcome.{Admits}
 use Rattle.pair.specs.declared.Side.{Side}

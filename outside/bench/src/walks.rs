@@ -35,7 +35,7 @@ pub const COUNTED: [Counted; 4] = [
     Counted {
         title: "Walks over columns",
         text: "How often a reply asks the columns.",
-        function: "outcome::ask::ask",
+        function: "making::ask::ask",
         figure: Figure::Calls,
     },
     Counted {
@@ -184,8 +184,8 @@ mod tests {
 
     #[test]
     fn calls_are_summed_by_callee() {
-        let profile = "fn=(1) main\ncfn=(2) outcome::ask::ask\ncalls=3 0\n0 9\ncfn=(4) other\n\
+        let profile = "fn=(1) main\ncfn=(2) making::ask::ask\ncalls=3 0\n0 9\ncfn=(4) other\n\
                        calls=8 0\n0 1\nfn=(3) twice\ncfn=(2)\ncalls=4 0\n0 90\n";
-        assert_eq!(calls(profile, "outcome::ask::ask"), [7, 99]);
+        assert_eq!(calls(profile, "making::ask::ask"), [7, 99]);
     }
 }

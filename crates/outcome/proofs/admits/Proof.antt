@@ -7,7 +7,7 @@ use Rattle.bits.proofs.Laws.{power-exact}
 use Rattle.format.specs.declared.Format.{Format}
 use Rattle.format.specs.Format.{Supported}
 use Rattle.format.proofs.Laws.{format-none}
-use Rattle.format.proofs.Room.{significand-room, exponent-room}
+use Rattle.format.proofs.Room.{exponent-room}
 use borrow.Author.Tests.{not-true, not-false}
 use borrow.Author.Needs.{needs}
 use Rattle.outcome.proofs.admits.Statement.{statement}
@@ -41,9 +41,7 @@ returns-4 : tie.Need-returns-4
 returns-4 c = ((λ t. absurd (false≢true t)), λ given formed valid. absurd (omega (arith, c .if4 .taken, valid .g-most)))
 
 roomy-requires : tie.Need-roomy-requires
-roomy-requires c κs =
-    let F = c .before .before .before .before .before .before .before .before .args .format in
-    omega (arith, significand-room F (format-none F .0 (sym (c .before .before .before .before .before .before .before .format-cause .ensures) ∙ c .before .before .before .before .before .before .if1 .left)))
+roomy-requires c κs = search needs
 
 returns-5 : tie.Need-returns-5
 returns-5 c = ((λ t. absurd (false≢true t)), λ given formed valid. absurd (false≢true (sym (not-true (c .before .roomy .result) (c .if5 .taken)) ∙ c .before .roomy .ensures .1 (formed .room))))

@@ -2,7 +2,8 @@
 use mathlib.Core.Bool.{false}
 use Prim.Native.Nat.{_+_}
 use native.Mathlib.Omega.{arith}
-use Rattle.outcome.proofs.Range.{aligned-lt, high-tested, refused-none, made-like, made-unlike}
+use Rattle.making.proofs.Made.{aligned-lt}
+use Rattle.outcome.proofs.Range.{high-tested, refused-none, made-like, made-unlike}
 use borrow.Author.Needs.{needs}
 use Rattle.outcome.proofs.fewest.Statement.{statement}
 use Rattle.outcome.proofs.fewest.Tie as tie

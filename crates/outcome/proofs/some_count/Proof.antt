@@ -7,11 +7,12 @@ use native.Mathlib.Omega.{arith}
 use lib.Ieee.{size}
 use Rattle.format.specs.declared.Format.{Format}
 use Rattle.word.specs.declared.Unit as exponent
-use Rattle.outcome.specs.declared.Aligned as pair
+use Rattle.making.specs.declared.Aligned as pair
+use Rattle.making.specs.Making.{Making}
 use Rattle.outcome.specs.declared.Target.{Target}
 use Rattle.outcome.specs.declared.subnormal.Known.{Known}
 use Rattle.outcome.specs.declared.subnormal.Known.the-variants.{AtLeast}
-use Rattle.outcome.specs.Outcome.{Serves, Making, Admits}
+use Rattle.outcome.specs.Outcome.{Serves, Admits}
 use Rattle.outcome.specs.Question.{Tells}
 use borrow.Author.Needs.{needs}
 use Rattle.outcome.proofs.some_count.Statement.{statement}

@@ -7,8 +7,10 @@ use native.Mathlib.Decide.{decLt}
 use native.Mathlib.Omega.{arith}
 use lib.Ieee.{size}
 use Rattle.job.specs.Dropped.{ValidDropped}
-use Rattle.outcome.specs.Outcome.{Formed, Serves, Making}
+use Rattle.making.specs.Making.{Formed, Making}
+use Rattle.outcome.specs.Outcome.{Serves}
 use Rattle.outcome.proofs.Range.{made-digits}
+use borrow.Author.Needs.{needs}
 use Rattle.outcome.proofs.some_from.Statement.{statement}
 use Rattle.outcome.proofs.some_from.Tie as tie
 
@@ -29,13 +31,13 @@ abbrev μ-loop : tie.MeasureT-loop
 μ-loop format mode sign unit aligned target first last count₀ count = last + 1 - count
 
 columns-requires : tie.Need-columns-requires Inv-loop μ-loop
-columns-requires c κs = c .pre .1 .columns
+columns-requires c κs = search needs
 
 loop-holds : tie.Need-loop-holds Inv-loop μ-loop
 loop-holds c = (omega arith, λ n l h formed valid m. absurd (omega arith))
 
 fits-requires : tie.Need-fits-requires Inv-loop μ-loop
-fits-requires c κs = (c .before .before .before .pre .0, c .before .before .before .pre .1, c .before .before .before .pre .2, omega (arith, c .loop-test .taken, c .before .before .columns .ensures))
+fits-requires c κs = (c .before .before .before .pre .0, c .before .before .before .pre .1, c .before .before .before .pre .2, omega (arith, c .loop-test .taken, c .before .before .columns .ensures (c .before .before .before .pre .1)))
 
 returns : tie.Need-returns Inv-loop μ-loop
 returns c =
@@ -45,7 +47,7 @@ returns c =
     )
 
 add-count : tie.Need-add-count Inv-loop μ-loop
-add-count c = omega (arith, c .before .before .loop-test .taken, c .before .before .before .before .columns .ensures, c .before .before .before .before .before .pre .1 .columns)
+add-count c = omega (arith, c .before .before .loop-test .taken, c .before .before .before .before .columns .ensures (c .before .before .before .before .before .pre .1), c .before .before .before .before .before .pre .1 .columns)
 
 loop-less : tie.Need-loop-less Inv-loop μ-loop
 loop-less c = omega (arith, c .before .before .loop-test .taken)
@@ -64,7 +66,7 @@ returns-2 c =
     let a = c .before .before .before .args in
     λ formed valid. (
       (λ t. absurd (false≢true t)),
-      λ p. absurd (c .before .loop .inv .1 (size (p .x)) (p .holds .0) (omega (arith, c .before .before .columns .ensures, made-digits (a .format .f) (a .aligned) (p .x) (p .made), c .loop-test .left)) formed valid
+      λ p. absurd (c .before .loop .inv .1 (size (p .x)) (p .holds .0) (omega (arith, c .before .before .columns .ensures (formed .room), made-digits (a .format .f) (a .aligned) (p .x) (p .made), c .loop-test .left)) formed valid
           (record { x = p .x; made = p .made; holds = (refl, p .holds .1) })),
     )
 

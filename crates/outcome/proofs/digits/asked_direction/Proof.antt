@@ -7,11 +7,10 @@ use native.Mathlib.Omega.{arith}
 use Rattle.word.specs.declared.Unit as exponent
 use Rattle.rounding.specs.declared.Direction.the-variants.{TowardZero}
 use Rattle.rounding.specs.Width.{sumBits}
-use Rattle.outcome.specs.declared.Aligned as pair
-use Rattle.outcome.specs.Outcome.{columnsOf}
-use Rattle.outcome.proofs.Range.{most-digits-bounds, aligned-lt}
-use Rattle.outcome.proofs.Exact.{exact-alike}
-use Rattle.outcome.proofs.Reversed.{reversed-zeros}
+use Rattle.making.specs.declared.Aligned as pair
+use Rattle.making.specs.Making.{columnsOf}
+use Rattle.making.proofs.Made.{most-digits-bounds, aligned-lt}
+use Rattle.outcome.proofs.Exact.{reversed-zeros, exact-alike}
 use borrow.Author.Needs.{needs}
 use Rattle.outcome.proofs.digits.asked_direction.Statement.{statement}
 use Rattle.outcome.proofs.digits.asked_direction.Tie as tie

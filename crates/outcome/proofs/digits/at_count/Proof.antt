@@ -7,10 +7,10 @@ use Rattle.mask.specs.Mask.{Meets}
 use Rattle.word.specs.Word.{signed}
 use Rattle.rounding.specs.Width.{sumBits}
 use Rattle.rounding.specs.Outcome.{boundedHeld}
-use Rattle.outcome.specs.declared.Aligned as pair
-use Rattle.outcome.specs.Outcome.{columnsOf}
+use Rattle.making.specs.declared.Aligned as pair
+use Rattle.making.specs.Making.{columnsOf}
+use Rattle.making.proofs.Made.{most-digits-bounds, aligned-lt}
 use Rattle.outcome.proofs.Room.{unit-short}
-use Rattle.outcome.proofs.Range.{most-digits-bounds, aligned-lt}
 use Rattle.outcome.proofs.Kept.{least-le}
 use Rattle.outcome.proofs.Exact.{never-alike}
 use Rattle.outcome.proofs.Counted.{first-quotient, second-quotient, only-quotient}
@@ -55,11 +55,11 @@ returns-2 c =
     let s = c .before .before .before .before .before .before in
     let a = s .args in
     let q = c .before .before .before .before .before .least-quotient in
-    let way = c .before .before .before .before .asked-direction in
+    let asked = c .before .before .before .before .asked-direction in
     let m = c .before .may-carry in
     λ formed. only-quotient (a .format .f) (a .direction) (a .unit) (q .result) (a .aligned) (a .count) (a .x) (s .pre .4) (λ (n : ℕ). Meets (signed (a .format) (a .sign) (boundedHeld (a .aligned .below) (a .format) (a .direction) n (a .unit))) (a .c))
     (s .pre .2) (most (a .format .f) (a .aligned) (a .count) (s .pre .3)) (q .ensures) (c .before .before .before .at-quotient .result) (c .before .before .before .at-quotient .ensures formed) (c .before .before .if1 .left)
-    (never-alike (a .format .f) (way .result) (a .direction) (a .unit) (a .aligned) (a .count) (way .ensures .0 formed) (m .ensures (not-true (m .result) (c .if2 .taken)) formed (a .unit)))
+    (never-alike (a .format .f) (asked .result) (a .direction) (a .unit) (a .aligned) (a .count) (asked .ensures .0 formed) (m .ensures (not-true (m .result) (c .if2 .taken)) formed (a .unit)))
 
 add-next : tie.Need-add-next
 add-next c =
@@ -72,8 +72,8 @@ at-quotient-requires-2 c κs =
     let s = c .before .before .before .before .before .before in
     let a = s .args in
     let q = c .before .before .before .before .before .least-quotient in
-    let way = c .before .before .before .before .asked-direction in
-    (s .pre .0, s .pre .1, s .pre .2, s .pre .3, omega (arith, least-le (a .aligned .below) (a .format .f) (a .count) (a .unit), q .ensures), way .ensures .0, way .ensures .1, s .pre .4)
+    let asked = c .before .before .before .before .asked-direction in
+    (s .pre .0, s .pre .1, s .pre .2, s .pre .3, omega (arith, least-le (a .aligned .below) (a .format .f) (a .count) (a .unit), q .ensures), asked .ensures .0, asked .ensures .1, s .pre .4)
 
 returns-3 : tie.Need-returns-3
 returns-3 c =

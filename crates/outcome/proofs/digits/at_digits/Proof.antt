@@ -3,7 +3,7 @@
 use mathlib.Core.Path.{_≡_, refl, sym, _∙_, subst}
 use mathlib.Core.Bool.{false≢true}
 use mathlib.Core.Logic.{_↔_}
-use Prim.Native.Nat.{ℕ, _+_, _-_, _≤_, _<_}
+use Prim.Native.Nat.{ℕ, _+_, _-_, _<_}
 use native.Mathlib.Decide.{decLt}
 use native.Mathlib.Omega.{arith}
 use Rattle.format.specs.declared.Format.{Format}
@@ -15,13 +15,13 @@ use Rattle.word.specs.Word.{signed}
 use Rattle.rounding.specs.declared.Direction.{Direction}
 use Rattle.rounding.specs.Rounding.{direction}
 use Rattle.rounding.specs.Outcome.{boundedHeld}
-use Rattle.outcome.specs.declared.Aligned as pair
+use Rattle.making.specs.declared.Aligned as pair
+use Rattle.making.specs.Making.{Formed, Made, Making, columnsOf}
+use Rattle.making.proofs.Made.{made-lt}
 use Rattle.outcome.specs.declared.Target.{Target}
-use Rattle.outcome.specs.Outcome.{Formed, Made, Making, columnsOf}
-use Rattle.outcome.specs.Choices.{choicesOf, OfWay}
-use Rattle.outcome.proofs.Choices.{choices-ways}
+use Rattle.outcome.specs.Ways.{OfWay}
+use Rattle.outcome.proofs.Ways.{ways-at-of}
 use Rattle.outcome.proofs.Counted.{InOne, in-one-serves, serves-in-one}
-use Rattle.outcome.proofs.Range.{made-lt}
 use Rattle.outcome.proofs.Room.{unit-short}
 use borrow.Author.Needs.{needs}
 use Rattle.outcome.proofs.digits.at_digits.Statement.{statement}
@@ -54,8 +54,8 @@ abbrev μ-loop : tie.MeasureT-loop
 direction-requires : tie.Need-direction-requires Inv-loop μ-loop
 direction-requires c κs = search needs
 
-choices-requires : tie.Need-choices-requires Inv-loop μ-loop
-choices-requires c κs =
+ways-at-requires : tie.Need-ways-at-requires Inv-loop μ-loop
+ways-at-requires c κs =
     let s = c .before in
     let a = s .args in
     (s .pre .1, s .pre .2, unit-short (a .format) (a .sign) (a .unit) (s .pre .0), omega (arith, s .pre .4, s .pre .1 .columns))
@@ -70,7 +70,7 @@ numbers-requires c κs =
       s .pre .1,
       s .pre .2,
       s .pre .4,
-      λ fixed. choices-ways (a .format) (a .aligned .below) (a .unit) (a .target .dropped) (a .count) (c .before .loop .way) fixed (rw (← c .before .before .choices .ensures) (c .loop-test .taken)),
+      λ fixed. ways-at-of (a .format) (a .aligned .below) (a .unit) (a .target .dropped) (a .count) (c .before .loop .way) fixed (rw (← c .before .before .ways-at .ensures) (c .loop-test .taken)),
     )
 
 at-count-requires : tie.Need-at-count-requires Inv-loop μ-loop
@@ -89,7 +89,7 @@ returns c =
           record {
             x = m .x;
             made = m .made;
-            holds = in-one-serves (a .format) (a .mode) (a .sign) (a .unit) (a .aligned) (a .target) valid (a .count) (s .pre .3) (d .result) (d .ensures) (c .before .before .before .before .loop .way) (m .x) (rw (← c .before .before .before .before .before .choices .ensures) (c .before .before .before .loop-test .taken)) p;
+            holds = in-one-serves (a .format) (a .mode) (a .sign) (a .unit) (a .aligned) (a .target) valid (a .count) (s .pre .3) (d .result) (d .ensures) (c .before .before .before .before .loop .way) (m .x) (rw (← c .before .before .before .before .before .ways-at .ensures) (c .before .before .before .loop-test .taken)) p;
           }),
       λ m. refl,
     )
@@ -120,8 +120,8 @@ returns-2 c =
       (λ t. absurd (false≢true t)),
       λ m.
           let w = serves-in-one (a .format) (a .mode) (a .sign) (a .unit) (a .aligned) (a .target) valid (a .count) (s .pre .3) (d .result) (d .ensures) (m .x) (m .holds) in
-          absurd (c .before .loop .inv (w .0) (omega (arith, w .1, c .before .before .choices .ensures, c .loop-test .left)) formed valid (s .pre .3) (d .ensures) (record { x = m .x; made = m .made; holds = w .2 })),
+          absurd (c .before .loop .inv (w .0) (omega (arith, w .1, c .before .before .ways-at .ensures, c .loop-test .left)) formed valid (s .pre .3) (d .ensures) (record { x = m .x; made = m .made; holds = w .2 })),
     )
 
 pub at-digits-spec : {M : Type 1} → statement M
-at-digits-spec = tie.close (tie.spec Inv-loop μ-loop direction-requires choices-requires loop-holds numbers-requires at-count-requires returns add-way loop-less loop-again returns-2)
+at-digits-spec = tie.close (tie.spec Inv-loop μ-loop direction-requires ways-at-requires loop-holds numbers-requires at-count-requires returns add-way loop-less loop-again returns-2)

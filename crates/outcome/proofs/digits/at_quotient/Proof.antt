@@ -9,9 +9,9 @@ use Rattle.word.specs.declared.Biased.{Biased}
 use Rattle.word.specs.declared.Unit as exponent
 use Rattle.word.specs.Word.{fieldOf}
 use Rattle.rounding.specs.Outcome.{roundedUnit}
+use Rattle.making.proofs.Made.{most-digits-bounds, aligned-lt}
 use Rattle.outcome.specs.Outcome.{InFormat}
 use Rattle.outcome.proofs.Room.{unit-short}
-use Rattle.outcome.proofs.Range.{most-digits-bounds, aligned-lt}
 use Rattle.outcome.proofs.Exact.{alike-asked}
 use Rattle.outcome.proofs.Counted.{quotient-asked}
 use borrow.Author.Needs.{needs}
@@ -54,7 +54,7 @@ returns c =
     let k = c .before .before .before .rounded-unit in
     λ formed. quotient-asked (a .format) (a .direction) (a .sign) (a .unit) (a .aligned) (a .c) (a .count) (a .quotient) (a .x) (s .pre .7) (e .result) (so .result) (c .rounds-to .result)
     (field (a .format) (a .sign) (a .unit) (s .pre .0) (a .aligned .below) (a .count) (a .quotient) (omega (arith, s .pre .3, s .pre .1 .columns)) (s .pre .4) (k .result) (e .result) (k .ensures) (e .ensures)) (so .ensures)
-    (alike-asked (a .format .f) (a .way) (a .direction) (a .unit) (a .aligned) (a .count) (s .pre .5 formed) (a .x) (s .pre .7)
+    (alike-asked (a .format .f) (a .asked) (a .direction) (a .unit) (a .aligned) (a .count) (s .pre .5 formed) (a .x) (s .pre .7)
     (a .quotient) (so .result .possible) (so .result .fraction) (c .rounds-to .result) (c .rounds-to .ensures formed))
 
 pub at-quotient-spec : {M : Type 1} → statement M

@@ -5,7 +5,7 @@ use borrow.Author.Tests.{not-false, eqb-true}
 use lib.Dec.{eqb}
 use Rattle.outcome.proofs.Carried.{never-toward-zero, never-longest}
 use native.Mathlib.Omega.{arith}
-use Rattle.outcome.proofs.Range.{most-digits-bounds}
+use Rattle.making.proofs.Made.{most-digits-bounds}
 use borrow.Author.Needs.{needs}
 use Rattle.outcome.proofs.digits.may_carry.Statement.{statement}
 use Rattle.outcome.proofs.digits.may_carry.Tie as tie
@@ -14,7 +14,7 @@ enum-told : tie.Need-enum-told
 enum-told c = search needs
 
 columns-requires : tie.Need-columns-requires
-columns-requires c κs = c .before .pre .0 .columns
+columns-requires c κs = search needs
 
 returns : tie.Need-returns
 returns c =
@@ -29,7 +29,7 @@ returns-2 c =
     let a = s .args in
     let m = c .columns in
     λ r formed unit. never-longest (a .f) (a .direction) unit (a .aligned) (a .count) (s .pre .1)
-    (eqb-true (a .count) (m .result) (not-false (eqb (a .count) (m .result)) r) ∙ m .ensures) formed
+    (eqb-true (a .count) (m .result) (not-false (eqb (a .count) (m .result)) r) ∙ m .ensures (formed .room)) formed
 
 pub may-carry-spec : {M : Type 1} → statement M
 may-carry-spec = tie.close (tie.spec enum-told columns-requires returns returns-2)

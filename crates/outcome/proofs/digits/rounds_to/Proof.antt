@@ -10,11 +10,12 @@ use lib.Pow.{pow-add}
 use Rattle.mask.specs.declared.Mask.{Mask}
 use Rattle.word.specs.declared.Unit as exponent
 use Rattle.rounding.specs.Width.{alignedBits}
-use Rattle.outcome.specs.Outcome.{columnsOf}
+use Rattle.making.specs.Making.{columnsOf}
+use Rattle.making.proofs.Made.{most-digits-bounds, aligned-lt, made-lt}
 use Rattle.outcome.specs.Question.{topped}
 use Rattle.outcome.proofs.Counted.{counted-asked}
 use Rattle.outcome.proofs.Carried.{digits-room}
-use Rattle.outcome.proofs.Range.{most-digits-bounds, aligned-lt, made-lt}
+use borrow.Author.Needs.{needs}
 use Rattle.outcome.proofs.digits.rounds_to.Statement.{statement}
 use Rattle.outcome.proofs.digits.rounds_to.Tie as tie
 
@@ -48,24 +49,7 @@ topped-requires c κs =
     (omega (arith, aligned-lt (s .args .f) (s .args .aligned) (s .pre .0), s .pre .0 .some), s .pre .4, s .pre .5, s .pre .6)
 
 rounds-at-requires : tie.Need-rounds-at-requires
-rounds-at-requires c κs =
-    let s = c .before .before .before .before in
-    let a = s .args in
-    let k = c .before .rounded-unit in
-    let ek = ap (λ (n : exponent.Unit). n .0) (k .ensures) in
-    let b = most-digits-bounds (a .aligned .below) (a .f) (a .aligned .like) in
-    let m = short (a .f) (a .quotient) (a .fractions .fraction) (c .topped .result) (s .pre .4) (s .pre .5) (s .pre .6) (c .topped .ensures) in (
-      s .pre .0,
-      s .pre .1,
-      omega (arith, ek, s .pre .3, b .1),
-      m .0,
-      m .1,
-      s .pre .7,
-      place (a .aligned .below) (a .f) (a .count) (a .unit .0) (k .result .0) (columnsOf (a .f) (a .aligned)) ek (s .pre .3) (b .0),
-      λ formed n made met.
-          subst (λ (e : exponent.Unit). n + 2 ^ (e .0 + a .aligned .below - a .unit .0) ≤ 2 ^ columnsOf (a .f) (a .aligned)) (sym (k .ensures))
-          (digits-room (a .f) (a .aligned) formed n made (a .unit) (a .count) (s .pre .8 n (made-lt (a .f) (a .aligned) n made) met) (s .pre .3)),
-    )
+rounds-at-requires c κs = search needs
 
 returns-2 : tie.Need-returns-2
 returns-2 c =
@@ -73,11 +57,20 @@ returns-2 c =
     let a = s .args in
     let k = c .before .before .rounded-unit in
     let m = c .before .topped in
+    let b = most-digits-bounds (a .aligned .below) (a .f) (a .aligned .like) in
+    let shorter = short (a .f) (a .quotient) (a .fractions .fraction) (m .result) (s .pre .4) (s .pre .5) (s .pre .6) (m .ensures) in
     λ formed. counted-asked (a .f) (a .direction) (a .unit) (a .quotient) (a .fractions .fraction) (s .pre .5) (s .pre .6)
     (a .aligned) (a .count) (a .x) (s .pre .8) (a .fractions .possible) (k .result) (m .result) (c .rounds-at .result) (s .pre .2)
-    (omega (arith, s .pre .3, most-digits-bounds (a .aligned .below) (a .f) (a .aligned .like) .1))
-    (not-false (a .fractions .possible) (c .before .before .before .if1 .left)) (k .ensures) (m .ensures)
-    (c .rounds-at .ensures formed)
+    (omega (arith, s .pre .3, b .1)) (not-false (a .fractions .possible) (c .before .before .before .if1 .left)) (k .ensures) (m .ensures)
+    (c .rounds-at .ensures formed (record {
+      columns = place (a .aligned .below) (a .f) (a .count) (a .unit .0) (k .result .0) (columnsOf (a .f) (a .aligned)) (ap (λ (n : exponent.Unit). n .0) (k .ensures)) (s .pre .3) (b .0);
+      care-lt = shorter .0;
+      value-lt = shorter .1;
+      leaves = λ n made met.
+          subst (λ (e : exponent.Unit). n + 2 ^ (e .0 + a .aligned .below - a .unit .0) ≤ 2 ^ columnsOf (a .f) (a .aligned)) (sym (k .ensures))
+          (digits-room (a .f) (a .aligned) formed n made (a .unit) (a .count) (s .pre .8 n (made-lt (a .f) (a .aligned) n made) met) (s .pre .3));
+      toward-zero = s .pre .7;
+    }))
 
 pub rounds-to-spec : {M : Type 1} → statement M
 rounds-to-spec =

@@ -5,7 +5,7 @@ use native.Mathlib.Nat.{mul-one, mul-zero, one-mul}
 use native.Mathlib.Omega.{arith}
 use lib.Pow.{pow-pos}
 use Rattle.bits.proofs.Laws.{one-shl}
-use Rattle.outcome.proofs.Choices.{ways-some, lower-near, lower-some, lower-zeros}
+use Rattle.outcome.proofs.Ways.{ways-some, lower-near, lower-some, lower-zeros}
 use borrow.Author.Needs.{needs}
 use Rattle.outcome.proofs.dropped.lower.Statement.{statement}
 use Rattle.outcome.proofs.dropped.lower.Tie as tie

@@ -2,29 +2,29 @@
 use mathlib.Core.Path.{_≡_, sym, ap, _∙_, subst}
 use Prim.Native.Nat.{ℕ, _+_, _-_}
 use native.Mathlib.Omega.{arith}
-use Rattle.mask.specs.declared.Mask.{Mask}
 use Rattle.mask.specs.Mask.{Meets}
-use Rattle.outcome.specs.Outcome.{columnsOf}
+use Rattle.making.specs.Making.{columnsOf}
+use Rattle.making.proofs.Made.{aligned-lt}
 use Rattle.outcome.specs.Question.{OfDigits}
-use Rattle.outcome.specs.Choices.{upperOf, lowerOf, waysOf}
-use Rattle.outcome.proofs.Choices.{free-in-way}
-use Rattle.outcome.proofs.Range.{aligned-lt}
+use Rattle.outcome.specs.Ways.{upperOf, lowerOf}
+use Rattle.outcome.proofs.Ways.{free-in-way}
 use borrow.Author.Needs.{needs}
 use Rattle.outcome.proofs.dropped.numbers.Statement.{statement}
 use Rattle.outcome.proofs.dropped.numbers.Tie as tie
 
 columns-requires : tie.Need-columns-requires
-columns-requires c κs = c .pre .0 .columns
+columns-requires c κs = search needs
 
 digits-requires : tie.Need-digits-requires
-digits-requires c κs = rw (c .columns .ensures) (c .before .pre .0 .columns, c .before .pre .2)
+digits-requires c κs = rw (c .columns .ensures (c .before .pre .0)) (c .before .pre .0 .columns, c .before .pre .2)
 
 returns : tie.Need-returns
 returns c =
-    let a = c .before .before .before .before .args in
+    let s = c .before .before .before .before in
+    let a = s .args in
     let n = c .before .before .before .columns in
     let x = c .before .before .digits in
-    let of : OfDigits (columnsOf (a .f) (a .aligned)) (a .count) (x .result) = subst (λ (m : ℕ). OfDigits m (a .count) (x .result)) (n .ensures) (x .ensures) in (
+    let of : OfDigits (columnsOf (a .f) (a .aligned)) (a .count) (x .result) = subst (λ (m : ℕ). OfDigits m (a .count) (x .result)) (n .ensures (s .pre .0)) (x .ensures) in (
       λ k lt met. of k lt .0 met,
       λ valid k lt. ((λ met. (of k lt .0 met, free-in-way (a .dropped) valid (c .if1 .taken) (a .count - (a .f + 1)) (a .way) k)), λ p. of k lt .1 (p .0)),
     )
@@ -49,13 +49,14 @@ both-requires-2 c κs = search needs
 
 returns-2 : tie.Need-returns-2
 returns-2 c =
-    let a = c .before .before .before .before .before .before .before .before .before .args in
+    let s = c .before .before .before .before .before .before .before .before .before in
+    let a = s .args in
     let n = c .before .before .before .before .before .before .before .before .columns in
     let x = c .before .before .before .before .before .before .before .digits in
     let j = c .before .before .before .before .minus in
     let inner = c .before .both in
     let outer = c .both2 in
-    let of : OfDigits (columnsOf (a .f) (a .aligned)) (a .count) (x .result) = subst (λ (m : ℕ). OfDigits m (a .count) (x .result)) (n .ensures) (x .ensures) in (
+    let of : OfDigits (columnsOf (a .f) (a .aligned)) (a .count) (x .result) = subst (λ (m : ℕ). OfDigits m (a .count) (x .result)) (n .ensures (s .pre .0)) (x .ensures) in (
       λ k lt met. of k lt .0 (outer .ensures k .0 met .0),
       λ valid k lt.
           let g = of k lt in

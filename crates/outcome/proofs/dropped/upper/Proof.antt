@@ -5,7 +5,7 @@ use native.Mathlib.Omega.{arith}
 use Rattle.mask.specs.Mask.{raised}
 use Rattle.mask.proofs.ByBits.{value-below}
 use Rattle.mask.proofs.ByParts.{high-formed}
-use Rattle.outcome.proofs.Choices.{upper-near, upper-far}
+use Rattle.outcome.proofs.Ways.{upper-near, upper-far}
 use borrow.Author.Needs.{needs}
 use Rattle.outcome.proofs.dropped.upper.Statement.{statement}
 use Rattle.outcome.proofs.dropped.upper.Tie as tie
@@ -32,7 +32,7 @@ sub-raised : tie.Need-sub-raised
 sub-raised c = omega (arith, c .before .before .if1 .left)
 
 raised-requires : tie.Need-raised-requires
-raised-requires c κs = omega (arith, c .before .before .before .before .pre .1)
+raised-requires c κs = search needs
 
 returns-2 : tie.Need-returns-2
 returns-2 c =

@@ -1,7 +1,7 @@
 -- `outcome::dropped::ways` meets its contract: the tests are those of `waysOf`. Assumes nothing.
 use mathlib.Core.Path.{sym, _∙_}
 use native.Mathlib.Omega.{arith}
-use Rattle.outcome.proofs.Choices.{ways-near, ways-none, ways-some, ways-one}
+use Rattle.outcome.proofs.Ways.{ways-near, ways-none, ways-some, ways-one}
 use borrow.Author.Needs.{needs}
 use Rattle.outcome.proofs.dropped.ways.Statement.{statement}
 use Rattle.outcome.proofs.dropped.ways.Tie as tie

@@ -4,7 +4,7 @@ use Prim.Native.Nat.{_-_, _*_, _%_, _^_}
 use borrow.Author.Tests.{eqb-true}
 use lib.Pow.{pow-pos}
 use Rattle.bits.proofs.Laws.{one-shl}
-use Rattle.outcome.proofs.Exact.{zeros-meets-low}
+use Rattle.making.proofs.Zeros.{zeros-meets-low}
 use borrow.Author.Needs.{needs}
 use Rattle.outcome.proofs.masks.zeros.Statement.{statement}
 use Rattle.outcome.proofs.masks.zeros.Tie as tie

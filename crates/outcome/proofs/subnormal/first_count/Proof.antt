@@ -6,11 +6,12 @@ use native.Mathlib.Omega.{arith}
 use lib.Ieee.{size}
 use Rattle.format.specs.declared.Format.{Format}
 use Rattle.word.specs.declared.Unit as exponent
-use Rattle.outcome.specs.declared.Aligned as pair
+use Rattle.making.specs.declared.Aligned as pair
+use Rattle.making.specs.Making.{Made}
 use Rattle.outcome.specs.declared.Target.{Target}
 use Rattle.outcome.specs.declared.subnormal.Known.{Known}
 use Rattle.outcome.specs.declared.subnormal.Known.the-variants.{Found, AtLeast}
-use Rattle.outcome.specs.Outcome.{Made, Serves}
+use Rattle.outcome.specs.Outcome.{Serves}
 use Rattle.outcome.specs.Question.{Tells}
 use Rattle.outcome.proofs.subnormal.first_count.Statement.{statement}
 use Rattle.outcome.proofs.subnormal.first_count.Tie as tie

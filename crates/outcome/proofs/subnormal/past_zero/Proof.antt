@@ -4,7 +4,7 @@ use Prim.Native.Nat.{ℕ, _+_, _-_, _%_, _^_}
 use native.Mathlib.Omega.{arith}
 use borrow.Author.Tests.{not-true, not-false}
 use Rattle.mask.specs.declared.Mask.{Mask}
-use Rattle.outcome.proofs.Range.{aligned-lt}
+use Rattle.making.proofs.Made.{aligned-lt}
 use Rattle.outcome.proofs.BelowNormal.{none-subnormal, found-like, found-fraction, fixed-normal}
 use borrow.Author.Needs.{needs}
 use Rattle.outcome.proofs.subnormal.past_zero.Statement.{statement}

@@ -6,11 +6,11 @@ use native.Mathlib.Omega.{arith}
 use borrow.Author.Tests.{not-true, not-false}
 use lib.Pow.{pow-add, pow-mono}
 use Rattle.rounding.specs.Width.{alignedBits}
-use Rattle.outcome.specs.Outcome.{columnsOf}
-use Rattle.outcome.specs.Question.{Below}
-use Rattle.outcome.proofs.Room.{unit-short}
-use Rattle.outcome.proofs.Range.{most-digits-bounds, made-lt}
+use Rattle.making.specs.Making.{columnsOf}
+use Rattle.making.proofs.Made.{most-digits-bounds, made-lt}
+use Rattle.outcome.specs.Question.{UnderPower}
 use Rattle.outcome.proofs.BelowNormal.{subnormal-asked, subnormal-refused}
+use borrow.Author.Needs.{needs}
 use Rattle.outcome.proofs.subnormal.subnormal.Statement.{statement}
 use Rattle.outcome.proofs.subnormal.subnormal.Tie as tie
 
@@ -34,42 +34,37 @@ returns c =
     (not-true (so .result .possible) (c .if1 .taken))
 
 columns-requires : tie.Need-columns-requires
-columns-requires c κs = c .before .before .before .pre .1 .columns
+columns-requires c κs = search needs
 
 below-requires : tie.Need-below-requires
 below-requires c κs =
     let s = c .before .before .before .before in
     let a = s .args in
-    (rw (c .columns .ensures) (s .pre .1 .columns), omega (arith, c .columns .ensures, s .pre .2, most-digits-bounds (a .aligned .below) (a .format .f) (a .aligned .like) .0))
+    (rw (c .columns .ensures (s .pre .1)) (s .pre .1 .columns), omega (arith, c .columns .ensures (s .pre .1), s .pre .2, most-digits-bounds (a .aligned .below) (a .format .f) (a .aligned .like) .0))
 
 rounds-at-requires : tie.Need-rounds-at-requires
-rounds-at-requires c κs =
-    let s = c .before .before .before .before .before in
-    let a = s .args in
-    let so = c .before .before .before .before .sought .ensures in
-    let b = most-digits-bounds (a .aligned .below) (a .format .f) (a .aligned .like) in
-    let wide = pow-mono {i = a .format .f} {j = 2 + a .format .f} (omega arith) in
-    let x = c .below in (
-      s .pre .1,
-      unit-short (a .format) (a .sign) (a .unit) (s .pre .0),
-      omega arith,
-      lt-of-lt-of-le (so .care-lt) wide,
-      lt-of-lt-of-le (so .value-lt) wide,
-      λ r. refl,
-      omega (arith, b .0),
-      λ formed n made met.
-          low-room (a .aligned .below) (a .format .f) (a .unit .0) (a .small) (columnsOf (a .format .f) (a .aligned)) n (s .pre .2) (b .0)
-          (subst (λ (k : ℕ). Below k (a .small) (x .result)) (c .before .columns .ensures) (x .ensures) n (made-lt (a .format .f) (a .aligned) n made) .0 met),
-    )
+rounds-at-requires c κs = search needs
 
 returns-2 : tie.Need-returns-2
 returns-2 c =
     let s = c .before .before .before .before .before .before in
     let a = s .args in
     let so = c .before .before .before .before .before .sought in
+    let b = most-digits-bounds (a .aligned .below) (a .format .f) (a .aligned .like) in
+    let wide = pow-mono {i = a .format .f} {j = 2 + a .format .f} (omega arith) in
     let x = c .before .below in
+    let few : UnderPower (columnsOf (a .format .f) (a .aligned)) (a .small) (x .result) = subst (λ (k : ℕ). UnderPower k (a .small) (x .result)) (c .before .before .columns .ensures (s .pre .1)) (x .ensures) in
     λ formed. subnormal-asked (a .aligned .below) (a .format) (s .pre .0 .supported) (a .sign) (a .unit) (a .small) (s .pre .2) (a .c) (so .result) (so .ensures) (a .aligned)
-    (x .result) (c .rounds-at .result) (not-false (so .result .possible) (c .before .before .before .if1 .left)) (subst (λ (k : ℕ). Below k (a .small) (x .result)) (c .before .before .columns .ensures) (x .ensures)) (c .rounds-at .ensures formed)
+    (x .result) (c .rounds-at .result) (not-false (so .result .possible) (c .before .before .before .if1 .left)) few
+    (c .rounds-at .ensures formed (record {
+      columns = omega (arith, b .0);
+      care-lt = lt-of-lt-of-le (so .ensures .care-lt) wide;
+      value-lt = lt-of-lt-of-le (so .ensures .value-lt) wide;
+      leaves = λ n made met.
+          low-room (a .aligned .below) (a .format .f) (a .unit .0) (a .small) (columnsOf (a .format .f) (a .aligned)) n (s .pre .2) (b .0)
+          (few n (made-lt (a .format .f) (a .aligned) n made) .0 met);
+      toward-zero = λ r. refl;
+    }))
 
 pub subnormal-spec : {M : Type 1} → statement M
 subnormal-spec = tie.close (tie.spec sought-requires returns columns-requires below-requires rounds-at-requires returns-2)

@@ -20,9 +20,10 @@ use Rattle.job.specs.declared.Dropped.{Dropped}
 use Rattle.job.specs.Dropped.{ValidDropped}
 use Rattle.job.specs.Guards.{guardsOf}
 use Rattle.job.proofs.GuardLaws.{guards-pos, guards-most}
-use Rattle.outcome.specs.declared.Aligned as pair
+use Rattle.making.specs.declared.Aligned as pair
 use Rattle.outcome.specs.declared.Target.{Target}
-use Rattle.outcome.specs.Outcome.{Bounded, ZerosBelow, Admits, InFormat, mostDigits, Formed}
+use Rattle.making.specs.Making.{Bounded, ZerosBelow, mostDigits, Formed}
+use Rattle.outcome.specs.Outcome.{Admits, InFormat}
 use Rattle.pair.specs.declared.Side.{Side}
 use Rattle.pair.specs.Pair.{FiniteSide, significandsOf, gapOf, reversedOf, bitsBelow, alignedOf, targetOf}
 use Rattle.pair.proofs.Below.{below-pos, below-room}

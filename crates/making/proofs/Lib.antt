@@ -1,0 +1,7 @@
+pub mod Made
+pub mod Zeros
+pub mod Rounds
+pub mod Making
+pub mod Last
+pub mod Asked
+pub mod Reversed
