@@ -19,11 +19,11 @@
  *
  * The bits below the last: an exact result of finite operands, at least the smallest normal number
  * in magnitude, is a leading 1, f fraction bits, g dropped bits (0 to 8) and a sticky bit, which is
- * 1 where something nonzero lies further down. Their mask has g + 1 bits, bit 0 for the sticky bit
- * and bit g for the first dropped bit; other results meet it only where it fixes nothing. Map bit 6
- * of a job record announces, after the random words, one byte g, then care and value of 2 bytes
- * each, low byte first. Where care is 0 the field is refused: with 17 for a g above 8 or a value
- * that is not 0, else with 10.
+ * 1 where something nonzero lies further down; one that overflows is written so too. Their mask has
+ * g + 1 bits, bit 0 for the sticky bit and bit g for the first dropped bit; other results meet it
+ * only where it fixes nothing. Map bit 6 of a job record announces, after the random words, one byte
+ * g, then care and value of 2 bytes each, low byte first. Where care is 0 the field is refused: with
+ * 17 for a g above 8 or a value that is not 0, else with 10.
  */
 #ifndef VINDACSOR_H
 #define VINDACSOR_H
@@ -35,8 +35,8 @@
 extern "C" {
 #endif
 
-/* The refusals. The masks are tested in the order 5, 14, 15, 16, 17, after 4, or in whole numbers
- * after 12, and before 6. */
+/* The refusals. The masks are tested in the order 5, 14, 15, 16, 17, after 4 and before 6; those of
+ * whole numbers, which have no 17, after 12 and before 6. */
 enum {
     VINDACSOR_EXPONENT_BITS = 1, /* w below 2 or above 11 */
     VINDACSOR_FRACTION_BITS = 2, /* f below 2 or above 52 */

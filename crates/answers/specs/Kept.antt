@@ -9,7 +9,7 @@ use lib.Bits.{bitAnd}
 use lib.Dec.{ltb}
 use lib.ListN.{length, getD}
 use Rattle.bits.specs.Bit.{bit}
-use Rattle.mask.specs.Mask.{Meets}
+use Rattle.mask.specs.Mask.{Meets, freeMask}
 use Rattle.job.specs.declared.Job.{Job}
 use Rattle.job.specs.Guards.{reach}
 use Rattle.word.specs.declared.Biased.{Biased}
@@ -18,7 +18,7 @@ use Rattle.word.specs.Word.{allOnes}
 use Rattle.word.specs.Masks.{exponentMask}
 use Rattle.special.specs.Asked.{PairFits}
 use Rattle.classes.specs.declared.Class.{Class}
-use Rattle.classes.specs.Class.{farGap, topField, fieldAt, mostField, leastField, onlyField, anyField, ClassAdmits, ClassIn, Normal, Classed}
+use Rattle.classes.specs.Class.{farGap, topField, fieldAt, mostField, leastField, onlyField, ClassAdmits, ClassIn, Normal, Classed}
 
 -- ---- the table
 
@@ -52,7 +52,7 @@ Refuses j k word = (i : Biased) → (bitAnd word (bitOf (reach j) (i .0)) ≡ 0 
 
 -- the class k admits nothing, whatever c's exponent field
 abbrev pub Closed : Job → Class → Type 0
-Closed j k = ClassAdmits j k anyField → ⊥
+Closed j k = ClassAdmits j k freeMask → ⊥
 
 -- the place of an order's closed classes, and the bit of a class there: the bits go up with b's exponent field
 abbrev pub closedPlace : ℕ → ℕ → ℕ

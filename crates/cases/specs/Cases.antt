@@ -8,6 +8,7 @@ use Prim.Native.Nat.{ℕ, _^_, _<_}
 use Rattle.format.specs.declared.Format.{Format}
 use Rattle.format.specs.Format.{wordBits}
 use Rattle.mask.specs.declared.Mask.{Mask}
+use Rattle.mask.specs.Mask.{freeMask}
 use Rattle.job.specs.declared.Job.{Job}
 use Rattle.job.specs.Dropped.{withDropped}
 use Rattle.job.specs.Job.{jobCause}
@@ -86,24 +87,21 @@ adding mode a b c carries = maskedJob (record { format = eight; operation = 0; m
 abbrev pub masked : ℕ → Mask → Job
 masked mode carries = adding mode (record { care = 0xF7; value = 0x45 }) (record { care = 0xEF; value = 0x2B }) (record { care = 0xE6; value = 0x44 }) carries
 
-abbrev pub nothingFixed : Mask
-nothingFixed = record { care = 0; value = 0 }
-
 -- 1. Add, mode 0: exactly (45, 2B, 4C) row 04 and (4D, 3B, 55) row 1D fit.
 abbrev pub case1 : List Claim
 case1 =
-    exactly (masked 0 nothingFixed) ((0x45, 0x2B, 0x4C) ∷ (0x4D, 0x3B, 0x55) ∷ []) ∷ add 0 0x45 0x2B 0x4C (row 0x04)
+    exactly (masked 0 freeMask) ((0x45, 0x2B, 0x4C) ∷ (0x4D, 0x3B, 0x55) ∷ []) ∷ add 0 0x45 0x2B 0x4C (row 0x04)
     ∷ add 0 0x4D 0x3B 0x55 (row 0x1D) ∷ []
 
 -- 2. Words 0, 0 give the first; 4D, 0 the second.
 abbrev pub case2 : List Claim
 case2 =
-    found (masked 0 nothingFixed) 0x00 0x00 0x45 0x2B 0x4C 0x04
-    ∷ found (masked 0 nothingFixed) 0x4D 0x00 0x4D 0x3B 0x55 0x1D ∷ []
+    found (masked 0 freeMask) 0x00 0x00 0x45 0x2B 0x4C 0x04
+    ∷ found (masked 0 freeMask) 0x4D 0x00 0x4D 0x3B 0x55 0x1D ∷ []
 
 -- 3. Mode 3: only the second. Mode 2: only the first.
 abbrev pub case3 : List Claim
-case3 = exactly (masked 3 nothingFixed) ((0x4D, 0x3B, 0x55) ∷ []) ∷ exactly (masked 2 nothingFixed) ((0x45, 0x2B, 0x4C) ∷ []) ∷ []
+case3 = exactly (masked 3 freeMask) ((0x4D, 0x3B, 0x55) ∷ []) ∷ exactly (masked 2 freeMask) ((0x45, 0x2B, 0x4C) ∷ []) ∷ []
 
 -- 4. Carry position 1 fixed to 1, mode 0: refusal 7.
 abbrev pub case4 : List Claim
@@ -145,7 +143,7 @@ abbrev pub tiesAway : List Claim
 tiesAway =
     add 4 0x30 0x02 0x31 unsaid ∷ add 4 0x31 0x02 0x32 unsaid ∷ add 4 0xB0 0x82 0xB1 unsaid ∷ add 4 0xB1 0x82 0xB2 unsaid
     ∷ add 4 0x6F 0x6F 0x70 unsaid ∷ subtract 4 0x30 0x30 0x00 unsaid
-    ∷ exactly (masked 4 nothingFixed) ((0x45, 0x2B, 0x4C) ∷ (0x4D, 0x3B, 0x55) ∷ []) ∷ []
+    ∷ exactly (masked 4 freeMask) ((0x45, 0x2B, 0x4C) ∷ (0x4D, 0x3B, 0x55) ∷ []) ∷ []
 
 -- a value bit outside care
 abbrev pub outsideCare : Mask
@@ -155,9 +153,9 @@ outsideCare = record { care = 0x10; value = 0x01 }
 -- bit above p.
 abbrev pub malformed : List Claim
 malformed =
-    refused (adding 0 outsideCare outsideCare outsideCare outsideCare) 5 ∷ refused (adding 0 nothingFixed outsideCare outsideCare outsideCare) 14
-    ∷ refused (adding 0 nothingFixed nothingFixed outsideCare outsideCare) 15
-    ∷ refused (adding 0 nothingFixed nothingFixed nothingFixed outsideCare) 16
+    refused (adding 0 outsideCare outsideCare outsideCare outsideCare) 5 ∷ refused (adding 0 freeMask outsideCare outsideCare outsideCare) 14
+    ∷ refused (adding 0 freeMask freeMask outsideCare outsideCare) 15
+    ∷ refused (adding 0 freeMask freeMask freeMask outsideCare) 16
     ∷ refused (masked 0 (record { care = 0x20; value = 0x00 })) 16 ∷ []
 
 -- W-205. With equal exponents a is L: 30 - 31 has row 1F, 31 - 30 row 00; with e = 0, 05 - 0A row 1A and 0A - 05 row 05. Of e = 0 and e = 1
@@ -185,9 +183,9 @@ droppedBits =
 -- bits is refused with 17, and so is a g of 9 though nothing is fixed; a malformed carry mask is named before it.
 abbrev pub droppedJobs : List Claim
 droppedJobs =
-    exactly (dropping nothingFixed 2 (record { care = 0x7; value = 0x6 })) ((0x45, 0x2B, 0x4C) ∷ [])
-    ∷ refused (dropping nothingFixed 2 (record { care = 0x1; value = 0x1 })) 7 ∷ refused (dropping nothingFixed 2 (record { care = 0x8; value = 0x0 })) 17
-    ∷ refused (dropping nothingFixed 9 nothingFixed) 17 ∷ refused (dropping outsideCare 9 nothingFixed) 16 ∷ []
+    exactly (dropping freeMask 2 (record { care = 0x7; value = 0x6 })) ((0x45, 0x2B, 0x4C) ∷ [])
+    ∷ refused (dropping freeMask 2 (record { care = 0x1; value = 0x1 })) 7 ∷ refused (dropping freeMask 2 (record { care = 0x8; value = 0x0 })) 17
+    ∷ refused (dropping freeMask 9 freeMask) 17 ∷ refused (dropping outsideCare 9 freeMask) 16 ∷ []
 
 abbrev pub cases : List Claim
 cases = case1 ++ case2 ++ case3 ++ case4 ++ case5 ++ case6 ++ case7 ++ case8 ++ case9 ++ case10 ++ case11 ++ tiesAway ++ malformed ++ byExponent ++ droppedBits ++ droppedJobs

@@ -12,7 +12,7 @@ use Rattle.format.specs.declared.Format.{Format}
 use Rattle.format.specs.Format.{wordBits}
 use Rattle.mask.specs.declared.Mask.{Mask}
 use Rattle.mask.specs.Mask as mask
-use Rattle.mask.specs.Mask.{Meets, WellFormed}
+use Rattle.mask.specs.Mask.{Meets, WellFormed, freeMask}
 use Rattle.mask.proofs.ByParts.{meets-parts, sign-formed, fraction-formed}
 use Rattle.mask.proofs.ByBits.{value-below}
 use Rattle.word.specs.Word.{allOnes, signed, infinityWord}
@@ -20,7 +20,7 @@ use Rattle.rounding.specs.declared.Direction.{Direction}
 use Rattle.rounding.specs.declared.Direction.the-variants.{NearestEven, NearestAway, TowardZero, Away}
 use Rattle.rounding.specs.Rounding.{overflowWord}
 use Rattle.word.specs.Masks.{signMask, exponentMask, fractionMask}
-use Rattle.classes.specs.Class.{withExponent, anyField, NeverPast}
+use Rattle.classes.specs.Class.{withExponent, NeverPast}
 
 -- a mask on a number in two parts
 meets-split : (k q r : ℕ) (m : Mask) → r < 2 ^ k → Meets (q * 2 ^ k + r) m ↔ (Meets r (mask.low k m) × Meets q (mask.high k m))
@@ -106,17 +106,17 @@ module _ (F : Format) (c n : Mask) (h : WellFormed (wordBits F) c) (hn : WellFor
 
 -- ---- a weaker mask on the exponent field asks less
 
-pub any-formed : (F : Format) → WellFormed (F .w) anyField
+pub any-formed : (F : Format) → WellFormed (F .w) freeMask
 any-formed F = record { below = pow-pos (F .w); inside = and-zero-r 0 }
 
-pub asking-less : (F : Format) (c n : Mask) → WellFormed (wordBits F) c → WellFormed (F .w) n → (x : ℕ) → Meets x (withExponent F c n) → Meets x (withExponent F c anyField)
+pub asking-less : (F : Format) (c n : Mask) → WellFormed (wordBits F) c → WellFormed (F .w) n → (x : ℕ) → Meets x (withExponent F c n) → Meets x (withExponent F c freeMask)
 asking-less F c n h hn x met =
     let k = F .w + F .f in
     let low-part = x % 2 ^ k in
     let e : low-part / 2 ^ F .f < 2 ^ F .w = shr-lt (F .w) (F .f) (mod-lt x (pow-pos k)) in
     let t = mod-lt low-part (pow-pos (F .f)) in
     let fields = asking-meets F c n h hn (x / 2 ^ k) (low-part / 2 ^ F .f) (low-part % 2 ^ F .f) e t .0 (rw whole met) in
-    rw whole at (asking-meets F c anyField h (any-formed F) (x / 2 ^ k) (low-part / 2 ^ F .f) (low-part % 2 ^ F .f) e t .1 (fields .0, and-zero-r (low-part / 2 ^ F .f), fields .2))
+    rw whole at (asking-meets F c freeMask h (any-formed F) (x / 2 ^ k) (low-part / 2 ^ F .f) (low-part % 2 ^ F .f) e t .1 (fields .0, and-zero-r (low-part / 2 ^ F .f), fields .2))
   where
     whole : signed F (x / 2 ^ (F .w + F .f)) (x % 2 ^ (F .w + F .f) / 2 ^ F .f * 2 ^ F .f + x % 2 ^ (F .w + F .f) % 2 ^ F .f) ≡ x
     whole = ap (λ (r : ℕ). x / 2 ^ (F .w + F .f) * 2 ^ (F .w + F .f) + r) (split (x % 2 ^ (F .w + F .f)) (F .f)) ∙ split x (F .w + F .f)

@@ -13,7 +13,7 @@ use lib.Pow.{pow-pos}
 use Rattle.format.specs.declared.Format.{Format}
 use Rattle.format.specs.Format.{precision}
 use Rattle.mask.specs.declared.Mask.{Mask}
-use Rattle.mask.specs.Mask.{Meets, WellFormed}
+use Rattle.mask.specs.Mask.{Meets, WellFormed, freeMask}
 use Rattle.job.specs.declared.Job.{Job}
 use Rattle.job.specs.Job.{Valid}
 use Rattle.job.specs.Guards.{guardsOf, reach}
@@ -39,7 +39,7 @@ use Rattle.pair.proofs.Below.{below-room}
 use Rattle.pair.proofs.Rows.{forward-row}
 use Rattle.pair.proofs.Finites.{pair-finite}
 use Rattle.classes.specs.declared.Class.{Class}
-use Rattle.classes.specs.Class.{InOrder, farGap, classUnit, topField, lowField, fieldAt, mostField, leastField, atField, withExponent, asking, onlyField, anyField, ClassAdmits, NeverPast, Classed, smallerMask}
+use Rattle.classes.specs.Class.{InOrder, farGap, classUnit, topField, lowField, fieldAt, mostField, leastField, atField, withExponent, asking, onlyField, ClassAdmits, NeverPast, Classed, smallerMask}
 use Rattle.classes.proofs.Order.{Sides, signs-of, sides-of}
 use Rattle.classes.proofs.ClassMasks.{past-never, asking-meets, own-meets, asking-less}
 use Rattle.classes.proofs.Moved.{Moved, moved}
@@ -49,18 +49,18 @@ pub only-formed : (F : Format) (i : Biased) → i .0 ≤ allOnes F → WellForme
 only-formed F i h = record { below = omega (arith, pow-pos (F .w)); inside = lib.Bits.and-mask (i .0) (F .w) ∙ native.Mathlib.Nat.mod-eq-of-lt (omega (arith, pow-pos (F .w))) }
 
 -- what a class has where E is the larger exponent field, and low the smaller one of the pair that stands for it: c's exponent field is one
--- that its mask lets through, and so is the fraction of a zero sum
+-- that its mask lets through, and so is the fraction of a zero sum, which has no dropped bits
 pub record FieldReached (j : Job) (E low : Biased) (P : Mask → Type 0) : Type 0 where
   pub field : Biased
   pub most : field .0 ≤ mostField (reach j)
   pub least : low .0 + 2 ≤ topField (reach j) .0 → farGap (reach j) ≤ field .0
   pub within : fieldAt (reach j) (unitOf E) field .0 < 2 ^ j .setting .format .w
   pub meets : Meets (fieldAt (reach j) (unitOf E) field .0) (exponentMask (j .setting .format) (j .c .mask))
-  pub zero-meets : field .0 ≡ 0 → Meets 0 (fractionMask (j .setting .format) (j .c .mask))
+  pub zero : field .0 ≡ 0 → Meets 0 (fractionMask (j .setting .format) (j .c .mask)) × (j .dropped .mask .care ≡ 0)
   pub holds : P (onlyField (j .setting .format) field)
 
 reached-map : (j : Job) (E low : Biased) (P Q : Mask → Type 0) → ((i : Mask) → P i → Q i) → FieldReached j E low P → FieldReached j E low Q
-reached-map j E low P Q h p = record { field = p .field; most = p .most; least = p .least; within = p .within; meets = p .meets; zero-meets = p .zero-meets; holds = h (onlyField (j .setting .format) (p .field)) (p .holds) }
+reached-map j E low P Q h p = record { field = p .field; most = p .most; least = p .least; within = p .within; meets = p .meets; zero = p .zero; holds = h (onlyField (j .setting .format) (p .field)) (p .holds) }
 
 -- ---- two sides, of which x has the larger exponent field
 module _ (j : Job) (valid : Valid j) (x y : Side) (fx : FiniteSide (j .setting .format) x) (fy : FiniteSide (j .setting .format) y)
@@ -134,7 +134,7 @@ module _ (j : Job) (valid : Valid j) (x y : Side) (fx : FiniteSide (j .setting .
     least = λ l. w .least (long (k .x) (k .made) l);
     within = w .within;
     meets = own .1;
-    zero-meets = λ z. subst (λ (t : ℕ). Meets t (fractionMask F c)) (w .zero-fraction z) (own .2);
+    zero = λ z. (subst (λ (t : ℕ). Meets t (fractionMask F c)) (w .zero-fraction z) (own .2), unfixed (w .zero-only z));
     holds = (
       omega (arith, low-le r (gapOf x y) (y .exponent .0)),
       record {
@@ -186,6 +186,9 @@ module _ (j : Job) (valid : Valid j) (x y : Side) (fx : FiniteSide (j .setting .
       small : w .field .0 < 2 ^ F .w
       small = omega (arith, w .most, classed .wide)
 
+      unfixed : k .x ≡ 0 → j .dropped .mask .care ≡ 0
+      unfixed none = ⊎-elim (λ z. z) (λ p. absurd (omega (arith, none, p .0 .some))) (k .holds .drops)
+
       up : classUnit r ≡ unitOf (topField r)
       up = ap unit (omega arith)
         where
@@ -225,7 +228,7 @@ sums-moved j valid x y fx fy classed under (inr l) = ⊎-elim both (λ h. absurd
           least = λ q. absurd (omega (arith, ap (λ (e : Biased). e .0) y-low));
           within = subst (λ (e : Biased). fieldAt f (unitOf e) (r .field) .0 < 2 ^ j .setting .format .w) same (r .within);
           meets = subst (λ (e : Biased). Meets (fieldAt f (unitOf e) (r .field) .0) (exponentMask (j .setting .format) (j .c .mask))) same (r .meets);
-          zero-meets = r .zero-meets;
+          zero = r .zero;
           holds = inr (subst₂ (λ (u v : Biased). Larger (asking j (onlyField (j .setting .format) (r .field))) (atField y u) (atField x v)) y-low x-low (r .holds));
         }
       where
@@ -239,7 +242,7 @@ pub record ClassFieldReached (j : Job) (E : Biased) (k : Class) : Type 0 where
   pub least : leastField (reach j) k .0 ≤ field .0
   pub within : fieldAt (reach j) (unitOf E) field .0 < 2 ^ j .setting .format .w
   pub meets : Meets (fieldAt (reach j) (unitOf E) field .0) (exponentMask (j .setting .format) (j .c .mask))
-  pub zero-meets : field .0 ≡ 0 → Meets 0 (fractionMask (j .setting .format) (j .c .mask))
+  pub zero : field .0 ≡ 0 → Meets 0 (fractionMask (j .setting .format) (j .c .mask)) × (j .dropped .mask .care ≡ 0)
   pub holds : ClassAdmits j k (onlyField (j .setting .format) field)
 
 -- ---- a pair that admits a case, E being the larger exponent field and e the other, in either order
@@ -258,7 +261,7 @@ module _ (j : Job) (valid : Valid j) (o : ℕ) (E e : Biased) (finite : E .0 < a
     least = go (decLe (low .0 + 2) (topField f .0));
     within = r .within;
     meets = r .meets;
-    zero-meets = r .zero-meets;
+    zero = r .zero;
     holds = S .back (asking j (onlyField (j .setting .format) (r .field)) .c) (topField f) low (r .holds);
   }
     where
@@ -282,7 +285,7 @@ module _ (j : Job) (valid : Valid j) (o : ℕ) (E e : Biased) (finite : E .0 < a
 
 -- ---- a class that admits nothing at all has no exponent field of c
 module _ (j : Job) (k : Class) (i : Biased) (valid : Valid j) (l : i .0 ≤ allOnes (j .setting .format)) where
-  larger-less : (x y : Side) → Larger (asking j (onlyField (j .setting .format) i)) x y → Larger (asking j anyField) x y
+  larger-less : (x y : Side) → Larger (asking j (onlyField (j .setting .format) i)) x y → Larger (asking j freeMask) x y
   larger-less x y (order, a) = (
     order,
     record {
@@ -296,19 +299,19 @@ module _ (j : Job) (k : Class) (i : Biased) (valid : Valid j) (l : i .0 ≤ allO
     },
   )
 
-  signs-less : (ea eb : Biased) → SomeSigns (asking j (onlyField (j .setting .format) i)) ea eb → SomeSigns (asking j anyField) ea eb
+  signs-less : (ea eb : Biased) → SomeSigns (asking j (onlyField (j .setting .format) i)) ea eb → SomeSigns (asking j freeMask) ea eb
   signs-less ea eb S =
       let a = sideA j (S .sa) ea in
       let b = sideB j (S .sb) eb in
-      signs-of (asking j (onlyField (j .setting .format) i)) (asking j anyField .c) ea eb ea eb S (⊎-elim (λ p. inl (larger-less a b p)) (λ p. inr (larger-less b a p)) (S .posed .sums))
+      signs-of (asking j (onlyField (j .setting .format) i)) (asking j freeMask .c) ea eb ea eb S (⊎-elim (λ p. inl (larger-less a b p)) (λ p. inr (larger-less b a p)) (S .posed .sums))
 
-  pub class-less : ClassAdmits j k (onlyField (j .setting .format) i) → ClassAdmits j k anyField
+  pub class-less : ClassAdmits j k (onlyField (j .setting .format) i) → ClassAdmits j k freeMask
   class-less = go (k .order)
     where
       top : Biased
       top = topField (reach j)
 
-      go : (o : ℕ) → InOrder (SomeSigns (asking j (onlyField (j .setting .format) i))) o top (k .low) → InOrder (SomeSigns (asking j anyField)) o top (k .low)
+      go : (o : ℕ) → InOrder (SomeSigns (asking j (onlyField (j .setting .format) i))) o top (k .low) → InOrder (SomeSigns (asking j freeMask)) o top (k .low)
       go zero S = signs-less top (k .low) S
       go (suc o) S = signs-less (k .low) top S
 

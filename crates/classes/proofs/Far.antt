@@ -72,7 +72,7 @@ module _ (j : Job) (valid : Valid j) (o : ℕ) (E e : Biased) (finite : E .0 < a
   near-or-zero = go (r .field .0) refl
     where
       go : (i : ℕ) → r .field .0 ≡ i → LetsNear j (farGap f) E ⊎ LetsZero j
-      go zero is = inr (record { exponent = moved-meets 0 is; fraction = r .zero-meets is })
+      go zero is = let z = r .zero is in inr (record { exponent = moved-meets 0 is; fraction = z .0; unfixed = z .1 })
       go (suc i) is = inl (nonzero-near i (farGap f) is (omega arith))
 
   -- with a gap of 2 or more

@@ -39,6 +39,7 @@ pub record Moved (F : Format) (q r mode : ℕ) (like : Bool) (s : ℕ) (u : expo
   pub least : farGap r ≤ size x → farGap r ≤ field .0
   pub within : fieldAt r u field .0 < 2 ^ F .w
   pub fraction-lt : fraction < 2 ^ F .f
+  pub zero-only : field .0 ≡ 0 → x ≡ 0
   pub zero-fraction : field .0 ≡ 0 → fraction ≡ 0
   pub here : outcome q F mode like s u x ≡ signed F sign (fieldAt r u field .0 * 2 ^ F .f + fraction)
   pub there : outcome q F mode like s (classUnit r) x ≡ signed F sign (field .0 * 2 ^ F .f + fraction)
@@ -73,6 +74,7 @@ module _ (F : Format) (q r : ℕ) (spans : Spans (F .f) q r) (mode : ℕ) (like 
     least = λ l. absurd (omega (arith, size-zero));
     within = pow-pos (F .w);
     fraction-lt = pow-pos (F .f);
+    zero-only = λ z. refl;
     zero-fraction = λ z. refl;
     sign-lt = zero-lt like;
     here = ap (signed F (zeroSign mode like s)) none;
@@ -134,6 +136,7 @@ module _ (F : Format) (q r : ℕ) (spans : Spans (F .f) q r) (mode : ℕ) (like 
             within = rw (shifted (n + (farGap r - (f + q)) + h) refl) (omega arith);
             sign-lt = sign-lt;
             fraction-lt = mod-lt (keptOf q f d (suc x) u) (pow-pos f);
+            zero-only = λ z. absurd (omega arith);
             zero-fraction = λ z. absurd (omega arith);
             here = held ∙ word-within F d s here t in-range ∙ ap (λ (k : ℕ). signed F s (k * 2 ^ f + t)) (sym (shifted (n + (farGap r - (f + q)) + h) refl));
             there = moved ∙ word-within F d s there t (omega (arith, at, spans .least, spans .most)) ∙ ap (λ (k : ℕ). signed F s (k * 2 ^ f + t)) at;

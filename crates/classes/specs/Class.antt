@@ -18,7 +18,6 @@ use Rattle.word.specs.declared.Biased.{Biased}
 use Rattle.word.specs.declared.Unit as exponent
 use Rattle.word.specs.Word.{unitOf, fieldOf, allOnes}
 use Rattle.word.specs.Masks.{signMask, exponentMask, fractionMask}
-use Rattle.rounding.specs.Width.{guardBits}
 use Rattle.special.specs.Asked.{fieldIs}
 use Rattle.pair.specs.declared.Side.{Side}
 use Rattle.pair.specs.Pair.{SomeSigns}
@@ -62,7 +61,7 @@ smallerMask j (suc o) = exponentMask (j .setting .format) (j .a .mask)
 -- the gap from which on an aligned significand is its sticky bit alone; r is the reach of the job, its fraction bits and those that it tells
 -- apart below the last kept one, but for the first: so this is f and the bits below a difference, two more than are told apart
 abbrev pub farGap : ℕ → ℕ
-farGap r = r + guardBits
+farGap r = r + 3
 
 -- the unit of its larger operand: the sum of any gap has digits enough for a normal number
 abbrev pub classUnit : ℕ → exponent.Unit
@@ -120,10 +119,6 @@ asking j n = withWanted C j (withMask (j .c) (withExponent (j .setting .format) 
 -- the mask of one exponent field
 abbrev pub onlyField : Format → Biased → Mask
 onlyField F i = record { care = allOnes F; value = i .0 }
-
--- and the mask that asks nothing of it
-abbrev pub anyField : Mask
-anyField = record { care = 0; value = 0 }
 
 -- the pair that stands for the class k admits a case, where n is asked of c's exponent field
 abbrev pub ClassAdmits : Job → Class → Mask → Type 0

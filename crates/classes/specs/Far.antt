@@ -24,7 +24,8 @@ pub record LetsNear (j : Job) (below : ℕ) (E : Biased) : Type 0 where
   pub least : E .0 ≤ field + below
   pub most : field ≤ E .0 + 2
 
--- it lets through a zero
+-- it lets through a zero, which has no dropped bits, so none is fixed (W-206)
 pub record LetsZero (j : Job) : Type 0 where
   pub exponent : Meets 0 (exponentMask (j .setting .format) (j .c .mask))
   pub fraction : Meets 0 (fractionMask (j .setting .format) (j .c .mask))
+  pub unfixed : j .dropped .mask .care ≡ 0

@@ -8,7 +8,6 @@ use job::words::with_mask;
 use job::words::with_wanted;
 use mask::Mask;
 use pair::finite::finite_admits;
-use rounding::width::GUARD_BITS;
 use std::num::wrapping_add_u64;
 use word::Biased;
 use word::Unit;
@@ -26,9 +25,9 @@ ghost use Rattle.mask.specs.Mask.{WellFormed};
 ghost use Rattle.job.specs.Guards.{reach};
 ghost use Rattle.classes.specs.Class.{farGap, fieldsOf, lowField, classOf, withExponent, asking, ClassFor, ClassAdmits};
 
-// The gap from which on an aligned significand is its sticky bit alone, beyond the reach of the job: its fraction bits and the bits that it
-// tells apart below the last kept one, but the first.
-pub const FAR_GAP: u64 = GUARD_BITS;
+// The gap from which on an aligned significand is its sticky bit alone, beyond the reach of the job, its fraction bits and the bits that it
+// tells apart below the last kept one but for the first: that one, and the two more that stand below a difference.
+pub const FAR_GAP: u64 = 3;
 // The larger field of the pair that stands for a class.
 pub const TOP_FIELD: u64 = FAR_GAP + 1;
 // c's greatest exponent field there.

@@ -9,6 +9,8 @@ use Rattle.format.specs.declared.Format.{Format}
 use Rattle.format.specs.Format.{wordBits}
 use Rattle.format.proofs.Laws.{both-none, word-none}
 use Rattle.mask.specs.declared.Mask.{Mask}
+use Rattle.mask.specs.Mask.{Inside}
+use Rattle.mask.proofs.ByBits.{free-meets}
 use Rattle.mask.proofs.Checks.{meets-true}
 use Rattle.job.specs.declared.Setting.{Setting}
 use Rattle.job.specs.declared.Wanted.{Wanted}
@@ -29,6 +31,11 @@ row-meets-true NoRow m = (λ e. eqb-true (m .care) 0 e, λ e. eq-eqb (m .care) 0
 pub below-meets-true : (r : below.Below) (m : Mask) → belowMeets r m ≡ true ↔ BelowMeets r m
 below-meets-true (Bits r) m = meets-true r m
 below-meets-true NoBits m = (λ e. eqb-true (m .care) 0 e, λ e. eq-eqb (m .care) 0 e)
+
+-- dropped bits, and that there are none, meet a mask that fixes no bit
+pub unfixed-met : (r : below.Below) (m : Mask) → Inside m → m .care ≡ 0 → BelowMeets r m
+unfixed-met (Bits r) m inside none = free-meets r m inside none
+unfixed-met NoBits m inside none = none
 
 pub allowed-true : (F : Format) (x : ℕ) (W : Wanted) → allowed F x W ≡ true ↔ Allowed F x W
 allowed-true F x W = (λ e. record { mask = meets-true x (W .mask) .0 e }, λ h. meets-true x (W .mask) .1 (h .mask))

@@ -16,13 +16,13 @@ use Rattle.adder.proofs.BelowLaws.{below-any}
 use Rattle.fit.specs.Fit.{belowIn, BelowMeets, Satisfies, Fits}
 
 -- with a mask that fixes no bit g plays no part
-pub below-free : (m : Mask) → m .care ≡ 0 → (S : Setting) (g k a b : ℕ) → BelowMeets (belowIn S g a b) m → BelowMeets (belowIn S k a b) m
+below-free : (m : Mask) → m .care ≡ 0 → (S : Setting) (g k a b : ℕ) → BelowMeets (belowIn S g a b) m → BelowMeets (belowIn S k a b) m
 below-free m none S g k a b h =
     below-any (λ (r : Below). BelowMeets r m)
     (λ r s e. ap (bitAnd s) none ∙ and-zero-r s ∙ sym (and-zero-r r) ∙ sym (ap (bitAnd r) none) ∙ e) (S .format) (S .operation) g k a b h
 
 -- the dropped bits of two words are as wanted
-abbrev pub DroppedMeets : Setting → Dropped → ℕ → ℕ → Type 0
+abbrev DroppedMeets : Setting → Dropped → ℕ → ℕ → Type 0
 DroppedMeets S D a b = BelowMeets (belowIn S (D .g) a b) (D .mask)
 
 normalised-meets : (S : Setting) (D : Dropped) (a b : ℕ) → DroppedMeets S D a b ↔ DroppedMeets S (normalised D) a b

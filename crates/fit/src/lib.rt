@@ -87,11 +87,14 @@ fn below_meets(below: Below, mask: Mask) -> bool
     }
 }
 
-// Whether the bits of a's and b's exact result below the last one are as wanted.
+// Whether the bits of a's and b's exact result below the last one are as wanted; where none is fixed they are not looked at.
 fn dropped_meet(setting: Setting, dropped: Dropped, a: u64, b: u64) -> bool
     requires { ⌜ ValidSetting setting × ValidDropped dropped ⌝ }
     ensures { λ r. ⌜ r ≡ belowMeets (belowIn setting (dropped .g) a b) (dropped .mask) ⌝ }
 {
+    if dropped.mask.care == 0 {
+        return true;
+    }
     let below = below_last(setting.format, setting.operation, dropped.g, a, b);
     below_meets(below, dropped.mask)
 }

@@ -1,5 +1,6 @@
 // Cases 1 to 4, 12 and 13 of document 01, a tie in double precision, borrows of equal exponents, dropped bits and one job for each cause of
 // bad input, through the case generator.
+mod difference;
 mod document;
 mod dropped;
 mod jobs;
@@ -16,6 +17,7 @@ fn main() {
     let signs = document::impossible_signs(limits);
     let double = document::double_tie(signs);
     let borrows = document::borrows(double);
-    let ties = dropped::stated(near::ties(borrows));
-    tally::put_count(dropped::malformed(document::bad_input(ties)));
+    let ties = difference::ties(near::ties(borrows));
+    let stated = dropped::stated(ties);
+    tally::put_count(dropped::malformed(document::bad_input(stated)));
 }

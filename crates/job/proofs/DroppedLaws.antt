@@ -11,7 +11,7 @@ use Rattle.format.proofs.Laws.{unless-none}
 use Rattle.mask.specs.Mask.{wellFormed}
 use Rattle.mask.proofs.Checks.{wellFormed-true}
 use Rattle.job.specs.declared.Dropped.{Dropped}
-use Rattle.job.specs.Dropped.{droppedCause, ValidDropped, freeDropped, normalised}
+use Rattle.job.specs.Dropped.{droppedCause, ValidDropped, normalised}
 
 pub dropped-none : (D : Dropped) → (droppedCause D ≡ 0) ↔ ValidDropped D
 unfolding droppedCause
@@ -62,6 +62,3 @@ normalised-valid D v = go (eqb (D .mask .care) 0) refl
         let none = eqb-true (D .mask .care) 0 e in
         record { g-most = omega arith; mask = record { below = omega (arith, none); inside = v .mask .inside } }
     go false e = v
-
-pub free-valid : ValidDropped freeDropped
-free-valid = record { g-most = omega arith; mask = record { below = omega arith; inside = refl } }

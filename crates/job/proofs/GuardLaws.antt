@@ -11,7 +11,7 @@ use Rattle.job.specs.declared.Job.{Job}
 use Rattle.job.specs.Dropped.{ValidDropped}
 use Rattle.job.specs.Job.{Valid}
 use Rattle.job.specs.Guards.{guardsOf, reachOf, reach}
-use Rattle.job.proofs.DroppedLaws.{normalised-none, normalised-some, normalised-valid}
+use Rattle.job.proofs.DroppedLaws.{normalised-some, normalised-valid}
 
 pub guards-pos : (D : Dropped) → 1 ≤ guardsOf D
 unfolding guardsOf
@@ -25,11 +25,6 @@ guards-most D v = let n = normalised-valid D v .g-most in omega arith
 pub guards-cover : (D : Dropped) → (D .mask .care ≡ 0 → ⊥) → D .g ≤ guardsOf D
 unfolding guardsOf
 guards-cover D ne = let e = ap (λ (E : Dropped). E .g) (normalised-some D ne) in omega (arith, e)
-
--- where none is
-pub guards-none : (D : Dropped) → D .mask .care ≡ 0 → guardsOf D ≡ 1
-unfolding guardsOf
-guards-none D e = let z = normalised-none D e in omega (arith, z)
 
 -- a valid job is within the limits
 pub reach-valid : (j : Job) → Valid j → reach j ≡ reachOf j

@@ -6,7 +6,7 @@ use lib.Dec.{eqb, leb}
 use Rattle.format.specs.Cause as cause
 use Rattle.format.specs.Cause.{unless}
 use Rattle.format.specs.Limits.{mostDropped}
-use Rattle.mask.specs.Mask.{WellFormed, wellFormed}
+use Rattle.mask.specs.Mask.{WellFormed, wellFormed, freeMask}
 use Rattle.job.specs.declared.Dropped.{Dropped}
 use Rattle.job.specs.declared.Job.{Job}
 
@@ -21,7 +21,7 @@ pub record ValidDropped (D : Dropped) : Type 0 where
 
 -- nothing is wanted of the dropped bits, and no g is carried
 abbrev pub freeDropped : Dropped
-freeDropped = record { g = 0; mask = record { care = 0; value = 0 } }
+freeDropped = record { g = 0; mask = freeMask }
 
 -- "a job that fixes none of these bits carries no g: one that a caller gives all the same is tested for 17 and then taken as 0"
 unfoldable pub normalised : Dropped → Dropped

@@ -16,6 +16,6 @@ guardsOf D = max 1 (normalised D .g)
 abbrev pub reachOf : Job → ℕ
 reachOf j = j .setting .format .f + guardsOf (j .dropped) - 1
 
--- the same where neither f nor g is above its limit, else 0
+-- the same where neither f nor the number of these bits is above its limit, else 0
 unfoldable pub reach : Job → ℕ
 reach j = cond (leb (j .setting .format .f) mostFractionBits && leb (guardsOf (j .dropped)) mostDropped) (reachOf j) 0

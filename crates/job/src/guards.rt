@@ -14,14 +14,14 @@ pub fn guards(dropped: Dropped) -> u64
     if taken.g == 0 { 1 } else { taken.g }
 }
 
-// f and these bits, but for the first; 0 where f or g is above its limit, so that no sum wraps.
+// f and these bits, but for the first; 0 where f or their number is above its limit, so that no sum wraps.
 pub fn reach(job: Job) -> u64
     ensures { λ r. ⌜ r ≡ reach job ⌝ }
 {
-    let g = guards(job.dropped);
+    let apart = guards(job.dropped);
     let f = job.setting.format.f;
-    if (f <= limits::MOST_FRACTION_BITS) & (g <= limits::MOST_DROPPED) {
-        f + g - 1
+    if (f <= limits::MOST_FRACTION_BITS) & (apart <= limits::MOST_DROPPED) {
+        f + apart - 1
     } else {
         0
     }

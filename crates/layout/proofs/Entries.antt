@@ -7,11 +7,10 @@ use native.Mathlib.Omega.{arith}
 use mathlib.Core.List.{List, [], _∷_, _++_}
 use borrow.Author.Tests.{eqb-true, eq-eqb}
 use lib.Dec.{eqb}
-use lib.Bits.{bitAnd, and-zero-r}
 use Rattle.bits.specs.Bit.{bit}
 use Rattle.mask.specs.declared.Mask.{Mask}
-use Rattle.mask.specs.Mask.{Inside}
 use Rattle.mask.proofs.Bitwise.{bit-case}
+use Rattle.mask.proofs.ByBits.{free-value}
 use Rattle.job.specs.declared.Dropped.{Dropped}
 use Rattle.job.specs.Dropped.{ValidDropped, freeDropped, normalised, withDropped}
 use Rattle.job.proofs.DroppedLaws.{normalised-again, normalised-none, normalised-mask, normalised-same}
@@ -103,10 +102,6 @@ dropped-absent m word e absent z =
     let none = dropped-default word e (absent droppedBit z) in
     ap₂ (λ (g : ℕ) (k : Mask). record { g = g; mask = k }) (none .0) (ap₂ (λ (c v : ℕ). record { care = c; value = v }) (none .1) (none .2))
 
--- a mask that fixes no bit has no value
-no-value : (k : Mask) → Inside k → k .care ≡ 0 → k .value ≡ 0
-no-value k inside none = sym inside ∙ ap (bitAnd (k .value)) none ∙ and-zero-r (k .value)
-
 -- an entry that was read, and of which no field says its default, carries no g where no dropped bit is fixed
 pub read-normalised : (m word : ℕ) (e : Entry) → ValidDropped (e .job .dropped) → Absent m (layout word) (fieldNumbers e)
     → saysDefault fieldCount m (layout word) (entryNumbers e) ≡ false → normalised (e .job .dropped) ≡ e .job .dropped
@@ -121,5 +116,5 @@ read-normalised m word e valid absent none-says = normalised-same (e .job .dropp
         bit-case m droppedBit (λ z. dropped-default word e (absent droppedBit z) .0)
         (λ one. absurd (true≢false (sym
         (default-dropped word (normalisedEntry e) (normalised-none D none) (ap (λ (k : Mask). k .care) (normalised-mask D) ∙ none)
-        (ap (λ (k : Mask). k .value) (normalised-mask D) ∙ no-value (D .mask) (valid .mask .inside) none))
+        (ap (λ (k : Mask). k .value) (normalised-mask D) ∙ free-value (D .mask) (valid .mask .inside) none))
         ∙ no-default fieldCount m (layout word) (entryNumbers e) none-says droppedBit (omega arith) one)))

@@ -10,7 +10,7 @@ use mask::Mask;
 ghost use mathlib.Core.Path.{_≡_};
 ghost use Prim.Native.Nat.{_*_};
 ghost use Rattle.bits.specs.Bit.{bit};
-ghost use Rattle.layout.specs.Layout.{sizes, mapOf};
+ghost use Rattle.layout.specs.Layout.{mapOf};
 ghost use Rattle.layout.specs.Fields.{wordBytes, layout, fieldSizes, entryNumbers, entryMap, jobWith, entryWith};
 
 // A word of up to so many bits is narrow.

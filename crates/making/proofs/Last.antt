@@ -8,22 +8,22 @@ use lib.Bits.{and-zero-r, or-zero-l}
 use Rattle.bits.specs.Bit.{bit}
 use Rattle.mask.specs.declared.Mask.{Mask}
 use Rattle.mask.specs.declared.Joined.the-variants as reply
-use Rattle.mask.specs.Mask.{Meets, fixed}
+use Rattle.mask.specs.Mask.{Meets, fixed, freeMask}
 use Rattle.mask.specs.Join.{join}
 use Rattle.mask.proofs.Fixing.{fixed-meets}
 use Rattle.mask.proofs.Replies.{join-meets, join-refused}
-use Rattle.making.specs.Question.{anything, oneBit}
+use Rattle.making.specs.Question.{oneBit}
 
 module _ (j b : ℕ) (h : b < 2) where
   none : bit 0 j ≡ 0
   none = ap (λ (n : ℕ). n % 2) (zero-div (2 ^ j))
 
-  same : fixed anything j b ≡ oneBit j b
+  same : fixed freeMask j b ≡ oneBit j b
   same = ap₂ (λ (s t : ℕ). record { care = s; value = t }) (or-zero-l (2 ^ j)) (or-zero-l (b * 2 ^ j))
 
   pub one-meets : (n : ℕ) → Meets n (oneBit j b) ↔ (bit n j ≡ b)
   one-meets n =
-      let f = subst (λ (m : Mask). Meets n m ↔ (Meets n anything × (bit n j ≡ b))) same (fixed-meets anything j b (and-zero-r 0) none h n) in
+      let f = subst (λ (m : Mask). Meets n m ↔ (Meets n freeMask × (bit n j ≡ b))) same (fixed-meets freeMask j b (and-zero-r 0) none h n) in
       ((λ met. f .0 met .1), λ e. f .1 (and-zero-r n, e))
 
   -- the reply of joining

@@ -13,7 +13,7 @@ use Rattle.bits.specs.Bit.{bit}
 use Rattle.bits.proofs.Laws.{bit-lt}
 use Rattle.bits.proofs.Logic.{bit-xor}
 use Rattle.mask.specs.declared.Mask.{Mask}
-use Rattle.mask.specs.Mask.{Inside, WellFormed, Meets, high, raised}
+use Rattle.mask.specs.Mask.{Inside, WellFormed, Meets, high, raised, freeMask}
 use Rattle.mask.proofs.ByBits.{inside-bits, value-below}
 use Rattle.mask.proofs.ByParts.{meets-parts}
 use Rattle.columns.specs.Carry.{borrow, carryOf}
@@ -24,7 +24,7 @@ use Rattle.chain.specs.Chain.{Solved, Answered}
 use Rattle.rounding.specs.Width.{alignedBits}
 use Rattle.making.specs.declared.Aligned as pair
 use Rattle.making.specs.Making.{Made, Making, columnsOf, ZerosBelow, Formed}
-use Rattle.making.specs.Question.{anything, opposite, oneAbove}
+use Rattle.making.specs.Question.{opposite, oneAbove}
 use Rattle.making.proofs.Asked.{allows-moved, allows-back, most-aligned-lt, columns-below, row-allowed}
 use Rattle.making.proofs.Made.{most-digits-bounds, aligned-lt, made-difference}
 use Rattle.making.proofs.Zeros.{zeros-below}
@@ -116,7 +116,7 @@ reversedWires A tail carries z = record {
   subtract = true;
   l = A .head;
   t = tail;
-  x = anything;
+  x = freeMask;
   z = z;
   carries = carries;
   constant = 0;

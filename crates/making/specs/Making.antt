@@ -47,9 +47,12 @@ abbrev pub columnsOf : ℕ → pair.Aligned → ℕ
 columnsOf f A = mostDigits (A .below) f (A .like)
 
 -- some bit stands below, and the columns fit a word with its top bit free
-pub record Room (f : ℕ) (A : pair.Aligned) : Type 0 where
-  pub some : 0 < A .below
-  pub columns : columnsOf f A < 64
+pub record RoomFor (f : ℕ) (like : Bool) (below : ℕ) : Type 0 where
+  pub some : 0 < below
+  pub columns : mostDigits below f like < 64
+
+abbrev pub Room : ℕ → pair.Aligned → Type 0
+Room f A = RoomFor f (A .like) (A .below)
 
 -- the largest significand with zeros below it, which no aligned significand exceeds
 abbrev pub mostAligned : ℕ → ℕ → ℕ

@@ -7,10 +7,6 @@ use Rattle.mask.specs.Mask.{Meets}
 use Rattle.making.specs.declared.Aligned as pair
 use Rattle.making.specs.Making.{columnsOf}
 
--- no bit is fixed
-abbrev pub anything : Mask
-anything = record { care = 0; value = 0 }
-
 -- bit j fixed to b, and no other
 abbrev pub oneBit : ℕ → ℕ → Mask
 oneBit j b = record { care = 2 ^ j; value = b * 2 ^ j }

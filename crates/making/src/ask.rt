@@ -77,7 +77,7 @@ fn ask(aligned: Aligned, f: u64, x: Mask, z: Mask, constant: u64, carry: u64) ->
     ensures { λ r. ⌜ (Formed f aligned → (aligned .reversed ≡ true → constant + carry ≡ 0) → (r ≡ true) ↔ Making f aligned (Added f aligned x z constant carry)) ⌝ }
 {
     let wires = wires_of(aligned, x, z, constant, carry);
-    chain::possible(wires, columns(aligned, f))
+    chain::possible(wires, columns(aligned.like, aligned.below, f))
 }
 
 // The same for a number whose bit j, the last one kept, is `last`.
@@ -139,16 +139,16 @@ pub fn rounds_at(
     ensures { λ r. ⌜ (Formed f aligned → Askable f aligned direction (rounded .0 + aligned .below - unit .0) x kept
         → (r ≡ true) ↔ Making f aligned (λ (n : ℕ). Meets n x × Meets (keptPart (aligned .below) direction n (unit .0) (rounded .0)) kept)) ⌝ }
 {
-    if !roomy(aligned, f) {
+    let under = minus(unit.0, rounded.0);
+    let up = minus(under, aligned.below);
+    if bits::low(kept.value, up) != 0 {
+        return false;
+    }
+    if !roomy(aligned.like, aligned.below, f) {
         return false;
     }
     let over = minus(rounded.0, unit.0);
     if 1 < over {
-        return false;
-    }
-    let under = minus(unit.0, rounded.0);
-    let up = minus(under, aligned.below);
-    if bits::low(kept.value, up) != 0 {
         return false;
     }
     let down = minus(aligned.below + over, under);

@@ -41,6 +41,14 @@ meets-bits x m h = (
       (λ e. and-fixed x (m .care) i e ∙ agrees i e)),
 )
 
+-- a mask that fixes no bit has no value
+pub free-value : (m : Mask) → Inside m → m .care ≡ 0 → m .value ≡ 0
+free-value m inside none = sym inside ∙ ap (bitAnd (m .value)) none ∙ and-zero-r (m .value)
+
+-- and every number meets it
+pub free-meets : (x : ℕ) (m : Mask) → Inside m → m .care ≡ 0 → Meets x m
+free-meets x m inside none = ap (bitAnd x) none ∙ and-zero-r x ∙ sym (free-value m inside none)
+
 -- no bit of the value stands above the width either
 pub value-below : (width : ℕ) (m : Mask) → WellFormed width m → m .value < 2 ^ width
 value-below width m w = rw (← (w .inside)) (lt-of-le-of-lt (and-le-r (m .value) (m .care)) (w .below))

@@ -46,6 +46,10 @@ Meets x m = bitAnd x (m .care) ≡ m .value
 abbrev pub meets : ℕ → Mask → Bool
 meets x m = eqb (bitAnd x (m .care)) (m .value)
 
+-- no bit is fixed
+abbrev pub freeMask : Mask
+freeMask = record { care = 0; value = 0 }
+
 -- bit i is free: "care (1 = bit fixed)"
 abbrev pub free : Mask → ℕ → Bool
 free m i = eqb (bit (m .care) i) 0

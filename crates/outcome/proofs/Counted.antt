@@ -12,7 +12,7 @@ use lib.Ieee.{size}
 use lib.Pow.{pow-pos}
 use Rattle.format.specs.declared.Format.{Format}
 use Rattle.mask.specs.declared.Mask.{Mask}
-use Rattle.mask.specs.Mask.{Meets, meets}
+use Rattle.mask.specs.Mask.{Meets, meets, freeMask}
 use Rattle.mask.proofs.Checks.{meets-true}
 use Rattle.word.specs.declared.Biased.{Biased}
 use Rattle.rounding.specs.declared.Direction.{Direction}
@@ -28,8 +28,7 @@ use Rattle.outcome.specs.declared.sought.Fractions as fractions-of
 use Rattle.rounding.specs.Sticky.{keptPart}
 use Rattle.rounding.specs.Width.{sumBits}
 use Rattle.rounding.specs.Outcome.{roundedUnit, keptOf, boundedHeld, zeroSign, outcome}
-use Rattle.making.specs.Making.{Making, columnsOf}
-use Rattle.making.specs.Question.{anything}
+use Rattle.making.specs.Making.{Made, Making, columnsOf}
 use Rattle.making.proofs.Making.{some-made, none-made, making-map, making-answer}
 use Rattle.making.proofs.Made.{made-lt}
 use Rattle.outcome.specs.Outcome.{Serves}
@@ -54,7 +53,7 @@ module _ (q f : ℕ) (d : Direction) (u : exponent.Unit) (h : ℕ) (fraction : M
 
 -- for any number that meets x, which asks for so many digits
 module _ (f : ℕ) (d : Direction) (u : exponent.Unit) (h : ℕ) (fraction : Mask) (hc : fraction .care < 2 ^ f) (hv : fraction .value < 2 ^ f) (A : pair.Aligned) (count : ℕ) (x : Mask)
-    (only : OnlyDigits f A count x) where
+    (only : OnlyDigits (columnsOf f A) count x) where
   pub counted-asked : (possible : Bool) (k : exponent.Unit) (m : Mask) (r : Bool) → 0 < count → count ≤ sumBits (A .below) f
       → possible ≡ true → k ≡ roundedUnit (A .below) f count u → m ≡ topped 2 f h fraction
       → ((r ≡ true) ↔ Making f A (λ (n : ℕ). Meets n x × Meets (keptPart (A .below) d n (u .0) (k .0)) m))
@@ -70,8 +69,22 @@ module _ (f : ℕ) (d : Direction) (u : exponent.Unit) (h : ℕ) (fraction : Mas
       ))
       asks
 
--- the word of a number of so many digits with a quotient above the fraction
-pub quotient-asked : (F : Format) (d : Direction) (s : ℕ) (u : exponent.Unit) (A : pair.Aligned) (c : Mask) (count h : ℕ) (x : Mask) → OnlyDigits (F .f) A count x
+-- the word of a number of so many digits, with a quotient above the fraction: where it meets c, by its exponent field and its fraction
+quotient-fields : (q : ℕ) (F : Format) (d : Direction) (s : ℕ) (u : exponent.Unit) (c : Mask) (count h : ℕ) (e : Biased) (so : fractions-of.Fractions)
+    → e ≡ fieldOf (roundedUnit q (F .f) count u) h → Seeks F d s c e so → (n : ℕ) → size n ≡ count → keptOf q (F .f) d n u / 2 ^ F .f ≡ h
+    → Meets (signed F s (boundedHeld q F d n u)) c ↔ ((so .possible ≡ true) × Meets (keptOf q (F .f) d n u % 2 ^ F .f) (so .fraction))
+quotient-fields q F d s u c count h e so ee seeks n es eq = ((λ p. fields .0 (rw word at p)), λ p. rw word (fields .1 p))
+  where
+    t : ℕ
+    t = keptOf q (F .f) d n u % 2 ^ F .f
+
+    fields : Meets (wordOrOverflow F d s e t) c ↔ ((so .possible ≡ true) × Meets t (so .fraction))
+    fields = seeks .meets t (mod-lt (keptOf q (F .f) d n u) (pow-pos (F .f)))
+
+    word : signed F s (boundedHeld q F d n u) ≡ wordOrOverflow F d s e t
+    word = held-word q F d s n u ∙ ap (λ (k : Biased). wordOrOverflow F d s k t) (ap₂ (λ (m k : ℕ). fieldOf (roundedUnit q (F .f) m u) k) es eq ∙ sym ee)
+
+pub quotient-asked : (F : Format) (d : Direction) (s : ℕ) (u : exponent.Unit) (A : pair.Aligned) (c : Mask) (count h : ℕ) (x : Mask) → OnlyDigits (columnsOf (F .f) A) count x
     → (e : Biased) (so : fractions-of.Fractions) (r : Bool) → e ≡ fieldOf (roundedUnit (A .below) (F .f) count u) h → Seeks F d s c e so
     → ((r ≡ true) ↔ Making (F .f) A (λ (n : ℕ). Meets n x × (keptOf (A .below) (F .f) d n u / 2 ^ F .f ≡ h) × (so .possible ≡ true) × Meets (keptOf (A .below) (F .f) d n u % 2 ^ F .f) (so .fraction)))
     → (r ≡ true) ↔ Making (F .f) A (λ (n : ℕ). Meets n x × (keptOf (A .below) (F .f) d n u / 2 ^ F .f ≡ h) × Meets (signed F s (boundedHeld (A .below) F d n u)) c)
@@ -79,32 +92,39 @@ quotient-asked F d s u A c count h x only e so r ee seeks asks =
     making-answer (F .f) A
     (λ (n : ℕ). Meets n x × (keptOf (A .below) (F .f) d n u / 2 ^ F .f ≡ h) × (so .possible ≡ true) × Meets (keptOf (A .below) (F .f) d n u % 2 ^ F .f) (so .fraction))
     (λ (n : ℕ). Meets n x × (keptOf (A .below) (F .f) d n u / 2 ^ F .f ≡ h) × Meets (signed F s (boundedHeld (A .below) F d n u)) c) r
-    (λ n made.
-    let digits : Meets n x → size n ≡ count = only n (made-lt (F .f) A n made) in (
-      (λ p. (p .0, p .1, rw (word n (digits (p .0)) (p .1)) (fields n .1 (p .2, p .3)))),
-      λ p. let k = fields n .0 (rw (word n (digits (p .0)) (p .1)) at (p .2)) in (p .0, p .1, k .0, k .1),
+    (λ n made. (
+      (λ p. (p .0, p .1, fields n made (p .0) (p .1) .1 (p .2, p .3))),
+      λ p. let k = fields n made (p .0) (p .1) .0 (p .2) in (p .0, p .1, k .0, k .1),
     ))
     asks
   where
-    fields : (n : ℕ) → Meets (wordOrOverflow F d s e (keptOf (A .below) (F .f) d n u % 2 ^ F .f)) c ↔ ((so .possible ≡ true) × Meets (keptOf (A .below) (F .f) d n u % 2 ^ F .f) (so .fraction))
-    fields n = seeks .meets (keptOf (A .below) (F .f) d n u % 2 ^ F .f) (mod-lt (keptOf (A .below) (F .f) d n u) (pow-pos (F .f)))
+    fields : (n : ℕ) → Made (F .f) A n → Meets n x → keptOf (A .below) (F .f) d n u / 2 ^ F .f ≡ h
+        → Meets (signed F s (boundedHeld (A .below) F d n u)) c ↔ ((so .possible ≡ true) × Meets (keptOf (A .below) (F .f) d n u % 2 ^ F .f) (so .fraction))
+    fields n made met = quotient-fields (A .below) F d s u c count h e so ee seeks n (only n (made-lt (F .f) A n made) met)
 
-    word : (n : ℕ) → size n ≡ count → keptOf (A .below) (F .f) d n u / 2 ^ F .f ≡ h → signed F s (boundedHeld (A .below) F d n u) ≡ wordOrOverflow F d s e (keptOf (A .below) (F .f) d n u % 2 ^ F .f)
-    word n es eq =
-        held-word (A .below) F d s n u
-        ∙ ap (λ (k : Biased). wordOrOverflow F d s k (keptOf (A .below) (F .f) d n u % 2 ^ F .f)) (ap₂ (λ (m k : ℕ). fieldOf (roundedUnit (A .below) (F .f) m u) k) es eq ∙ sym ee)
+-- a number of so many digits has one of two quotients
+quotients : (q f : ℕ) (d : Direction) (u : exponent.Unit) (least n count : ℕ) → 0 < count → count ≤ sumBits q f → size n ≡ count → least ≡ leastQuotient q f count u
+    → (keptOf q f d n u / 2 ^ f ≡ least) ⊎ (keptOf q f d n u / 2 ^ f ≡ least + 1)
+quotients q f d u least n zero some most digits e = absurd (omega arith)
+quotients q f d u least n (suc m) some most digits e =
+    ⊎-elim
+    (λ l. ⊎-elim (λ z. inl (omega arith)) (λ z. inr (omega arith)) (quotient-low q f d n u m digits most (l .0)))
+    (λ l. ⊎-elim (λ z. inl (omega arith)) (λ z. inr (omega arith)) (quotient-high q f d n u m digits most (l .0)))
+    (least-known q f (suc m) u)
+
+-- so where neither leaves a fraction, its word does not meet c
+pub no-word : (q : ℕ) (F : Format) (d : Direction) (s : ℕ) (u : exponent.Unit) (c : Mask) (count least : ℕ) → 0 < count → count ≤ sumBits q (F .f) → least ≡ leastQuotient q (F .f) count u
+    → (e e′ : Biased) (so so′ : fractions-of.Fractions) → e ≡ fieldOf (roundedUnit q (F .f) count u) least → e′ ≡ fieldOf (roundedUnit q (F .f) count u) (least + 1)
+    → Seeks F d s c e so → Seeks F d s c e′ so′ → so .possible ≡ false → so′ .possible ≡ false
+    → (n : ℕ) → size n ≡ count → Meets (signed F s (boundedHeld q F d n u)) c → ⊥
+no-word q F d s u c count least some most el e e′ so so′ ee ee′ seeks seeks′ out out′ n digits met =
+    ⊎-elim
+    (λ k. false≢true (sym out ∙ quotient-fields q F d s u c count least e so ee seeks n digits k .0 met .0))
+    (λ k. false≢true (sym out′ ∙ quotient-fields q F d s u c count (least + 1) e′ so′ ee′ seeks′ n digits k .0 met .0))
+    (quotients q (F .f) d u least n count some most digits el)
 
 -- the two quotients
-module _ (f : ℕ) (d : Direction) (u : exponent.Unit) (least : ℕ) (A : pair.Aligned) (count : ℕ) (x : Mask) (only : OnlyDigits f A count x) where
-  quotients : (n count : ℕ) → 0 < count → count ≤ sumBits (A .below) f → size n ≡ count → least ≡ leastQuotient (A .below) f count u
-      → (keptOf (A .below) f d n u / 2 ^ f ≡ least) ⊎ (keptOf (A .below) f d n u / 2 ^ f ≡ least + 1)
-  quotients n zero some most digits e = absurd (omega arith)
-  quotients n (suc m) some most digits e =
-      ⊎-elim
-      (λ l. ⊎-elim (λ z. inl (omega arith)) (λ z. inr (omega arith)) (quotient-low (A .below) f d n u m digits most (l .0)))
-      (λ l. ⊎-elim (λ z. inl (omega arith)) (λ z. inr (omega arith)) (quotient-high (A .below) f d n u m digits most (l .0)))
-      (least-known (A .below) f (suc m) u)
-
+module _ (f : ℕ) (d : Direction) (u : exponent.Unit) (least : ℕ) (A : pair.Aligned) (count : ℕ) (x : Mask) (only : OnlyDigits (columnsOf f A) count x) where
   module _ (W : ℕ → Type 0) (some : 0 < count) (most : count ≤ sumBits (A .below) f) (e : least ≡ leastQuotient (A .below) f count u) (r : Bool)
       (asks : (r ≡ true) ↔ Making f A (λ (n : ℕ). Meets n x × (keptOf (A .below) f d n u / 2 ^ f ≡ least) × W n)) where
     pub first-quotient : r ≡ true → (true ≡ true) ↔ Making f A (λ (n : ℕ). Meets n x × W n)
@@ -117,7 +137,7 @@ module _ (f : ℕ) (d : Direction) (u : exponent.Unit) (least : ℕ) (A : pair.A
       λ p. ⊎-elim
           (λ k. absurd (false≢true (sym t ∙ asks .1 (record { x = p .x; made = p .made; holds = (p .holds .0, k, p .holds .1) }))))
           (λ k. asks′ .1 (record { x = p .x; made = p .made; holds = (p .holds .0, k, p .holds .1) }))
-          (quotients (p .x) count some most (only (p .x) (made-lt f A (p .x) (p .made)) (p .holds .0)) e),
+          (quotients (A .below) f d u least (p .x) count some most (only (p .x) (made-lt f A (p .x) (p .made)) (p .holds .0)) e),
     )
 
     -- where none has the next quotient, that is not asked
@@ -147,10 +167,10 @@ module _ (q : ℕ) (F : Format) (mode : ℕ) (like : Bool) (s : ℕ) (u : expone
 module _ (F : Format) (mode s : ℕ) (u : exponent.Unit) (A : pair.Aligned) (T : Target) where
   -- 0 has no dropped bits
   pub zero-asked : (word : ℕ) (x : Mask) (r : Bool) → T .dropped .mask .care ≡ 0 → word ≡ signed F (zeroSign mode (A .like) s) 0 → meets word (T .c) ≡ true
-      → OfDigits (columnsOf (F .f) A) 0 x → ((r ≡ true) ↔ Making (F .f) A (λ (n : ℕ). Meets n x × Meets (keptPart (A .below) TowardZero n 0 0) anything))
+      → OfDigits (columnsOf (F .f) A) 0 x → ((r ≡ true) ↔ Making (F .f) A (λ (n : ℕ). Meets n x × Meets (keptPart (A .below) TowardZero n 0 0) freeMask))
       → (r ≡ true) ↔ Making (F .f) A (λ (n : ℕ). (size n ≡ 0) × Serves F mode s u A T n)
   zero-asked word x r free ew met digits asks =
-      making-answer (F .f) A (λ (n : ℕ). Meets n x × Meets (keptPart (A .below) TowardZero n 0 0) anything) (λ (n : ℕ). (size n ≡ 0) × Serves F mode s u A T n) r
+      making-answer (F .f) A (λ (n : ℕ). Meets n x × Meets (keptPart (A .below) TowardZero n 0 0) freeMask) (λ (n : ℕ). (size n ≡ 0) × Serves F mode s u A T n) r
       (λ n made.
       let g = digits n (made-lt (F .f) A n made) in (
         (λ p.
@@ -171,6 +191,13 @@ module _ (F : Format) (mode s : ℕ) (u : exponent.Unit) (A : pair.Aligned) (T :
       none-made (F .f) A (λ (n : ℕ). (size n ≡ 0) × Serves F mode s u A T n)
       (λ p. ⊎-elim fixed (λ r. omega (arith, r .0 .some, size-none (p .x) .0 (p .holds .0))) (p .holds .1 .drops))
 
+  -- where no word of so many digits meets c, none of these numbers serves
+  pub none-left : (count : ℕ) → 0 < count → (d : Direction) → d ≡ direction mode s → ((n : ℕ) → size n ≡ count → Meets (signed F s (boundedHeld (A .below) F d n u)) (T .c) → ⊥)
+      → (false ≡ true) ↔ Making (F .f) A (λ (n : ℕ). (size n ≡ count) × Serves F mode s u A T n)
+  none-left count some d ed none =
+      none-made (F .f) A (λ (n : ℕ). (size n ≡ count) × Serves F mode s u A T n)
+      (λ p. none (p .x) (p .holds .0) (subst (λ (w : ℕ). Meets w (T .c)) (outcome-some (A .below) F mode (A .like) s u (p .x) (omega (arith, p .holds .0)) ∙ ap (λ (k : Direction). signed F s (boundedHeld (A .below) F k (p .x) u)) (sym ed)) (p .holds .1 .word)))
+
   -- a number of so many digits, not 0, serves exactly in one of the ways that are left
   module _ (valid : ValidDropped (T .dropped)) (count : ℕ) (some : 0 < count) (d : Direction) (ed : d ≡ direction mode s) where
     -- it is in one way, and its word meets c
@@ -185,6 +212,19 @@ module _ (F : Format) (mode s : ℕ) (u : exponent.Unit) (A : pair.Aligned) (T :
     positive : (n : ℕ) → size n ≡ count → 0 < n
     positive zero e = absurd (omega (arith, e, size-zero))
     positive (suc n) e = omega arith
+
+    -- where none of the dropped bits is fixed the digits and the word are all
+    pub free-serves : T .dropped .mask .care ≡ 0 → (x : Mask) → OfDigits (columnsOf (F .f) A) count x
+        → (r : Bool) → ((r ≡ true) ↔ Making (F .f) A (λ (n : ℕ). Meets n x × Meets (signed F s (boundedHeld (A .below) F d n u)) (T .c)))
+        → (r ≡ true) ↔ Making (F .f) A (λ (n : ℕ). (size n ≡ count) × Serves F mode s u A T n)
+    free-serves none x digits r asks =
+        making-answer (F .f) A (λ (n : ℕ). Meets n x × Meets (signed F s (boundedHeld (A .below) F d n u)) (T .c)) (λ (n : ℕ). (size n ≡ count) × Serves F mode s u A T n) r
+        (λ n made.
+        let g = digits n (made-lt (F .f) A n made) in (
+          (λ p. let e = g .0 (p .0) in (e, record { word = rw (word-is n e) (p .1); drops = inl none })),
+          λ p. (g .1 (p .0), rw (word-is n (p .0)) at (p .1 .word)),
+        ))
+        asks
 
     pub in-one-serves : (t n : ℕ) → t < waysAt (A .below) (F .f) u (T .dropped) count → InOne t n → (size n ≡ count) × Serves F mode s u A T n
     in-one-serves t n lt p = (

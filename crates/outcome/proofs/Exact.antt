@@ -17,7 +17,7 @@ use Rattle.rounding.proofs.RoundOff.{round-off-exact}
 use Rattle.rounding.specs.Width.{alignedBits, sumBits}
 use Rattle.rounding.specs.Outcome.{keptOf}
 use Rattle.making.specs.declared.Aligned as pair
-use Rattle.making.specs.Making.{Made, Making, mostDigits, Formed}
+use Rattle.making.specs.Making.{Made, Making, mostDigits, Formed, columnsOf}
 use Rattle.making.proofs.Zeros.{zeros-below}
 use Rattle.making.proofs.Making.{making-answer}
 use Rattle.making.proofs.Made.{made-lt}
@@ -74,7 +74,7 @@ module _ (f : ℕ) (d e : Direction) (u : exponent.Unit) (A : pair.Aligned) (N :
   Keeps x way h possible fraction n =
       Meets n x × (keptOf (A .below) f way n u / 2 ^ f ≡ h) × (possible ≡ true) × Meets (keptOf (A .below) f way n u % 2 ^ f) fraction
 
-  pub alike-asked : (x : Mask) → OnlyDigits f A N x → (h : ℕ) (possible : Bool) (fraction : Mask) (r : Bool)
+  pub alike-asked : (x : Mask) → OnlyDigits (columnsOf f A) N x → (h : ℕ) (possible : Bool) (fraction : Mask) (r : Bool)
       → ((r ≡ true) ↔ Making f A (Keeps x d h possible fraction)) → (r ≡ true) ↔ Making f A (Keeps x e h possible fraction)
   alike-asked x only h possible fraction r asks =
       making-answer f A (Keeps x d h possible fraction) (Keeps x e h possible fraction) r

@@ -16,7 +16,7 @@ use lib.Pow.{pow-pos, pow-add, split, high, low}
 use Rattle.format.specs.declared.Format.{Format}
 use Rattle.mask.specs.declared.Mask.{Mask}
 use Rattle.mask.specs.Mask as mask
-use Rattle.mask.specs.Mask.{Meets}
+use Rattle.mask.specs.Mask.{Meets, freeMask}
 use Rattle.mask.proofs.ByParts.{meets-parts}
 use Rattle.mask.proofs.Checks.{meets-true}
 use Rattle.word.specs.declared.Biased.{Biased}
@@ -25,7 +25,6 @@ use Rattle.word.specs.declared.Unit as exponent
 use Rattle.word.specs.Word.{fieldOf, allOnes, signed, infinityWord}
 use Rattle.rounding.specs.Rounding.{overflowWord}
 use Rattle.rounding.specs.Outcome.{roundedUnit, keptOf, heldWord, boundedHeld}
-use Rattle.making.specs.Question.{anything}
 use Rattle.outcome.specs.Question.{wordOrOverflow, Seeks}
 
 -- k and a part Y make the exponent field k + Y / 2^f and the fraction Y % 2^f
@@ -107,7 +106,7 @@ module _ (F : Format) (d : Direction) (s : ℕ) (e : Biased) (c : Mask) (possibl
         );
   }
 
-  pub past-seeks : allOnes F ≤ e .0 → possible ≡ mask.meets (signed F s (overflowWord F d)) c → fraction ≡ anything
+  pub past-seeks : allOnes F ≤ e .0 → possible ≡ mask.meets (signed F s (overflowWord F d)) c → fraction ≡ freeMask
       → Seeks F d s c e (record { possible = possible; fraction = fraction })
   past-seeks h p q = record {
     care-lt = rw q (pow-pos (F .f));

@@ -11,10 +11,9 @@ use lib.Ieee.{size}
 use lib.Ieee.Digits.{size-lt, size-reaches}
 use lib.Pow.{pow-pos, high, low, shr-lt}
 use Rattle.mask.specs.declared.Mask.{Mask}
-use Rattle.mask.specs.Mask.{Meets}
+use Rattle.mask.specs.Mask.{Meets, freeMask}
 use Rattle.mask.proofs.ByParts.{meets-parts}
 use Rattle.rounding.proofs.Size.{size-zero, size-between}
-use Rattle.making.specs.Question.{anything}
 use Rattle.making.proofs.Zeros.{and-ones}
 use Rattle.outcome.specs.Question.{topped, OfDigits, UnderPower}
 
@@ -61,24 +60,24 @@ size-none x = (
 pub digits-none : (n : ℕ) → OfDigits n 0 (record { care = 2 ^ n - 1; value = 0 })
 digits-none n x h = ((λ met. size-none x .1 (sym (and-ones n x h) ∙ met)), λ e. and-ones n x h ∙ size-none x .0 e)
 
-pub digits-some : (r k : ℕ) → OfDigits (suc r + k) (suc k) (topped (suc r) k 1 anything)
+pub digits-some : (r k : ℕ) → OfDigits (suc r + k) (suc k) (topped (suc r) k 1 freeMask)
 digits-some r k x h =
-    let top = topped-meets (suc r) k 1 x anything (pow-pos k) (pow-pos k) h in (
+    let top = topped-meets (suc r) k 1 x freeMask (pow-pos k) (pow-pos k) h in (
       (λ met. size-quotient x k .1 (top .0 met .0)),
       λ e. top .1 (size-quotient x k .0 e, and-zero-r (x % 2 ^ k)),
     )
 
 -- the same for numbers that the code forms
-pub digits-of : (n count r k : ℕ) → n ≡ suc r + k → count ≡ suc k → (a b : ℕ) → a ≡ suc r → b ≡ k → OfDigits n count (topped a b 1 anything)
+pub digits-of : (n count r k : ℕ) → n ≡ suc r + k → count ≡ suc k → (a b : ℕ) → a ≡ suc r → b ≡ k → OfDigits n count (topped a b 1 freeMask)
 digits-of n count r k en ec a b ea eb = rw (en, ec, ea, eb) (digits-some r k)
 
 -- the mask of the numbers below 2^k
-pub below-power : (n r k : ℕ) → n ≡ r + k → UnderPower n k (topped r k 0 anything)
+pub below-power : (n r k : ℕ) → n ≡ r + k → UnderPower n k (topped r k 0 freeMask)
 below-power n r k e = rw e meets
   where
-    meets : (x : ℕ) → x < 2 ^ (r + k) → Meets x (topped r k 0 anything) ↔ (x < 2 ^ k)
+    meets : (x : ℕ) → x < 2 ^ (r + k) → Meets x (topped r k 0 freeMask) ↔ (x < 2 ^ k)
     meets x h =
-        let top = topped-meets r k 0 x anything (pow-pos k) (pow-pos k) h in (
+        let top = topped-meets r k 0 x freeMask (pow-pos k) (pow-pos k) h in (
           (λ met. let q = div-lt-iff-lt-mul {k = 2 ^ k} {x = x} {y = 1} (pow-pos k) .0 (omega (arith, top .0 met .0)) in omega arith),
           λ l. top .1 (div-eq-of-lt l, and-zero-r (x % 2 ^ k)),
         )

@@ -16,7 +16,7 @@ use Rattle.bits.proofs.Division.{mod-scale}
 use Rattle.bits.proofs.Laws.{bit-mod}
 use Rattle.format.specs.declared.Format.{Format}
 use Rattle.mask.specs.declared.Mask.{Mask}
-use Rattle.mask.specs.Mask.{WellFormed, Meets, low, high, raised}
+use Rattle.mask.specs.Mask.{WellFormed, Meets, low, high, raised, freeMask}
 use Rattle.mask.proofs.ByParts.{meets-parts, meets-within, high-formed}
 use Rattle.job.specs.declared.Dropped.{Dropped}
 use Rattle.job.specs.Dropped.{ValidDropped}
@@ -26,7 +26,7 @@ use Rattle.rounding.specs.Dropped.{sticky, withSticky, droppedWord}
 use Rattle.rounding.specs.Width.{alignedBits}
 use Rattle.rounding.proofs.Size.{size-top}
 use Rattle.rounding.proofs.Sticky.{sticky-zero, sticky-one, sticky-lt, with-sticky-scale, with-sticky-none}
-use Rattle.making.specs.Question.{anything, oneBit}
+use Rattle.making.specs.Question.{oneBit}
 use Rattle.making.proofs.Rounds.{quotient-meets, zeros-meets}
 use Rattle.making.proofs.Last.{one-meets}
 use Rattle.outcome.specs.Ways.{waysOf, upperOf, lowerOf, waysAt, InWay}
@@ -146,7 +146,7 @@ module _ (D : Dropped) (j : ℕ) where
     unfolding upperOf
     upper-near = rw (le-leb j (D .g + 1) h)
 
-    pub lower-near : (t : ℕ) → lowerOf D j t ≡ anything
+    pub lower-near : (t : ℕ) → lowerOf D j t ≡ freeMask
     unfolding lowerOf
     lower-near t = rw (le-leb j (D .g + 1) h)
 
@@ -280,10 +280,10 @@ module _ (D : Dropped) (valid : ValidDropped D) where
       v : D .mask .value ≡ 0
       v = free-value z
 
-      moved : (k : ℕ) → high k (D .mask) ≡ anything
+      moved : (k : ℕ) → high k (D .mask) ≡ freeMask
       moved k = ap₂ (λ (a b : ℕ). record { care = a / 2 ^ k; value = b / 2 ^ k }) z v ∙ ap₂ (λ (a b : ℕ). record { care = a; value = b }) (zero-div (2 ^ k)) (zero-div (2 ^ k))
 
-      nothing : raised (j - D .g) anything ≡ anything
+      nothing : raised (j - D .g) freeMask ≡ freeMask
       nothing = ap₂ (λ (a b : ℕ). record { care = a; value = b }) (zero-mul (2 ^ (j - D .g))) (zero-mul (2 ^ (j - D .g)))
 
       even : D .mask .value % 2 ≡ 1 → ⊥

@@ -21,7 +21,7 @@ use Rattle.rounding.specs.Width.{alignedBits}
 use Rattle.rounding.specs.Sticky.{keptPart}
 use Rattle.rounding.specs.Outcome.{keptOf}
 use Rattle.making.specs.declared.Aligned as pair
-use Rattle.making.specs.Making.{Made, Making, columnsOf}
+use Rattle.making.specs.Making.{Made, Making}
 use Rattle.outcome.specs.declared.Target.{Target}
 use Rattle.outcome.specs.declared.sought.Fractions as fractions-of
 use Rattle.outcome.specs.declared.subnormal.Known as reply
@@ -44,9 +44,9 @@ NextQuotient f d u A N = Making f A (λ (x : ℕ). (size x ≡ N) × (keptOf (A 
 abbrev pub KeepAlike : ℕ → way.Direction → way.Direction → exponent.Unit → pair.Aligned → ℕ → Type 0
 KeepAlike f d e u A N = (x : ℕ) → Made f A x → size x ≡ N → keptOf (A .below) f d x u ≡ keptOf (A .below) f e x u
 
--- only numbers of N digits meet x, of those that fit the columns
-abbrev pub OnlyDigits : ℕ → pair.Aligned → ℕ → Mask → Type 0
-OnlyDigits f A N x = (n : ℕ) → n < 2 ^ columnsOf f A → Meets n x → size n ≡ N
+-- only numbers of N digits meet m, of those of n bits
+abbrev pub OnlyDigits : ℕ → ℕ → Mask → Type 0
+OnlyDigits n N m = (x : ℕ) → x < 2 ^ n → Meets x m → size x ≡ N
 
 -- m is met by exactly those numbers of n bits that have N binary digits
 abbrev pub OfDigits : ℕ → ℕ → Mask → Type 0

@@ -8,11 +8,11 @@ use Prim.Native.Nat.{ℕ, _+_, _-_, _*_, _%_, _^_, _<_}
 use lib.Dec.{eqb, leb, ltb}
 use lib.Ieee.{size}
 use Rattle.mask.specs.declared.Mask.{Mask}
-use Rattle.mask.specs.Mask.{Meets, high, raised, pickMask}
+use Rattle.mask.specs.Mask.{Meets, high, raised, pickMask, freeMask}
 use Rattle.job.specs.declared.Dropped.{Dropped}
 use Rattle.word.specs.declared.Unit as exponent
 use Rattle.rounding.specs.Width.{alignedBits}
-use Rattle.making.specs.Question.{anything, oneBit}
+use Rattle.making.specs.Question.{oneBit}
 
 -- in how many ways, for a number that has j bits below the last kept one: with no more than g + 1 of them they are the upper bits of the
 -- mask, and zeros stand below; with more of them the lowest j - g are told by the sticky bit
@@ -27,7 +27,7 @@ upperOf D j = pickMask (leb j (D .g + 1)) (high (D .g + 1 - j) (D .mask)) (raise
 -- and the sticky bit, in the way t: a bit that is 1, or all of them 0 where it is fixed
 unfoldable pub lowerOf : Dropped → ℕ → ℕ → Mask
 lowerOf D j t =
-    pickMask (leb j (D .g + 1)) anything
+    pickMask (leb j (D .g + 1)) freeMask
     (pickMask (eqb (D .mask .value % 2) 1) (oneBit t 1) (record { care = (2 ^ (j - D .g) - 1) * (D .mask .care % 2); value = 0 }))
 
 -- n meets both

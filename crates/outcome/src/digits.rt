@@ -20,7 +20,7 @@ use word::pack::signed;
 ghost use mathlib.Core.Bool.{true, false};
 ghost use mathlib.Core.Logic.{_↔_};
 ghost use mathlib.Core.Path.{_≡_};
-ghost use Prim.Native.Nat.{ℕ, _+_, _/_, _%_, _^_, _≤_, _<_};
+ghost use Prim.Native.Nat.{ℕ, _/_, _%_, _^_, _≤_, _<_};
 ghost use lib.Ieee.{size};
 ghost use Rattle.format.specs.Format.{Supported};
 ghost use Rattle.format.specs.Limits.{mostDropped};
@@ -102,7 +102,7 @@ fn rounds_to(
     quotient: u64,
     fractions: Fractions,
 ) -> bool
-    requires { ⌜ Room f aligned × (unit .0 < 2 ^ 63) × (0 < count) × (count ≤ columnsOf f aligned) × (quotient < 4) × (fractions .fraction .care < 2 ^ f) × (fractions .fraction .value < 2 ^ f) × (aligned .reversed ≡ true → direction ≡ TowardZero) × OnlyDigits f aligned count x ⌝ }
+    requires { ⌜ Room f aligned × (unit .0 < 2 ^ 63) × (0 < count) × (count ≤ columnsOf f aligned) × (quotient < 4) × (fractions .fraction .care < 2 ^ f) × (fractions .fraction .value < 2 ^ f) × (aligned .reversed ≡ true → direction ≡ TowardZero) × OnlyDigits (columnsOf f aligned) count x ⌝ }
     ensures { λ r. ⌜ (Formed f aligned → (r ≡ true) ↔ Making f aligned (λ (n : ℕ). Meets n x × (keptOf (aligned .below) f direction n unit / 2 ^ f ≡ quotient) × (fractions .possible ≡ true) × Meets (keptOf (aligned .below) f direction n unit % 2 ^ f) (fractions .fraction))) ⌝ }
 {
     if !fractions.possible {
@@ -127,7 +127,7 @@ fn at_quotient(
     x: Mask,
     quotient: u64,
 ) -> bool
-    requires { ⌜ InFormat format sign unit × Room (format .f) aligned × (0 < count) × (count ≤ columnsOf (format .f) aligned) × (quotient < 4) × (Formed (format .f) aligned → KeepAlike (format .f) asked direction unit aligned count) × (aligned .reversed ≡ true → asked ≡ TowardZero) × OnlyDigits (format .f) aligned count x ⌝ }
+    requires { ⌜ InFormat format sign unit × Room (format .f) aligned × (0 < count) × (count ≤ columnsOf (format .f) aligned) × (quotient < 4) × (Formed (format .f) aligned → KeepAlike (format .f) asked direction unit aligned count) × (aligned .reversed ≡ true → asked ≡ TowardZero) × OnlyDigits (columnsOf (format .f) aligned) count x ⌝ }
     ensures { λ r. ⌜ (Formed (format .f) aligned → (r ≡ true) ↔ Making (format .f) aligned (λ (n : ℕ). Meets n x × (keptOf (aligned .below) (format .f) direction n unit / 2 ^ format .f ≡ quotient) × Meets (signed format sign (boundedHeld (aligned .below) format direction n unit)) c)) ⌝ }
 {
     let f = format.f;
@@ -145,7 +145,7 @@ fn may_carry(f: u64, direction: Direction, aligned: Aligned, count: u64) -> bool
     match direction {
         Direction::TowardZero => false,
         Direction::NearestEven | Direction::NearestAway | Direction::Away => {
-            count != columns(aligned, f)
+            count != columns(aligned.like, aligned.below, f)
         }
     }
 }
@@ -161,7 +161,7 @@ fn at_count(
     count: u64,
     x: Mask,
 ) -> bool
-    requires { ⌜ InFormat format sign unit × Room (format .f) aligned × (0 < count) × (count ≤ columnsOf (format .f) aligned) × OnlyDigits (format .f) aligned count x ⌝ }
+    requires { ⌜ InFormat format sign unit × Room (format .f) aligned × (0 < count) × (count ≤ columnsOf (format .f) aligned) × OnlyDigits (columnsOf (format .f) aligned) count x ⌝ }
     ensures { λ r. ⌜ (Formed (format .f) aligned → (r ≡ true) ↔ Making (format .f) aligned (λ (n : ℕ). Meets n x × Meets (signed format sign (boundedHeld (aligned .below) format direction n unit)) c)) ⌝ }
 {
     let f = format.f;
@@ -201,7 +201,7 @@ fn at_zero(format: Format, mode: u64, sign: u64, aligned: Aligned, target: Targe
         target.c,
         signed(format, zero_sign(mode, aligned.like, sign), 0),
     ) {
-        let x = masks::digits(columns(aligned, format.f), 0);
+        let x = masks::digits(columns(aligned.like, aligned.below, format.f), 0);
         let any = Mask { care: 0, value: 0 };
         return rounds_at(
             aligned,
@@ -216,7 +216,34 @@ fn at_zero(format: Format, mode: u64, sign: u64, aligned: Aligned, target: Targe
     false
 }
 
-// Whether they make a number of so many digits, not 0, that serves: for each way in which it may have the dropped bits.
+// Whether they make a number of so many digits, not 0, that serves, where dropped bits are fixed: for each way in which it may have them.
+fn some_way(
+    format: Format,
+    mode: u64,
+    sign: u64,
+    unit: Unit,
+    aligned: Aligned,
+    target: Target,
+    count: u64,
+) -> bool
+    requires { ⌜ InFormat format sign unit × Room (format .f) aligned × (target .dropped .g ≤ mostDropped) × (0 < count) × (count ≤ columnsOf (format .f) aligned) ⌝ }
+    ensures { λ r. ⌜ (Formed (format .f) aligned → ValidDropped (target .dropped) → (r ≡ true) ↔ Making (format .f) aligned (λ (x : ℕ). (size x ≡ count) × Serves format mode sign unit aligned target x)) ⌝ }
+{
+    let last = columns(aligned.like, aligned.below, format.f);
+    let direction = direction(mode, sign);
+    let ways = ways_at(aligned.below, format.f, unit, target.dropped, count);
+    let mut way = 0;
+    while way < ways {
+        let x = numbers(last, format.f, target.dropped, count, way);
+        if at_count(format, direction, sign, unit, aligned, target.c, count, x) {
+            return true;
+        }
+        way += 1;
+    }
+    false
+}
+
+// Whether they make a number of so many digits, not 0, that serves.
 fn at_digits(
     format: Format,
     mode: u64,
@@ -229,17 +256,41 @@ fn at_digits(
     requires { ⌜ InFormat format sign unit × Room (format .f) aligned × (target .dropped .g ≤ mostDropped) × (0 < count) × (count ≤ columnsOf (format .f) aligned) ⌝ }
     ensures { λ r. ⌜ (Formed (format .f) aligned → ValidDropped (target .dropped) → (r ≡ true) ↔ Making (format .f) aligned (λ (x : ℕ). (size x ≡ count) × Serves format mode sign unit aligned target x)) ⌝ }
 {
-    let direction = direction(mode, sign);
-    let ways = ways_at(aligned, format.f, unit, target.dropped, count);
-    let mut way = 0;
-    while way < ways {
-        let x = numbers(aligned, format.f, target.dropped, count, way);
-        if at_count(format, direction, sign, unit, aligned, target.c, count, x) {
-            return true;
-        }
-        way += 1;
+    let fixed = target.dropped.mask.care;
+    if fixed != 0 {
+        return some_way(format, mode, sign, unit, aligned, target, count);
     }
-    false
+    let x = masks::digits(columns(aligned.like, aligned.below, format.f), count);
+    let direction = direction(mode, sign);
+    at_count(format, direction, sign, unit, aligned, target.c, count, x)
+}
+
+// Whether a number of so many digits may have a word that meets c: for either quotient, by its exponent field. Where c fixes nothing above
+// the fraction it may.
+fn word_left(
+    format: Format,
+    direction: Direction,
+    sign: u64,
+    unit: Unit,
+    below: u64,
+    c: Mask,
+    count: u64,
+) -> bool
+    requires { ⌜ InFormat format sign unit × (alignedBits below (format .f) < 64) × (0 < count) × (count ≤ sumBits below (format .f)) × (count < 64) ⌝ }
+    ensures { λ r. ⌜ (r ≡ false → (x : ℕ) → size x ≡ count → Meets (signed format sign (boundedHeld below format direction x unit)) c → ⊥) ⌝ }
+{
+    let above = mask::high(c, format.f);
+    if above.care == 0 {
+        return true;
+    }
+    let least = least_quotient(format.f, below, unit, count);
+    let rounded = rounded_unit(format.f, below, count, unit);
+    let first = sought(format, direction, sign, c, field_of(rounded, least));
+    if first.possible {
+        return true;
+    }
+    let next = sought(format, direction, sign, c, field_of(rounded, least + 1));
+    next.possible
 }
 
 // Whether they make a number of so many digits that serves.
@@ -257,6 +308,18 @@ pub(crate) fn fits(
 {
     if count == 0 {
         return at_zero(format, mode, sign, aligned, target);
+    }
+    let direction = direction(mode, sign);
+    if !word_left(
+        format,
+        direction,
+        sign,
+        unit,
+        aligned.below,
+        target.c,
+        count,
+    ) {
+        return false;
     }
     at_digits(format, mode, sign, unit, aligned, target, count)
 }

@@ -3,8 +3,6 @@
 use crate::masks::digits;
 use bits::minus;
 use job::Dropped;
-use making::Aligned;
-use making::columns;
 use making::masks::both;
 use making::masks::raised;
 use mask::Mask;
@@ -14,7 +12,7 @@ ghost use mathlib.Core.Path.{_≡_};
 ghost use Prim.Native.Nat.{_+_, _-_, _^_, _≤_, _<_};
 ghost use Rattle.format.specs.Limits.{mostDropped};
 ghost use Rattle.job.specs.Dropped.{ValidDropped};
-ghost use Rattle.making.specs.Making.{columnsOf, Room};
+ghost use Rattle.rounding.specs.Width.{alignedBits};
 ghost use Rattle.outcome.specs.Question.{OnlyDigits};
 ghost use Rattle.outcome.specs.Ways.{waysOf, upperOf, lowerOf, waysAt, OfWay};
 
@@ -72,26 +70,26 @@ fn lower(dropped: Dropped, j: u64, way: u64) -> Mask
 
 // In how many ways a number of so many digits may have dropped bits as they are wanted: in one where none is fixed, in none below the
 // smallest normal number.
-pub(crate) fn ways_at(aligned: Aligned, f: u64, unit: Unit, dropped: Dropped, count: u64) -> u64
-    requires { ⌜ Room f aligned × (dropped .g ≤ mostDropped) × (unit .0 < 2 ^ 63) × (count < 64) ⌝ }
-    ensures { λ r. ⌜ r ≡ waysAt (aligned .below) f unit dropped count ⌝ }
+pub(crate) fn ways_at(below: u64, f: u64, unit: Unit, dropped: Dropped, count: u64) -> u64
+    requires { ⌜ (alignedBits below f < 64) × (dropped .g ≤ mostDropped) × (unit .0 < 2 ^ 63) × (count < 64) ⌝ }
+    ensures { λ r. ⌜ r ≡ waysAt below f unit dropped count ⌝ }
 {
     if dropped.mask.care == 0 {
         return 1;
     }
-    if count + unit.0 < f + (1 + aligned.below) {
+    if count + unit.0 < f + (1 + below) {
         return 0;
     }
     ways(dropped, minus(count, f + 1))
 }
 
-// The mask of the numbers of so many digits in one of these ways.
-pub(crate) fn numbers(aligned: Aligned, f: u64, dropped: Dropped, count: u64, way: u64) -> Mask
-    requires { ⌜ Room f aligned × (dropped .g ≤ mostDropped) × (count ≤ columnsOf f aligned) × ((dropped .mask .care ≡ 0 → ⊥) → way < waysOf dropped (count - (f + 1))) ⌝ }
-    ensures only { λ r. ⌜ OnlyDigits f aligned count r ⌝ }
-    ensures exact { λ r. ⌜ (ValidDropped dropped → OfWay (columnsOf f aligned) count dropped (count - (f + 1)) way r) ⌝ }
+// The mask of the numbers of so many digits in one of these ways, among those that fit the columns.
+pub(crate) fn numbers(columns: u64, f: u64, dropped: Dropped, count: u64, way: u64) -> Mask
+    requires { ⌜ (columns < 64) × (f < 64) × (dropped .g ≤ mostDropped) × (count ≤ columns) × ((dropped .mask .care ≡ 0 → ⊥) → way < waysOf dropped (count - (f + 1))) ⌝ }
+    ensures only { λ r. ⌜ OnlyDigits columns count r ⌝ }
+    ensures exact { λ r. ⌜ (ValidDropped dropped → OfWay columns count dropped (count - (f + 1)) way r) ⌝ }
 {
-    let all = digits(columns(aligned, f), count);
+    let all = digits(columns, count);
     if dropped.mask.care == 0 {
         return all;
     }

@@ -81,7 +81,7 @@ fn some_from(
     requires { ⌜ InFormat format sign unit × Room (format .f) aligned × (target .dropped .g ≤ mostDropped) ⌝ }
     ensures { λ r. ⌜ (Formed (format .f) aligned → ValidDropped (target .dropped) → (r ≡ true) ↔ Making (format .f) aligned (λ (x : ℕ). (first ≤ size x) × Serves format mode sign unit aligned target x)) ⌝ }
 {
-    let last = columns(aligned, format.f);
+    let last = columns(aligned.like, aligned.below, format.f);
     let mut count = first;
     while count <= last {
         if fits(format, mode, sign, unit, aligned, target, count) {
@@ -123,7 +123,7 @@ pub fn admits(
     aligned: Aligned,
     target: Target,
 ) -> bool
-    ensures in_format { λ r. ⌜ (r ≡ true → InFormat format sign unit) ⌝ }
+    ensures in_format { λ r. ⌜ (r ≡ true → InFormat format sign unit × Room (format .f) aligned) ⌝ }
     ensures exact { λ r. ⌜ (InFormat format sign unit → Formed (format .f) aligned → ValidDropped (target .dropped) → (r ≡ true) ↔ Admits format mode sign unit aligned target) ⌝ }
 {
     if format::format_cause(format) != 0 {
@@ -138,7 +138,7 @@ pub fn admits(
     if MOST_DROPPED < target.dropped.g {
         return false;
     }
-    if !roomy(aligned, format.f) {
+    if !roomy(aligned.like, aligned.below, format.f) {
         return false;
     }
     some_count(format, mode, sign, unit, aligned, target)

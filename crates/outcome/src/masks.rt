@@ -33,7 +33,7 @@ pub(crate) fn digits(n: u64, count: u64) -> Mask
 }
 
 // The mask of the numbers of n bits that are below 2^k.
-pub(crate) fn below(n: u64, k: u64) -> Mask
+pub(crate) fn under_power(n: u64, k: u64) -> Mask
     requires { ⌜ (n < 64) × (k ≤ n) ⌝ }
     ensures { λ r. ⌜ UnderPower n k r ⌝ }
 {

@@ -25,7 +25,7 @@ ghost use Rattle.making.specs.Making.{Making, Room, Formed};
 ghost use Rattle.outcome.specs.Outcome.{InFormat};
 ghost use Rattle.outcome.specs.Question.{subnormalWord, Tells};
 
-// What is known of the numbers whose words meet c: one is made, or they have so many digits at least.
+// What is known of the numbers that serve: one is made, or they have so many digits at least.
 pub enum Known {
     Found,
     AtLeast(u64),
@@ -42,7 +42,7 @@ fn subnormal(format: Format, sign: u64, unit: Unit, aligned: Aligned, c: Mask, s
     if !fractions.possible {
         return false;
     }
-    let x = masks::below(columns(aligned, f), small);
+    let x = masks::under_power(columns(aligned.like, aligned.below, f), small);
     rounds_at(
         aligned,
         f,

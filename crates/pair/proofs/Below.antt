@@ -1,19 +1,16 @@
 -- How many bits stand below the larger significand: enough to tell the wanted ones apart, and few enough for a word of 64 bits. The dropped
 -- bits of two finite operands are then those of what their aligned significands make. Assumes nothing.
-use mathlib.Core.Path.{_≡_, sym, ap, _∙_, subst}
+use mathlib.Core.Path.{_≡_, sym, subst}
 use mathlib.Core.Bool.{Bool, true, false, true≢false}
 use mathlib.Core.Logic.{inl, inr, ⊎-elim}
 use Prim.Native.Nat.{ℕ, _+_, _≤_, _<_}
 use native.Mathlib.Decide.{decLt, decLe, ℕ-discrete}
 use native.Mathlib.Omega.{arith}
-use lib.Bits.{bitAnd, and-zero-r}
 use lib.Dec.{eqb}
 use lib.Ieee.{size}
 use Rattle.format.specs.declared.Format.{Format}
 use Rattle.format.specs.Format.{Supported, precision}
 use Rattle.format.proofs.Room.{significand-room}
-use Rattle.mask.specs.declared.Mask.{Mask}
-use Rattle.mask.specs.Mask.{Inside}
 use Rattle.job.specs.declared.Dropped.{Dropped}
 use Rattle.job.specs.Dropped.{ValidDropped}
 use Rattle.job.specs.Guards.{guardsOf}
@@ -32,6 +29,7 @@ use Rattle.adder.specs.declared.Below.the-variants.{Bits, NoBits}
 use Rattle.adder.specs.Below.{finiteBelow}
 use Rattle.adder.proofs.Aligned.{makes, below-bits, below-none}
 use Rattle.fit.specs.Fit.{BelowMeets}
+use Rattle.fit.proofs.Laws.{unfixed-met}
 use Rattle.outcome.specs.Outcome.{DropsAs}
 use Rattle.pair.specs.Pair.{bitsBelow}
 
@@ -57,11 +55,6 @@ below-room F ok D valid like =
       few = omega (arith, g .most, guards-most D valid);
       short = omega (arith, g .most, guards-most D valid, significand-room F ok);
     }
-
--- a mask that fixes nothing is met by all
-free-met : (m : Mask) → Inside m → m .care ≡ 0 → (b : below.Below) → BelowMeets b m
-free-met m inside z (Bits r) = ap (bitAnd r) z ∙ and-zero-r r ∙ sym (sym inside ∙ ap (bitAnd (m .value)) z ∙ and-zero-r (m .value))
-free-met m inside z NoBits = z
 
 -- a magnitude is at least the smallest normal one, or not
 normal-dec : (q f : ℕ) (u : exponent.Unit) (x : ℕ) → Dec (NormalAt q f u x)
@@ -105,5 +98,5 @@ module _ (F : Format) (x y : record-of.Finite) (units : unitOf (y .exponent) .0 
   drops-back drops = go (ℕ-discrete (D .mask .care) 0)
     where
       go : Dec (D .mask .care ≡ 0) → BelowMeets (finiteBelow F (D .g) x y) (D .mask)
-      go (yes z) = free-met (D .mask) (valid .mask .inside) z (finiteBelow F (D .g) x y)
+      go (yes z) = unfixed-met (finiteBelow F (D .g) x y) (D .mask) (valid .mask .inside) z
       go (no fixed) = ⊎-elim (λ z. absurd (fixed z)) (λ p. subst (λ (b : below.Below). BelowMeets b (D .mask)) (sym (bits fixed (p .0))) (p .1)) drops

@@ -36,16 +36,16 @@ fn reversed(x: Side, y: Side) -> bool
     y.lhs & ((x.exponent.0 == y.exponent.0) & (x.sign != y.sign))
 }
 
-// How many bits stand below the larger significand's last one: one more than the job tells apart in a sum, two more in a difference; 0 for a
-// g above its limit, so that no sum wraps.
+// How many bits stand below the larger significand's last one: one more than the job tells apart in a sum, two more in a difference; 0 where
+// it would tell more apart than a job can, so that no sum wraps.
 fn bits_below(dropped: Dropped, like: bool) -> u64
     ensures { λ r. ⌜ (ValidDropped dropped → r ≡ bitsBelow (guardsOf dropped) like) ⌝ }
 {
-    let g = guards(dropped);
-    if MOST_DROPPED < g {
+    let apart = guards(dropped);
+    if MOST_DROPPED < apart {
         return 0;
     }
-    if like { g + 1 } else { g + 2 }
+    if like { apart + 1 } else { apart + 2 }
 }
 
 // Whether two operands, x the larger, sum as the job asks.

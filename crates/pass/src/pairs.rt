@@ -36,7 +36,7 @@ pub struct Pass {
 }
 
 // The masks on the exponent fields, one past the last field, the first from 1 on that meets a's mask, whether signs are left for finite
-// operands, whether c may be a zero, and one past the fields that the classes of pairs answer for.
+// operands, whether c may be a zero, which has no dropped bits, and one past the fields that the classes of pairs answer for.
 fn pass_of(job: Job) -> Pass
     requires { ⌜ Supported (job .setting .format) ⌝ }
     ensures { λ r. ⌜ (r .past .0 ≡ 2 ^ job .setting .format .w) × (Valid job → PassOf job r) ⌝ }
@@ -51,7 +51,9 @@ fn pass_of(job: Job) -> Pass
         past: Biased(power(format.w)),
         first: Biased(met_from(format.w, a, 1)),
         signs: signs_left(job),
-        zero: meets(c, 0) & meets(fraction_mask(format, job.c.mask), 0),
+        zero: meets(c, 0)
+            & meets(fraction_mask(format, job.c.mask), 0)
+            & (job.dropped.mask.care == 0),
         end: class_end(job),
     }
 }

@@ -53,8 +53,8 @@ fn with(entry: Entry, g: u64, care: u64, value: u64) -> Entry {
 
 // The same in writing: the longest records, in buffers that are long enough and a byte short; a g that is not written; the refusals.
 pub(crate) fn written() {
-    let narrow = writing::longest(3, 4);
-    let wide = writing::longest(11, 52);
+    let narrow = writing::masked(3, 4);
+    let wide = writing::masked(11, 52);
     writing::show(with(narrow, 8, 0x1ff, 0x101), 50);
     writing::show(with(narrow, 8, 0x1ff, 0x101), 49);
     writing::show(with(wide, 8, 0x1ff, 0x101), 90);

@@ -113,7 +113,7 @@ fn free() -> Mask {
 }
 
 // An entry with every field but that of the dropped bits, and one with none, but perhaps the care of the carries and a random word.
-pub(crate) fn longest(w: u64, f: u64) -> Entry {
+pub(crate) fn masked(w: u64, f: u64) -> Entry {
     entry(
         sized(w, f),
         1,
@@ -128,12 +128,13 @@ pub(crate) fn shortest(carries: u64, r1: u64) -> Entry {
     entry(sized(3, 4), 0, 0, free(), fixed(carries, 0), r1)
 }
 
-// The longest record of either word size, in a buffer that is long enough and in one that is a byte short; the shortest alike.
+// The longest record of either word size that has no dropped bits, in a buffer that is long enough and in one that is a byte short; the
+// shortest alike.
 pub(crate) fn lengths() {
-    show(longest(3, 4), 45);
-    show(longest(3, 4), 44);
-    show(longest(11, 52), 85);
-    show(longest(11, 52), 84);
+    show(masked(3, 4), 45);
+    show(masked(3, 4), 44);
+    show(masked(11, 52), 85);
+    show(masked(11, 52), 84);
     show(shortest(0, 0), 4);
     show(shortest(0, 0), 3);
 }

@@ -2,8 +2,8 @@
 -- the lowest of them sticky. No definition of the promise cites this file. Assumes nothing.
 use Prim.Native.Nat.{ℕ, _+_, _-_, _≤_, _<_, _^_}
 
--- the adder's: guard, round and sticky bit. With three a difference that loses its top bit still has a round bit and the sticky bit below
--- its last one.
+-- those that a sum is rounded with: guard, round and sticky bit. With three a difference that loses its top bit still has a round bit and
+-- the sticky bit below its last one.
 abbrev pub guardBits : ℕ
 guardBits = 3
 

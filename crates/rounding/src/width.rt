@@ -1,6 +1,6 @@
 // The widths of aligned significands, beyond the fraction's bits.
 
-// Below a significand's last bit in the adder: guard, round and sticky bit.
+// Below a significand's last bit where a sum is rounded: guard, round and sticky bit.
 pub const GUARD_BITS: u64 = 3;
 // A significand with these bits.
 pub const ALIGNED: u64 = 1 + GUARD_BITS;

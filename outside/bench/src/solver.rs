@@ -243,7 +243,6 @@ mod tests {
                 found += u32::from(case.is_ok());
             }
         }
-        println!("{found} found");
         assert!((100..300).contains(&found), "{found}");
     }
 }

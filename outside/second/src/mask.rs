@@ -1,5 +1,5 @@
-//! Masks (document 01, "Masks and choice"; document 02, W-203): well formed, met, joined, the four
-//! of a job, and the words that meet one.
+//! Masks (document 01, "Masks and choice"; document 02, W-203): well formed, met, joined, the first
+//! four of a job, and the words that meet one.
 
 use crate::format::{
     ones, Refusal, BAD_CARRY_MASK, BAD_MASK, BAD_SECOND_MASK, BAD_THIRD_MASK, MASKS_DISAGREE,
@@ -81,8 +81,8 @@ impl Mask {
     }
 }
 
-/// The four masks of a job: of a, b, c and the carries, or of x, y, z and the carries. The first
-/// three have `width` bits. Refuses with 5, 14, 15, 16, in this order.
+/// The first four masks of a job, of a, b, c and the carries, or the four of whole numbers, of x, y,
+/// z and the carries. The first three have `width` bits. Refuses with 5, 14, 15, 16, in this order.
 pub fn check_masks(
     [first, second, third, carries]: [Mask; 4],
     width: u32,

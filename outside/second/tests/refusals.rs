@@ -29,8 +29,8 @@ fn pick<T>(causes: &[Refusal], cause: Refusal, good: T, bad: T) -> T {
     }
 }
 
-/// The four masks of a job, all malformed in the same way: by a value bit outside care, or by a
-/// bit just above the width.
+/// The first four masks of a job, all malformed in the same way: by a value bit outside care, or by
+/// a bit just above the width.
 fn malformed([width, carries_width]: [u32; 2]) -> [[Mask; 4]; 2] {
     let above = |width: u32| Mask {
         care: 1 << width,

@@ -17,7 +17,7 @@ minus-requires-2 c κs = search needs
 
 returns-2 : tie.Need-returns-2
 returns-2 c =
-    let a = c .before .before .before .before .args in
+    let a = c .before .before .before .args in
     let m = c .minus in (
       (λ t. record {
         some = omega (arith, c .before .before .if1 .left);
@@ -28,7 +28,7 @@ returns-2 c =
 
 returns-3 : tie.Need-returns-3
 returns-3 c =
-    let a = c .before .before .before .before .args in
+    let a = c .before .before .before .args in
     let m = c .minus2 in (
       (λ t. record {
         some = omega (arith, c .before .before .if1 .left);

@@ -62,7 +62,7 @@ some-count-requires c κs =
     )
 
 returns-6 : tie.Need-returns-6
-returns-6 c = ((λ t. some-count-requires (c .before) tt .0), λ given formed valid. c .some-count .ensures formed valid)
+returns-6 c = ((λ t. let passed = some-count-requires (c .before) tt in (passed .0, passed .1)), λ given formed valid. c .some-count .ensures formed valid)
 
 pub admits-spec : {M : Type 1} → statement M
 admits-spec = tie.close (tie.spec format-cause-requires returns returns-2 power-requires returns-3 returns-4 roomy-requires returns-5 some-count-requires returns-6)

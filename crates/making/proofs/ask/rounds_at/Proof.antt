@@ -64,44 +64,44 @@ module _ (f : ℕ) (A : pair.Aligned) (d : Direction) (u k : ℕ) (x kept : Mask
   refused : (kept .value % 2 ^ up ≡ 0 → ⊥) → (false ≡ true) ↔ Making f A (λ (n : ℕ). Meets n x × Meets (keptPart (A .below) d n u k) kept)
   refused never = none-made f A (λ (n : ℕ). Meets n x × Meets (keptPart (A .below) d n u k) kept) (λ p. never (part-meets (p .x) .0 (p .holds .1) .0))
 
-roomy-requires : tie.Need-roomy-requires
-roomy-requires c κs = search needs
-
-returns : tie.Need-returns
-returns c = λ formed given. absurd (false≢true (sym (not-true (c .before .roomy .result) (c .if1 .taken)) ∙ c .before .roomy .ensures .1 (formed .room)))
-
 minus-requires : tie.Need-minus-requires
 minus-requires c κs = search needs
-
-returns-2 : tie.Need-returns-2
-returns-2 c =
-    let a = c .before .before .before .before .args in
-    λ formed given. absurd (omega (arith, c .if2 .taken, c .before .minus .ensures, one-over (a .f) (a .aligned) (a .unit .0) (a .rounded .0) (given .columns)))
 
 minus-requires-2 : tie.Need-minus-requires-2
 minus-requires-2 c κs = search needs
 
-minus-requires-3 : tie.Need-minus-requires-3
-minus-requires-3 c κs = search needs
-
 low-requires : tie.Need-low-requires
 low-requires c κs = search needs
+
+returns : tie.Need-returns
+returns c =
+    let a = c .before .before .before .before .args in
+    let under = c .before .before .before .minus in
+    let up = c .before .before .minus2 in
+    λ formed given. refused (a .f) (a .aligned) (a .direction) (a .unit .0) (a .rounded .0) (a .x) (a .kept) (one-over (a .f) (a .aligned) (a .unit .0) (a .rounded .0) (given .columns))
+    (up .result) (up-is (a .unit .0) (a .rounded .0) (a .aligned .below) (under .result) (up .result) (under .ensures) (up .ensures))
+    (λ z. c .if1 .taken (c .before .low .ensures ∙ z))
+
+roomy-requires : tie.Need-roomy-requires
+roomy-requires c κs = search needs
+
+returns-2 : tie.Need-returns-2
+returns-2 c = λ formed given. absurd (false≢true (sym (not-true (c .before .roomy .result) (c .if2 .taken)) ∙ c .before .roomy .ensures .1 (formed .room)))
+
+minus-requires-3 : tie.Need-minus-requires-3
+minus-requires-3 c κs = search needs
 
 returns-3 : tie.Need-returns-3
 returns-3 c =
     let a = c .before .before .before .before .before .before .before .before .args in
-    let under = c .before .before .before .minus2 in
-    let up = c .before .before .minus3 in
-    λ formed given. refused (a .f) (a .aligned) (a .direction) (a .unit .0) (a .rounded .0) (a .x) (a .kept) (one-over (a .f) (a .aligned) (a .unit .0) (a .rounded .0) (given .columns))
-    (up .result) (up-is (a .unit .0) (a .rounded .0) (a .aligned .below) (under .result) (up .result) (under .ensures) (up .ensures))
-    (λ z. c .if3 .taken (c .before .low .ensures ∙ z))
+    λ formed given. absurd (omega (arith, c .if3 .taken, c .before .minus3 .ensures, one-over (a .f) (a .aligned) (a .unit .0) (a .rounded .0) (given .columns)))
 
 -- there is room
 add-minus : tie.Need-add-minus
 add-minus c =
     let a = c .before .before .before .before .before .before .before .before .before .args in
-    let r = c .before .before .before .before .before .before .before .before .roomy in
-    omega (arith, c .before .before .before .before .before .if2 .left, aligned-lt (a .f) (a .aligned) (r .ensures .0 (not-false (r .result) (c .before .before .before .before .before .before .before .if1 .left))))
+    let r = c .before .before .before .before .roomy in
+    omega (arith, c .before .if3 .left, aligned-lt (a .f) (a .aligned) (r .ensures .0 (not-false (r .result) (c .before .before .before .if2 .left))))
 
 minus-requires-4 : tie.Need-minus-requires-4
 minus-requires-4 c κs = search needs
@@ -112,23 +112,23 @@ high-requires c κs = search needs
 rounds-requires : tie.Need-rounds-requires
 rounds-requires c κs =
     let a = c .before .before .before .before .before .before .before .before .before .before .before .args in
-    let r = c .before .before .before .before .before .before .before .before .before .before .roomy in
-    let room = r .ensures .0 (not-false (r .result) (c .before .before .before .before .before .before .before .before .before .if1 .left)) in
-    (room, omega (arith, c .before .minus4 .ensures, c .before .before .before .before .before .before .before .if2 .left, aligned-lt (a .f) (a .aligned) room))
+    let r = c .before .before .before .before .before .before .roomy in
+    let room = r .ensures .0 (not-false (r .result) (c .before .before .before .before .before .if2 .left)) in
+    (room, omega (arith, c .before .minus4 .ensures, c .before .before .before .if3 .left, aligned-lt (a .f) (a .aligned) room))
 
 returns-4 : tie.Need-returns-4
 returns-4 c =
     let a = c .before .before .before .before .before .before .before .before .before .before .before .before .args in
-    let over = c .before .before .before .before .before .before .before .before .before .minus in
-    let under = c .before .before .before .before .before .before .before .minus2 in
-    let up = c .before .before .before .before .before .before .minus3 in
+    let over = c .before .before .before .before .before .minus3 in
+    let under = c .before .before .before .before .before .before .before .before .before .before .before .minus in
+    let up = c .before .before .before .before .before .before .before .before .before .before .minus2 in
     let down = c .before .before .minus4 in
     let y = c .before .high in
     let e = down-is (a .unit .0) (a .rounded .0) (a .aligned .below) (over .result) (under .result) (down .result) (over .ensures) (under .ensures) (down .ensures) in
     λ formed given. asked (a .f) (a .aligned) (a .direction) (a .unit .0) (a .rounded .0) (a .x) (a .kept) (one-over (a .f) (a .aligned) (a .unit .0) (a .rounded .0) (given .columns))
     (up .result) (up-is (a .unit .0) (a .rounded .0) (a .aligned .below) (under .result) (up .result) (under .ensures) (up .ensures))
     (down .result) (y .result) (c .rounds .result) e
-    (sym (c .before .before .before .before .before .low .ensures) ∙ c .before .before .before .before .if3 .left)
+    (sym (c .before .before .before .before .before .before .before .before .before .low .ensures) ∙ c .before .before .before .before .before .before .before .before .if1 .left)
     (y .ensures)
     (c .rounds .ensures formed
     (moved (a .f) (a .aligned) (a .direction) (a .rounded .0 + a .aligned .below - a .unit .0) (down .result) (up .result) (a .x) (a .kept) (y .result) e (y .ensures) given))
@@ -137,13 +137,13 @@ pub rounds-at-spec : {M : Type 1} → statement M
 rounds-at-spec =
     tie.close
     (tie.spec
-    roomy-requires
-    returns
     minus-requires
-    returns-2
     minus-requires-2
-    minus-requires-3
     low-requires
+    returns
+    roomy-requires
+    returns-2
+    minus-requires-3
     returns-3
     add-minus
     minus-requires-4

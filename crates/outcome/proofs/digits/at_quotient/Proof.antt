@@ -1,32 +1,13 @@
 -- `outcome::digits::at_quotient` meets its contract: the unit of the rounded number and the quotient make the exponent field, and
 -- the question is put in a direction that keeps the same part. Assumes nothing.
-use mathlib.Core.Path.{_≡_, ap, _∙_}
-use Prim.Native.Nat.{ℕ, _+_, _%_, _^_, _<_}
-use native.Mathlib.Nat.{mod-eq-of-lt}
 use native.Mathlib.Omega.{arith}
-use Rattle.format.specs.declared.Format.{Format}
-use Rattle.word.specs.declared.Biased.{Biased}
-use Rattle.word.specs.declared.Unit as exponent
-use Rattle.word.specs.Word.{fieldOf}
-use Rattle.rounding.specs.Outcome.{roundedUnit}
 use Rattle.making.proofs.Made.{most-digits-bounds, aligned-lt}
-use Rattle.outcome.specs.Outcome.{InFormat}
-use Rattle.outcome.proofs.Room.{unit-short}
+use Rattle.outcome.proofs.Room.{unit-short, field-formed}
 use Rattle.outcome.proofs.Exact.{alike-asked}
 use Rattle.outcome.proofs.Counted.{quotient-asked}
 use borrow.Author.Needs.{needs}
 use Rattle.outcome.proofs.digits.at_quotient.Statement.{statement}
 use Rattle.outcome.proofs.digits.at_quotient.Tie as tie
-
--- the field that the code forms: its sum does not pass the word
-field : (F : Format) (s : ℕ) (u : exponent.Unit) → InFormat F s u → (q count h : ℕ) → count < 64 → h < 4
-    → (k : exponent.Unit) (e : Biased) → k ≡ roundedUnit q (F .f) count u → e .0 ≡ fieldOf k h .0 % 2 ^ 64
-    → e ≡ fieldOf (roundedUnit q (F .f) count u) h
-field F s u given q count h most hh k e ek ee =
-    ap of (ee ∙ ap (λ (n : exponent.Unit). (n .0 + h) % 2 ^ 64) ek ∙ mod-eq-of-lt (omega (arith, unit-short F s u given)))
-  where
-    of : ℕ → Biased
-    of n = record { 0 = n }
 
 rounded-unit-requires : tie.Need-rounded-unit-requires
 rounded-unit-requires c κs =
@@ -53,7 +34,7 @@ returns c =
     let e = c .before .before .field-of in
     let k = c .before .before .before .rounded-unit in
     λ formed. quotient-asked (a .format) (a .direction) (a .sign) (a .unit) (a .aligned) (a .c) (a .count) (a .quotient) (a .x) (s .pre .7) (e .result) (so .result) (c .rounds-to .result)
-    (field (a .format) (a .sign) (a .unit) (s .pre .0) (a .aligned .below) (a .count) (a .quotient) (omega (arith, s .pre .3, s .pre .1 .columns)) (s .pre .4) (k .result) (e .result) (k .ensures) (e .ensures)) (so .ensures)
+    (field-formed (a .format) (a .sign) (a .unit) (s .pre .0) (a .aligned .below) (a .count) (a .quotient) (omega (arith, s .pre .3, s .pre .1 .columns)) (s .pre .4) (k .result) (e .result) (k .ensures) (e .ensures)) (so .ensures)
     (alike-asked (a .format .f) (a .asked) (a .direction) (a .unit) (a .aligned) (a .count) (s .pre .5 formed) (a .x) (s .pre .7)
     (a .quotient) (so .result .possible) (so .result .fraction) (c .rounds-to .result) (c .rounds-to .ensures formed))
 

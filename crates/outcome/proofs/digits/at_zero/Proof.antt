@@ -7,6 +7,7 @@ use lib.Pow.{pow-pos, pow-mono}
 use Rattle.format.specs.declared.Format.{Format}
 use Rattle.format.specs.Format.{Supported}
 use Rattle.mask.specs.declared.Mask.{Mask}
+use Rattle.mask.specs.Mask.{freeMask}
 use Rattle.word.specs.Word.{signed}
 use Rattle.word.specs.Parts.{SignedFits}
 use Rattle.rounding.specs.declared.Direction.the-variants.{TowardZero}
@@ -14,7 +15,6 @@ use Rattle.rounding.specs.Outcome.{zeroSign}
 use Rattle.rounding.proofs.Rounded.{cancelled-lt}
 use Rattle.making.specs.declared.Aligned as pair
 use Rattle.making.specs.Making.{columnsOf, Askable}
-use Rattle.making.specs.Question.{anything}
 use Rattle.making.proofs.Made.{most-digits-bounds, made-lt}
 use Rattle.outcome.specs.Question.{OfDigits}
 use Rattle.outcome.proofs.Topped.{size-none}
@@ -34,7 +34,7 @@ zero-word F ok mode like s hs z w ez ew =
     zero-lt false = cancelled-lt mode
 
 -- the question whether 0 is made, with any part kept
-zero-askable : (f : ℕ) (A : pair.Aligned) (x : Mask) → OfDigits (columnsOf f A) 0 x → Askable f A TowardZero (0 + A .below - 0) x anything
+zero-askable : (f : ℕ) (A : pair.Aligned) (x : Mask) → OfDigits (columnsOf f A) 0 x → Askable f A TowardZero (0 + A .below - 0) x freeMask
 zero-askable f A x none =
     let wide = most-digits-bounds (A .below) f (A .like) .0 in
     record {

@@ -36,8 +36,8 @@ returns c =
 columns-requires : tie.Need-columns-requires
 columns-requires c κs = search needs
 
-below-requires : tie.Need-below-requires
-below-requires c κs =
+under-power-requires : tie.Need-under-power-requires
+under-power-requires c κs =
     let s = c .before .before .before .before in
     let a = s .args in
     (rw (c .columns .ensures (s .pre .1)) (s .pre .1 .columns), omega (arith, c .columns .ensures (s .pre .1), s .pre .2, most-digits-bounds (a .aligned .below) (a .format .f) (a .aligned .like) .0))
@@ -52,7 +52,7 @@ returns-2 c =
     let so = c .before .before .before .before .before .sought in
     let b = most-digits-bounds (a .aligned .below) (a .format .f) (a .aligned .like) in
     let wide = pow-mono {i = a .format .f} {j = 2 + a .format .f} (omega arith) in
-    let x = c .before .below in
+    let x = c .before .under-power in
     let few : UnderPower (columnsOf (a .format .f) (a .aligned)) (a .small) (x .result) = subst (λ (k : ℕ). UnderPower k (a .small) (x .result)) (c .before .before .columns .ensures (s .pre .1)) (x .ensures) in
     λ formed. subnormal-asked (a .aligned .below) (a .format) (s .pre .0 .supported) (a .sign) (a .unit) (a .small) (s .pre .2) (a .c) (so .result) (so .ensures) (a .aligned)
     (x .result) (c .rounds-at .result) (not-false (so .result .possible) (c .before .before .before .if1 .left)) few
@@ -67,4 +67,4 @@ returns-2 c =
     }))
 
 pub subnormal-spec : {M : Type 1} → statement M
-subnormal-spec = tie.close (tie.spec sought-requires returns columns-requires below-requires rounds-at-requires returns-2)
+subnormal-spec = tie.close (tie.spec sought-requires returns columns-requires under-power-requires rounds-at-requires returns-2)

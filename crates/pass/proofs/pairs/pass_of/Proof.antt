@@ -1,6 +1,7 @@
 -- `pass::pairs::pass_of` meets its contract. Assumes nothing.
 use mathlib.Core.Bool.{_&&_, true≢false}
 use mathlib.Core.Path.{sym, ap₂, _∙_}
+use borrow.Author.Tests.{eq-eqb}
 use Rattle.mask.proofs.Checks.{meets-tested}
 use Rattle.word.proofs.Bounds.{exponents}
 use Rattle.pass.proofs.Spans.{met-field}
@@ -40,24 +41,25 @@ class-end-requires c κs = search needs
 
 returns : tie.Need-returns
 returns c =
-    let s = c .before .before .before .before .before .before .before .before .before .before .before in
+    let s = c .before .before .before .before .before .before .before .before .before .before .before .before in
     let j = s .args .job in
     let F = j .setting .format in
-    let past = exponents F (s .pre) (c .before .before .before .before .before .before .power .ensures) in
-    let first = c .before .before .before .before .before .met-from in (
+    let past = exponents F (s .pre) (c .before .before .before .before .before .before .before .power .ensures) in
+    let first = c .before .before .before .before .before .before .met-from in (
       past,
       λ valid.
-          let met = met-field F (j .a .mask) (c .before .before .before .before .before .before .before .before .before .exponent-mask .result) 1 (first .result) (s .pre) (valid .a .mask) (c .before .before .before .before .before .before .before .before .before .exponent-mask .ensures) (first .ensures .1) in
+          let met = met-field F (j .a .mask) (c .before .before .before .before .before .before .before .before .before .before .exponent-mask .result) 1 (first .result) (s .pre) (valid .a .mask) (c .before .before .before .before .before .before .before .before .before .before .exponent-mask .ensures) (first .ensures .1) in
           record {
-            a = c .before .before .before .before .before .before .before .before .before .exponent-mask .ensures;
-            b = c .before .before .before .before .before .before .before .exponent-mask3 .ensures;
-            c = c .before .before .before .before .before .before .before .before .exponent-mask2 .ensures;
+            a = c .before .before .before .before .before .before .before .before .before .before .exponent-mask .ensures;
+            b = c .before .before .before .before .before .before .before .before .exponent-mask3 .ensures;
+            c = c .before .before .before .before .before .before .before .before .before .exponent-mask2 .ensures;
             first-some = met .from;
             first-meets = met .meets;
-            signs = c .before .before .before .before .signs-left .ensures;
+            signs = c .before .before .before .before .before .signs-left .ensures;
             zero = λ no z.
-                true≢false (sym (ap₂ _&&_ (meets-tested 0 (c .before .before .before .meets .ensures) (c .before .before .before .before .before .before .before .before .exponent-mask2 .ensures) .1 (z .exponent))
-                (meets-tested 0 (c .before .meets2 .ensures) (c .before .before .fraction-mask .ensures) .1 (z .fraction))) ∙ no);
+                true≢false (sym (ap₂ _&&_ (ap₂ _&&_ (meets-tested 0 (c .before .before .before .before .meets .ensures) (c .before .before .before .before .before .before .before .before .before .exponent-mask2 .ensures) .1 (z .exponent))
+                (meets-tested 0 (c .before .before .meets2 .ensures) (c .before .before .before .fraction-mask .ensures) .1 (z .fraction)))
+                (eq-eqb (j .dropped .mask .care) 0 (z .unfixed))) ∙ no);
             end = c .class-end .ensures .0 valid;
           },
     )

@@ -1,11 +1,11 @@
--- `outcome::masks::below` meets its contract: the bits from k on are 0. Assumes nothing.
+-- `outcome::masks::under_power` meets its contract: the bits from k on are 0. Assumes nothing.
 use Prim.Native.Nat.{_-_}
 use native.Mathlib.Omega.{arith}
 use lib.Pow.{pow-pos}
 use Rattle.outcome.proofs.Topped.{below-power}
 use borrow.Author.Needs.{needs}
-use Rattle.outcome.proofs.masks.below.Statement.{statement}
-use Rattle.outcome.proofs.masks.below.Tie as tie
+use Rattle.outcome.proofs.masks.under_power.Statement.{statement}
+use Rattle.outcome.proofs.masks.under_power.Tie as tie
 
 sub-topped : tie.Need-sub-topped
 sub-topped c = search needs
@@ -20,5 +20,5 @@ returns c =
     let a = c .before .args in
     rw (c .topped .ensures) (below-power (a .n) (a .n - a .k) (a .k) (omega arith))
 
-pub below-spec : {M : Type 1} → statement M
-below-spec = tie.close (tie.spec sub-topped topped-requires returns)
+pub under-power-spec : {M : Type 1} → statement M
+under-power-spec = tie.close (tie.spec sub-topped topped-requires returns)
