@@ -21,6 +21,7 @@ use Rattle.word.specs.declared.Unit as exponent
 use Rattle.word.specs.Word.{fieldOf, signed}
 use Rattle.rounding.specs.Rounding.{direction}
 use Rattle.rounding.proofs.Size.{size-zero}
+use Rattle.job.specs.declared.Dropped.{Dropped}
 use Rattle.job.specs.Dropped.{ValidDropped}
 use Rattle.making.specs.declared.Aligned as pair
 use Rattle.outcome.specs.declared.Target.{Target}
@@ -28,11 +29,11 @@ use Rattle.outcome.specs.declared.sought.Fractions as fractions-of
 use Rattle.rounding.specs.Sticky.{keptPart}
 use Rattle.rounding.specs.Width.{sumBits}
 use Rattle.rounding.specs.Outcome.{roundedUnit, keptOf, boundedHeld, zeroSign, outcome}
-use Rattle.making.specs.Making.{Made, Making, columnsOf}
+use Rattle.making.specs.Making.{Making, columnsOf}
 use Rattle.making.proofs.Making.{some-made, none-made, making-map, making-answer}
 use Rattle.making.proofs.Made.{made-lt}
 use Rattle.outcome.specs.Outcome.{Serves}
-use Rattle.outcome.specs.Question.{leastQuotient, NextQuotient, OnlyDigits, topped, OfDigits, wordOrOverflow, Seeks}
+use Rattle.outcome.specs.Question.{leastQuotient, NextQuotient, Sized, OnlyDigits, topped, OfDigits, wordOrOverflow, Seeks}
 use Rattle.outcome.specs.Ways.{waysAt, InWay}
 use Rattle.outcome.proofs.Topped.{topped-meets, size-none}
 use Rattle.outcome.proofs.Kept.{kept-lt, quotient-low, quotient-high, least-known}
@@ -84,23 +85,20 @@ quotient-fields q F d s u c count h e so ee seeks n es eq = ((λ p. fields .0 (r
     word : signed F s (boundedHeld q F d n u) ≡ wordOrOverflow F d s e t
     word = held-word q F d s n u ∙ ap (λ (k : Biased). wordOrOverflow F d s k t) (ap₂ (λ (m k : ℕ). fieldOf (roundedUnit q (F .f) m u) k) es eq ∙ sym ee)
 
-pub quotient-asked : (F : Format) (d : Direction) (s : ℕ) (u : exponent.Unit) (A : pair.Aligned) (c : Mask) (count h : ℕ) (x : Mask) → OnlyDigits (columnsOf (F .f) A) count x
+pub quotient-asked : (F : Format) (d : Direction) (s : ℕ) (u : exponent.Unit) (A : pair.Aligned) (c : Mask) (count h : ℕ) (P : ℕ → Type 0) → ((n : ℕ) → P n → size n ≡ count)
     → (e : Biased) (so : fractions-of.Fractions) (r : Bool) → e ≡ fieldOf (roundedUnit (A .below) (F .f) count u) h → Seeks F d s c e so
-    → ((r ≡ true) ↔ Making (F .f) A (λ (n : ℕ). Meets n x × (keptOf (A .below) (F .f) d n u / 2 ^ F .f ≡ h) × (so .possible ≡ true) × Meets (keptOf (A .below) (F .f) d n u % 2 ^ F .f) (so .fraction)))
-    → (r ≡ true) ↔ Making (F .f) A (λ (n : ℕ). Meets n x × (keptOf (A .below) (F .f) d n u / 2 ^ F .f ≡ h) × Meets (signed F s (boundedHeld (A .below) F d n u)) c)
-quotient-asked F d s u A c count h x only e so r ee seeks asks =
+    → ((r ≡ true) ↔ Making (F .f) A (λ (n : ℕ). P n × (keptOf (A .below) (F .f) d n u / 2 ^ F .f ≡ h) × (so .possible ≡ true) × Meets (keptOf (A .below) (F .f) d n u % 2 ^ F .f) (so .fraction)))
+    → (r ≡ true) ↔ Making (F .f) A (λ (n : ℕ). P n × (keptOf (A .below) (F .f) d n u / 2 ^ F .f ≡ h) × Meets (signed F s (boundedHeld (A .below) F d n u)) c)
+quotient-asked F d s u A c count h P digits e so r ee seeks asks =
     making-answer (F .f) A
-    (λ (n : ℕ). Meets n x × (keptOf (A .below) (F .f) d n u / 2 ^ F .f ≡ h) × (so .possible ≡ true) × Meets (keptOf (A .below) (F .f) d n u % 2 ^ F .f) (so .fraction))
-    (λ (n : ℕ). Meets n x × (keptOf (A .below) (F .f) d n u / 2 ^ F .f ≡ h) × Meets (signed F s (boundedHeld (A .below) F d n u)) c) r
-    (λ n made. (
-      (λ p. (p .0, p .1, fields n made (p .0) (p .1) .1 (p .2, p .3))),
-      λ p. let k = fields n made (p .0) (p .1) .0 (p .2) in (p .0, p .1, k .0, k .1),
+    (λ (n : ℕ). P n × (keptOf (A .below) (F .f) d n u / 2 ^ F .f ≡ h) × (so .possible ≡ true) × Meets (keptOf (A .below) (F .f) d n u % 2 ^ F .f) (so .fraction))
+    (λ (n : ℕ). P n × (keptOf (A .below) (F .f) d n u / 2 ^ F .f ≡ h) × Meets (signed F s (boundedHeld (A .below) F d n u)) c) r
+    (λ n made.
+    let fields = quotient-fields (A .below) F d s u c count h e so ee seeks n in (
+      (λ p. (p .0, p .1, fields (digits n (p .0)) (p .1) .1 (p .2, p .3))),
+      λ p. let k = fields (digits n (p .0)) (p .1) .0 (p .2) in (p .0, p .1, k .0, k .1),
     ))
     asks
-  where
-    fields : (n : ℕ) → Made (F .f) A n → Meets n x → keptOf (A .below) (F .f) d n u / 2 ^ F .f ≡ h
-        → Meets (signed F s (boundedHeld (A .below) F d n u)) c ↔ ((so .possible ≡ true) × Meets (keptOf (A .below) (F .f) d n u % 2 ^ F .f) (so .fraction))
-    fields n made met = quotient-fields (A .below) F d s u c count h e so ee seeks n (only n (made-lt (F .f) A n made) met)
 
 -- a number of so many digits has one of two quotients
 quotients : (q f : ℕ) (d : Direction) (u : exponent.Unit) (least n count : ℕ) → 0 < count → count ≤ sumBits q f → size n ≡ count → least ≡ leastQuotient q f count u
@@ -124,32 +122,32 @@ no-word q F d s u c count least some most el e e′ so so′ ee ee′ seeks seek
     (quotients q (F .f) d u least n count some most digits el)
 
 -- the two quotients
-module _ (f : ℕ) (d : Direction) (u : exponent.Unit) (least : ℕ) (A : pair.Aligned) (count : ℕ) (x : Mask) (only : OnlyDigits (columnsOf f A) count x) where
+module _ (f : ℕ) (d : Direction) (u : exponent.Unit) (least : ℕ) (A : pair.Aligned) (count : ℕ) (P : ℕ → Type 0) (digits : (n : ℕ) → P n → size n ≡ count) where
   module _ (W : ℕ → Type 0) (some : 0 < count) (most : count ≤ sumBits (A .below) f) (e : least ≡ leastQuotient (A .below) f count u) (r : Bool)
-      (asks : (r ≡ true) ↔ Making f A (λ (n : ℕ). Meets n x × (keptOf (A .below) f d n u / 2 ^ f ≡ least) × W n)) where
-    pub first-quotient : r ≡ true → (true ≡ true) ↔ Making f A (λ (n : ℕ). Meets n x × W n)
-    first-quotient t = some-made f A (λ (n : ℕ). Meets n x × W n) (making-map f A (λ (n : ℕ). Meets n x × (keptOf (A .below) f d n u / 2 ^ f ≡ least) × W n) (λ (n : ℕ). Meets n x × W n) (λ n p. (p .0, p .2)) (asks .0 t))
+      (asks : (r ≡ true) ↔ Making f A (λ (n : ℕ). P n × (keptOf (A .below) f d n u / 2 ^ f ≡ least) × W n)) where
+    pub first-quotient : r ≡ true → (true ≡ true) ↔ Making f A (λ (n : ℕ). P n × W n)
+    first-quotient t = some-made f A (λ (n : ℕ). P n × W n) (making-map f A (λ (n : ℕ). P n × (keptOf (A .below) f d n u / 2 ^ f ≡ least) × W n) (λ (n : ℕ). P n × W n) (λ n p. (p .0, p .2)) (asks .0 t))
 
-    pub second-quotient : r ≡ false → (r′ : Bool) → ((r′ ≡ true) ↔ Making f A (λ (n : ℕ). Meets n x × (keptOf (A .below) f d n u / 2 ^ f ≡ least + 1) × W n))
-        → (r′ ≡ true) ↔ Making f A (λ (n : ℕ). Meets n x × W n)
+    pub second-quotient : r ≡ false → (r′ : Bool) → ((r′ ≡ true) ↔ Making f A (λ (n : ℕ). P n × (keptOf (A .below) f d n u / 2 ^ f ≡ least + 1) × W n))
+        → (r′ ≡ true) ↔ Making f A (λ (n : ℕ). P n × W n)
     second-quotient t r′ asks′ = (
-      (λ z. making-map f A (λ (n : ℕ). Meets n x × (keptOf (A .below) f d n u / 2 ^ f ≡ least + 1) × W n) (λ (n : ℕ). Meets n x × W n) (λ n p. (p .0, p .2)) (asks′ .0 z)),
+      (λ z. making-map f A (λ (n : ℕ). P n × (keptOf (A .below) f d n u / 2 ^ f ≡ least + 1) × W n) (λ (n : ℕ). P n × W n) (λ n p. (p .0, p .2)) (asks′ .0 z)),
       λ p. ⊎-elim
           (λ k. absurd (false≢true (sym t ∙ asks .1 (record { x = p .x; made = p .made; holds = (p .holds .0, k, p .holds .1) }))))
           (λ k. asks′ .1 (record { x = p .x; made = p .made; holds = (p .holds .0, k, p .holds .1) }))
-          (quotients (A .below) f d u least (p .x) count some most (only (p .x) (made-lt f A (p .x) (p .made)) (p .holds .0)) e),
+          (quotients (A .below) f d u least (p .x) count some most (digits (p .x) (p .holds .0)) e),
     )
 
     -- where none has the next quotient, that is not asked
     pub only-quotient : r ≡ false → (NextQuotient f d u A count → ⊥)
-        → (false ≡ true) ↔ Making f A (λ (n : ℕ). Meets n x × W n)
+        → (false ≡ true) ↔ Making f A (λ (n : ℕ). P n × W n)
     only-quotient t never =
         second-quotient t false
-        (none-made f A (λ (n : ℕ). Meets n x × (keptOf (A .below) f d n u / 2 ^ f ≡ least + 1) × W n)
+        (none-made f A (λ (n : ℕ). P n × (keptOf (A .below) f d n u / 2 ^ f ≡ least + 1) × W n)
         (λ p. never (record {
           x = p .x;
           made = p .made;
-          holds = (only (p .x) (made-lt f A (p .x) (p .made)) (p .holds .0), p .holds .1 ∙ ap (λ (k : ℕ). k + 1) e);
+          holds = (digits (p .x) (p .holds .0), p .holds .1 ∙ ap (λ (k : ℕ). k + 1) e);
         })))
 
 -- the word of 0, and of any other number
@@ -198,44 +196,37 @@ module _ (F : Format) (mode s : ℕ) (u : exponent.Unit) (A : pair.Aligned) (T :
       none-made (F .f) A (λ (n : ℕ). (size n ≡ count) × Serves F mode s u A T n)
       (λ p. none (p .x) (p .holds .0) (subst (λ (w : ℕ). Meets w (T .c)) (outcome-some (A .below) F mode (A .like) s u (p .x) (omega (arith, p .holds .0)) ∙ ap (λ (k : Direction). signed F s (boundedHeld (A .below) F k (p .x) u)) (sym ed)) (p .holds .1 .word)))
 
-  -- a number of so many digits, not 0, serves exactly in one of the ways that are left
-  module _ (valid : ValidDropped (T .dropped)) (count : ℕ) (some : 0 < count) (d : Direction) (ed : d ≡ direction mode s) where
-    -- it is in one way, and its word meets c
-    pub record InOne (t n : ℕ) : Type 0 where
-      pub digits : size n ≡ count
-      pub in-way : InWay (T .dropped) (count - (F .f + 1)) t n
-      pub word : Meets (signed F s (boundedHeld (A .below) F d n u)) (T .c)
+  -- a number of so many digits, not 0, serves where its word meets c and its dropped bits are as they are wanted
+  pub sized-serves : (count : ℕ) → 0 < count → (d : Direction) → d ≡ direction mode s
+      → (r : Bool) → ((r ≡ true) ↔ Making (F .f) A (λ (n : ℕ). Sized F (A .below) u (T .dropped) count n × Meets (signed F s (boundedHeld (A .below) F d n u)) (T .c)))
+      → (r ≡ true) ↔ Making (F .f) A (λ (n : ℕ). (size n ≡ count) × Serves F mode s u A T n)
+  sized-serves count some d ed r asks =
+      making-answer (F .f) A (λ (n : ℕ). Sized F (A .below) u (T .dropped) count n × Meets (signed F s (boundedHeld (A .below) F d n u)) (T .c)) (λ (n : ℕ). (size n ≡ count) × Serves F mode s u A T n) r
+      (λ n made. (
+        (λ p. (p .0 .0, record { word = rw (word-is n (p .0 .0)) (p .1); drops = p .0 .1 })),
+        λ p. ((p .0, p .1 .drops), rw (word-is n (p .0)) at (p .1 .word)),
+      ))
+      asks
+    where
+      word-is : (n : ℕ) → size n ≡ count → outcome (A .below) F mode (A .like) s u n ≡ signed F s (boundedHeld (A .below) F d n u)
+      word-is n e = outcome-some (A .below) F mode (A .like) s u n (omega arith) ∙ ap (λ (k : Direction). signed F s (boundedHeld (A .below) F k n u)) (sym ed)
 
-    word-is : (n : ℕ) → size n ≡ count → outcome (A .below) F mode (A .like) s u n ≡ signed F s (boundedHeld (A .below) F d n u)
-    word-is n e = outcome-some (A .below) F mode (A .like) s u n (omega arith) ∙ ap (λ (k : Direction). signed F s (boundedHeld (A .below) F k n u)) (sym ed)
+-- a number of so many digits, not 0, has dropped bits as they are wanted exactly in one of the ways that are left
+module _ (F : Format) (q : ℕ) (u : exponent.Unit) (D : Dropped) (valid : ValidDropped D) (count : ℕ) (some : 0 < count) (Q : ℕ → Type 0) where
+  -- it is in one way, and has the property Q
+  pub record InOne (t n : ℕ) : Type 0 where
+    pub digits : size n ≡ count
+    pub in-way : InWay D (count - (F .f + 1)) t n
+    pub holds : Q n
 
-    positive : (n : ℕ) → size n ≡ count → 0 < n
-    positive zero e = absurd (omega (arith, e, size-zero))
-    positive (suc n) e = omega arith
+  positive : (n : ℕ) → size n ≡ count → 0 < n
+  positive zero e = absurd (omega (arith, e, size-zero))
+  positive (suc n) e = omega arith
 
-    -- where none of the dropped bits is fixed the digits and the word are all
-    pub free-serves : T .dropped .mask .care ≡ 0 → (x : Mask) → OfDigits (columnsOf (F .f) A) count x
-        → (r : Bool) → ((r ≡ true) ↔ Making (F .f) A (λ (n : ℕ). Meets n x × Meets (signed F s (boundedHeld (A .below) F d n u)) (T .c)))
-        → (r ≡ true) ↔ Making (F .f) A (λ (n : ℕ). (size n ≡ count) × Serves F mode s u A T n)
-    free-serves none x digits r asks =
-        making-answer (F .f) A (λ (n : ℕ). Meets n x × Meets (signed F s (boundedHeld (A .below) F d n u)) (T .c)) (λ (n : ℕ). (size n ≡ count) × Serves F mode s u A T n) r
-        (λ n made.
-        let g = digits n (made-lt (F .f) A n made) in (
-          (λ p. let e = g .0 (p .0) in (e, record { word = rw (word-is n e) (p .1); drops = inl none })),
-          λ p. (g .1 (p .0), rw (word-is n (p .0)) at (p .1 .word)),
-        ))
-        asks
+  pub in-one-sized : (t n : ℕ) → t < waysAt q (F .f) u D count → InOne t n → Sized F q u D count n × Q n
+  in-one-sized t n lt p = ((p .digits, drops-in-way F q u D count valid n (positive n (p .digits)) (p .digits) .1 (t, lt, p .in-way)), p .holds)
 
-    pub in-one-serves : (t n : ℕ) → t < waysAt (A .below) (F .f) u (T .dropped) count → InOne t n → (size n ≡ count) × Serves F mode s u A T n
-    in-one-serves t n lt p = (
-      p .digits,
-      record {
-        word = rw (word-is n (p .digits)) (p .word);
-        drops = drops-in-way F (A .below) u (T .dropped) count valid n (positive n (p .digits)) (p .digits) .1 (t, lt, p .in-way);
-      },
-    )
-
-    pub serves-in-one : (n : ℕ) → (size n ≡ count) × Serves F mode s u A T n → (t : ℕ) × (t < waysAt (A .below) (F .f) u (T .dropped) count) × InOne t n
-    serves-in-one n p =
-        let w = drops-in-way F (A .below) u (T .dropped) count valid n (positive n (p .0)) (p .0) .0 (p .1 .drops) in
-        (w .0, w .1, record { digits = p .0; in-way = w .2; word = rw (word-is n (p .0)) at (p .1 .word) })
+  pub sized-in-one : (n : ℕ) → Sized F q u D count n → Q n → (t : ℕ) × (t < waysAt q (F .f) u D count) × InOne t n
+  sized-in-one n p h =
+      let w = drops-in-way F q u D count valid n (positive n (p .0)) (p .0) .0 (p .1) in
+      (w .0, w .1, record { digits = p .0; in-way = w .2; holds = h })

@@ -17,11 +17,10 @@ use Rattle.rounding.proofs.RoundOff.{round-off-exact}
 use Rattle.rounding.specs.Width.{alignedBits, sumBits}
 use Rattle.rounding.specs.Outcome.{keptOf}
 use Rattle.making.specs.declared.Aligned as pair
-use Rattle.making.specs.Making.{Made, Making, mostDigits, Formed, columnsOf}
+use Rattle.making.specs.Making.{Made, Making, mostDigits, Formed}
 use Rattle.making.proofs.Zeros.{zeros-below}
 use Rattle.making.proofs.Making.{making-answer}
-use Rattle.making.proofs.Made.{made-lt}
-use Rattle.outcome.specs.Question.{NextQuotient, KeepAlike, OnlyDigits}
+use Rattle.outcome.specs.Question.{NextQuotient, KeepAlike}
 use Rattle.outcome.proofs.Kept.{roundedBits, addedZeros, kept-shifted}
 use Rattle.outcome.proofs.Range.{made-digits}
 
@@ -68,18 +67,18 @@ exact-alike f d e u A (suc n) some most zeros = λ x made digits.
     ∙ ap (λ (k : ℕ). k * 2 ^ addedZeros q f (suc n) u) (round-off-exact d x (roundedBits q f (suc n) u) whole ∙ sym (round-off-exact e x (roundedBits q f (suc n) u) whole))
     ∙ sym (kept-shifted q f e x u n digits most)
 
--- a question on the part that is kept, put in a direction that keeps the same; x asks for N digits
+-- a question on the part that is kept, put in a direction that keeps the same, of numbers with a property that tells their digits
 module _ (f : ℕ) (d e : Direction) (u : exponent.Unit) (A : pair.Aligned) (N : ℕ) (alike : KeepAlike f d e u A N) where
-  abbrev Keeps : Mask → Direction → ℕ → Bool → Mask → ℕ → Type 0
-  Keeps x way h possible fraction n =
-      Meets n x × (keptOf (A .below) f way n u / 2 ^ f ≡ h) × (possible ≡ true) × Meets (keptOf (A .below) f way n u % 2 ^ f) fraction
+  abbrev Keeps : (ℕ → Type 0) → Direction → ℕ → Bool → Mask → ℕ → Type 0
+  Keeps P way h possible fraction n =
+      P n × (keptOf (A .below) f way n u / 2 ^ f ≡ h) × (possible ≡ true) × Meets (keptOf (A .below) f way n u % 2 ^ f) fraction
 
-  pub alike-asked : (x : Mask) → OnlyDigits (columnsOf f A) N x → (h : ℕ) (possible : Bool) (fraction : Mask) (r : Bool)
-      → ((r ≡ true) ↔ Making f A (Keeps x d h possible fraction)) → (r ≡ true) ↔ Making f A (Keeps x e h possible fraction)
-  alike-asked x only h possible fraction r asks =
-      making-answer f A (Keeps x d h possible fraction) (Keeps x e h possible fraction) r
+  pub alike-asked : (P : ℕ → Type 0) → ((n : ℕ) → P n → size n ≡ N) → (h : ℕ) (possible : Bool) (fraction : Mask) (r : Bool)
+      → ((r ≡ true) ↔ Making f A (Keeps P d h possible fraction)) → (r ≡ true) ↔ Making f A (Keeps P e h possible fraction)
+  alike-asked P digits h possible fraction r asks =
+      making-answer f A (Keeps P d h possible fraction) (Keeps P e h possible fraction) r
       (λ n made.
-      let same : Meets n x → keptOf (A .below) f d n u ≡ keptOf (A .below) f e n u = λ met. alike n made (only n (made-lt f A n made) met) in (
+      let same : P n → keptOf (A .below) f d n u ≡ keptOf (A .below) f e n u = λ met. alike n made (digits n met) in (
         (λ p. (p .0, rw (same (p .0)) at (p .1), p .2, rw (same (p .0)) at (p .3))),
         λ p. (p .0, rw (same (p .0)) (p .1), p .2, rw (same (p .0)) (p .3)),
       ))

@@ -11,6 +11,7 @@ use lib.Ieee.{size}
 use Rattle.format.specs.declared.Format.{Format}
 use Rattle.mask.specs.declared.Mask.{Mask}
 use Rattle.mask.specs.Mask.{Meets}
+use Rattle.job.specs.declared.Dropped.{Dropped}
 use Rattle.word.specs.declared.Biased.{Biased}
 use Rattle.word.specs.declared.Unit as exponent
 use Rattle.rounding.specs.declared.Direction as way
@@ -26,7 +27,7 @@ use Rattle.outcome.specs.declared.Target.{Target}
 use Rattle.outcome.specs.declared.sought.Fractions as fractions-of
 use Rattle.outcome.specs.declared.subnormal.Known as reply
 use Rattle.outcome.specs.declared.subnormal.Known.the-variants.{Found, AtLeast}
-use Rattle.outcome.specs.Outcome.{Serves, Admits}
+use Rattle.outcome.specs.Outcome.{DropsAs, Serves, Admits}
 
 -- the mask m on the low k bits, and the number h on r bits above them
 abbrev pub topped : ℕ → ℕ → ℕ → Mask → Mask
@@ -43,6 +44,10 @@ NextQuotient f d u A N = Making f A (λ (x : ℕ). (size x ≡ N) × (keptOf (A 
 -- rounded in the directions d and e, the numbers of N digits that they make keep the same part
 abbrev pub KeepAlike : ℕ → way.Direction → way.Direction → exponent.Unit → pair.Aligned → ℕ → Type 0
 KeepAlike f d e u A N = (x : ℕ) → Made f A x → size x ≡ N → keptOf (A .below) f d x u ≡ keptOf (A .below) f e x u
+
+-- n has N digits, and dropped bits as they are wanted
+abbrev pub Sized : Format → ℕ → exponent.Unit → Dropped → ℕ → ℕ → Type 0
+Sized F q u D N n = (size n ≡ N) × DropsAs F q u D n
 
 -- only numbers of N digits meet m, of those of n bits
 abbrev pub OnlyDigits : ℕ → ℕ → Mask → Type 0

@@ -7,6 +7,7 @@ use crate::sought::Fractions;
 use crate::sought::sought;
 use bits::minus;
 use format::Format;
+use job::Dropped;
 use making::Aligned;
 use making::ask::rounds_at;
 use making::columns;
@@ -33,7 +34,7 @@ ghost use Rattle.rounding.specs.Width.{alignedBits, sumBits};
 ghost use Rattle.rounding.specs.Outcome.{roundedUnit, keptOf, boundedHeld};
 ghost use Rattle.making.specs.Making.{Made, Making, columnsOf, Room, Formed};
 ghost use Rattle.outcome.specs.Outcome.{Serves, InFormat};
-ghost use Rattle.outcome.specs.Question.{leastQuotient, NextQuotient, KeepAlike, OnlyDigits};
+ghost use Rattle.outcome.specs.Question.{leastQuotient, NextQuotient, KeepAlike, Sized, OnlyDigits};
 
 // The exponent of the unit of what they make, rounded, where that has so many digits.
 fn rounded_unit(f: u64, below: u64, count: u64, unit: Unit) -> Unit
@@ -113,8 +114,86 @@ fn rounds_to(
     rounds_at(aligned, f, direction, unit, rounded, x, kept)
 }
 
-// Whether they make a number that meets x, of so many digits and with `quotient` above the fraction, whose word meets c. It is asked about
-// in the direction `asked`, which keeps the same part of it.
+// Whether they make a number of so many digits, with dropped bits of which some are fixed, whose kept part is `quotient` and below it one of
+// the fractions: for each way in which it may have these bits.
+fn some_way(
+    format: Format,
+    direction: Direction,
+    unit: Unit,
+    aligned: Aligned,
+    dropped: Dropped,
+    count: u64,
+    quotient: u64,
+    fractions: Fractions,
+) -> bool
+    requires { ⌜ Room (format .f) aligned × (unit .0 < 2 ^ 63) × (0 < count) × (count ≤ columnsOf (format .f) aligned) × (quotient < 4) × (fractions .fraction .care < 2 ^ format .f) × (fractions .fraction .value < 2 ^ format .f) × (aligned .reversed ≡ true → direction ≡ TowardZero) × (dropped .g ≤ mostDropped) ⌝ }
+    ensures { λ r. ⌜ (Formed (format .f) aligned → ValidDropped dropped → (r ≡ true) ↔ Making (format .f) aligned (λ (n : ℕ). Sized format (aligned .below) unit dropped count n × (keptOf (aligned .below) (format .f) direction n unit / 2 ^ format .f ≡ quotient) × (fractions .possible ≡ true) × Meets (keptOf (aligned .below) (format .f) direction n unit % 2 ^ format .f) (fractions .fraction))) ⌝ }
+{
+    let last = columns(aligned.like, aligned.below, format.f);
+    let ways = ways_at(aligned.below, format.f, unit, dropped, count);
+    let mut way = 0;
+    while way < ways {
+        let x = numbers(last, format.f, dropped, count, way);
+        if rounds_to(
+            aligned,
+            format.f,
+            direction,
+            unit,
+            count,
+            x,
+            quotient,
+            fractions,
+        ) {
+            return true;
+        }
+        way += 1;
+    }
+    false
+}
+
+// Whether they make a number of so many digits, with dropped bits as they are wanted, whose kept part is `quotient` and below it one of the
+// fractions.
+fn rounds_as(
+    format: Format,
+    direction: Direction,
+    unit: Unit,
+    aligned: Aligned,
+    dropped: Dropped,
+    count: u64,
+    quotient: u64,
+    fractions: Fractions,
+) -> bool
+    requires { ⌜ Room (format .f) aligned × (unit .0 < 2 ^ 63) × (0 < count) × (count ≤ columnsOf (format .f) aligned) × (quotient < 4) × (fractions .fraction .care < 2 ^ format .f) × (fractions .fraction .value < 2 ^ format .f) × (aligned .reversed ≡ true → direction ≡ TowardZero) × (dropped .g ≤ mostDropped) ⌝ }
+    ensures { λ r. ⌜ (Formed (format .f) aligned → ValidDropped dropped → (r ≡ true) ↔ Making (format .f) aligned (λ (n : ℕ). Sized format (aligned .below) unit dropped count n × (keptOf (aligned .below) (format .f) direction n unit / 2 ^ format .f ≡ quotient) × (fractions .possible ≡ true) × Meets (keptOf (aligned .below) (format .f) direction n unit % 2 ^ format .f) (fractions .fraction))) ⌝ }
+{
+    let fixed = dropped.mask.care;
+    if fixed != 0 {
+        return some_way(
+            format,
+            direction,
+            unit,
+            aligned,
+            dropped,
+            count,
+            quotient,
+            fractions,
+        );
+    }
+    let x = masks::digits(columns(aligned.like, aligned.below, format.f), count);
+    rounds_to(
+        aligned,
+        format.f,
+        direction,
+        unit,
+        count,
+        x,
+        quotient,
+        fractions,
+    )
+}
+
+// Whether they make a number of so many digits with `quotient` above the fraction that has dropped bits as they are wanted and a word that
+// meets c. It is asked about in the direction `asked`, which keeps the same part of it.
 fn at_quotient(
     format: Format,
     direction: Direction,
@@ -122,18 +201,25 @@ fn at_quotient(
     sign: u64,
     unit: Unit,
     aligned: Aligned,
-    c: Mask,
+    target: Target,
     count: u64,
-    x: Mask,
     quotient: u64,
 ) -> bool
-    requires { ⌜ InFormat format sign unit × Room (format .f) aligned × (0 < count) × (count ≤ columnsOf (format .f) aligned) × (quotient < 4) × (Formed (format .f) aligned → KeepAlike (format .f) asked direction unit aligned count) × (aligned .reversed ≡ true → asked ≡ TowardZero) × OnlyDigits (columnsOf (format .f) aligned) count x ⌝ }
-    ensures { λ r. ⌜ (Formed (format .f) aligned → (r ≡ true) ↔ Making (format .f) aligned (λ (n : ℕ). Meets n x × (keptOf (aligned .below) (format .f) direction n unit / 2 ^ format .f ≡ quotient) × Meets (signed format sign (boundedHeld (aligned .below) format direction n unit)) c)) ⌝ }
+    requires { ⌜ InFormat format sign unit × Room (format .f) aligned × (0 < count) × (count ≤ columnsOf (format .f) aligned) × (quotient < 4) × (Formed (format .f) aligned → KeepAlike (format .f) asked direction unit aligned count) × (aligned .reversed ≡ true → asked ≡ TowardZero) × (target .dropped .g ≤ mostDropped) ⌝ }
+    ensures { λ r. ⌜ (Formed (format .f) aligned → ValidDropped (target .dropped) → (r ≡ true) ↔ Making (format .f) aligned (λ (n : ℕ). Sized format (aligned .below) unit (target .dropped) count n × (keptOf (aligned .below) (format .f) direction n unit / 2 ^ format .f ≡ quotient) × Meets (signed format sign (boundedHeld (aligned .below) format direction n unit)) (target .c))) ⌝ }
 {
-    let f = format.f;
-    let exponent = field_of(rounded_unit(f, aligned.below, count, unit), quotient);
-    let fractions = sought(format, direction, sign, c, exponent);
-    rounds_to(aligned, f, asked, unit, count, x, quotient, fractions)
+    let exponent = field_of(rounded_unit(format.f, aligned.below, count, unit), quotient);
+    let fractions = sought(format, direction, sign, target.c, exponent);
+    rounds_as(
+        format,
+        asked,
+        unit,
+        aligned,
+        target.dropped,
+        count,
+        quotient,
+        fractions,
+    )
 }
 
 // Whether rounding may carry into the next quotient. It never does toward zero, nor in the longest sum or difference: that is at most the
@@ -150,24 +236,23 @@ fn may_carry(f: u64, direction: Direction, aligned: Aligned, count: u64) -> bool
     }
 }
 
-// Whether they make a number that meets x, which asks for so many digits, whose word meets c.
+// Whether they make a number of so many digits, not 0, that has dropped bits as they are wanted and a word that meets c.
 fn at_count(
     format: Format,
     direction: Direction,
     sign: u64,
     unit: Unit,
     aligned: Aligned,
-    c: Mask,
+    target: Target,
     count: u64,
-    x: Mask,
 ) -> bool
-    requires { ⌜ InFormat format sign unit × Room (format .f) aligned × (0 < count) × (count ≤ columnsOf (format .f) aligned) × OnlyDigits (columnsOf (format .f) aligned) count x ⌝ }
-    ensures { λ r. ⌜ (Formed (format .f) aligned → (r ≡ true) ↔ Making (format .f) aligned (λ (n : ℕ). Meets n x × Meets (signed format sign (boundedHeld (aligned .below) format direction n unit)) c)) ⌝ }
+    requires { ⌜ InFormat format sign unit × Room (format .f) aligned × (0 < count) × (count ≤ columnsOf (format .f) aligned) × (target .dropped .g ≤ mostDropped) ⌝ }
+    ensures { λ r. ⌜ (Formed (format .f) aligned → ValidDropped (target .dropped) → (r ≡ true) ↔ Making (format .f) aligned (λ (n : ℕ). Sized format (aligned .below) unit (target .dropped) count n × Meets (signed format sign (boundedHeld (aligned .below) format direction n unit)) (target .c))) ⌝ }
 {
     let f = format.f;
     let h = least_quotient(f, aligned.below, unit, count);
     let by = asked_direction(f, direction, unit, aligned, count);
-    if at_quotient(format, direction, by, sign, unit, aligned, c, count, x, h) {
+    if at_quotient(format, direction, by, sign, unit, aligned, target, count, h) {
         return true;
     }
     if !may_carry(f, by, aligned, count) {
@@ -181,9 +266,8 @@ fn at_count(
         sign,
         unit,
         aligned,
-        c,
+        target,
         count,
-        x,
         next,
     )
 }
@@ -214,55 +298,6 @@ fn at_zero(format: Format, mode: u64, sign: u64, aligned: Aligned, target: Targe
         );
     }
     false
-}
-
-// Whether they make a number of so many digits, not 0, that serves, where dropped bits are fixed: for each way in which it may have them.
-fn some_way(
-    format: Format,
-    mode: u64,
-    sign: u64,
-    unit: Unit,
-    aligned: Aligned,
-    target: Target,
-    count: u64,
-) -> bool
-    requires { ⌜ InFormat format sign unit × Room (format .f) aligned × (target .dropped .g ≤ mostDropped) × (0 < count) × (count ≤ columnsOf (format .f) aligned) ⌝ }
-    ensures { λ r. ⌜ (Formed (format .f) aligned → ValidDropped (target .dropped) → (r ≡ true) ↔ Making (format .f) aligned (λ (x : ℕ). (size x ≡ count) × Serves format mode sign unit aligned target x)) ⌝ }
-{
-    let last = columns(aligned.like, aligned.below, format.f);
-    let direction = direction(mode, sign);
-    let ways = ways_at(aligned.below, format.f, unit, target.dropped, count);
-    let mut way = 0;
-    while way < ways {
-        let x = numbers(last, format.f, target.dropped, count, way);
-        if at_count(format, direction, sign, unit, aligned, target.c, count, x) {
-            return true;
-        }
-        way += 1;
-    }
-    false
-}
-
-// Whether they make a number of so many digits, not 0, that serves.
-fn at_digits(
-    format: Format,
-    mode: u64,
-    sign: u64,
-    unit: Unit,
-    aligned: Aligned,
-    target: Target,
-    count: u64,
-) -> bool
-    requires { ⌜ InFormat format sign unit × Room (format .f) aligned × (target .dropped .g ≤ mostDropped) × (0 < count) × (count ≤ columnsOf (format .f) aligned) ⌝ }
-    ensures { λ r. ⌜ (Formed (format .f) aligned → ValidDropped (target .dropped) → (r ≡ true) ↔ Making (format .f) aligned (λ (x : ℕ). (size x ≡ count) × Serves format mode sign unit aligned target x)) ⌝ }
-{
-    let fixed = target.dropped.mask.care;
-    if fixed != 0 {
-        return some_way(format, mode, sign, unit, aligned, target, count);
-    }
-    let x = masks::digits(columns(aligned.like, aligned.below, format.f), count);
-    let direction = direction(mode, sign);
-    at_count(format, direction, sign, unit, aligned, target.c, count, x)
 }
 
 // Whether a number of so many digits may have a word that meets c: for either quotient, by its exponent field. Where c fixes nothing above
@@ -321,5 +356,5 @@ pub(crate) fn fits(
     ) {
         return false;
     }
-    at_digits(format, mode, sign, unit, aligned, target, count)
+    at_count(format, direction, sign, unit, aligned, target, count)
 }

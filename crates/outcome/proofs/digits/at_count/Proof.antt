@@ -10,6 +10,7 @@ use Rattle.rounding.specs.Outcome.{boundedHeld}
 use Rattle.making.specs.declared.Aligned as pair
 use Rattle.making.specs.Making.{columnsOf}
 use Rattle.making.proofs.Made.{most-digits-bounds, aligned-lt}
+use Rattle.outcome.specs.Question.{Sized}
 use Rattle.outcome.proofs.Room.{unit-short}
 use Rattle.outcome.proofs.Kept.{least-le}
 use Rattle.outcome.proofs.Exact.{never-alike}
@@ -44,8 +45,8 @@ returns c =
     let s = c .before .before .before .before in
     let a = s .args in
     let q = c .before .before .before .least-quotient in
-    λ formed. first-quotient (a .format .f) (a .direction) (a .unit) (q .result) (a .aligned) (a .count) (a .x) (s .pre .4) (λ (n : ℕ). Meets (signed (a .format) (a .sign) (boundedHeld (a .aligned .below) (a .format) (a .direction) n (a .unit))) (a .c))
-    (s .pre .2) (most (a .format .f) (a .aligned) (a .count) (s .pre .3)) (q .ensures) (c .before .at-quotient .result) (c .before .at-quotient .ensures formed) (c .if1 .taken)
+    λ formed valid. first-quotient (a .format .f) (a .direction) (a .unit) (q .result) (a .aligned) (a .count) (Sized (a .format) (a .aligned .below) (a .unit) (a .target .dropped) (a .count)) (λ n p. p .0) (λ (n : ℕ). Meets (signed (a .format) (a .sign) (boundedHeld (a .aligned .below) (a .format) (a .direction) n (a .unit))) (a .target .c))
+    (s .pre .2) (most (a .format .f) (a .aligned) (a .count) (s .pre .3)) (q .ensures) (c .before .at-quotient .result) (c .before .at-quotient .ensures formed valid) (c .if1 .taken)
 
 may-carry-requires : tie.Need-may-carry-requires
 may-carry-requires c κs = let s = c .before .before .before .before in (s .pre .1, s .pre .2, s .pre .3)
@@ -57,8 +58,8 @@ returns-2 c =
     let q = c .before .before .before .before .before .least-quotient in
     let asked = c .before .before .before .before .asked-direction in
     let m = c .before .may-carry in
-    λ formed. only-quotient (a .format .f) (a .direction) (a .unit) (q .result) (a .aligned) (a .count) (a .x) (s .pre .4) (λ (n : ℕ). Meets (signed (a .format) (a .sign) (boundedHeld (a .aligned .below) (a .format) (a .direction) n (a .unit))) (a .c))
-    (s .pre .2) (most (a .format .f) (a .aligned) (a .count) (s .pre .3)) (q .ensures) (c .before .before .before .at-quotient .result) (c .before .before .before .at-quotient .ensures formed) (c .before .before .if1 .left)
+    λ formed valid. only-quotient (a .format .f) (a .direction) (a .unit) (q .result) (a .aligned) (a .count) (Sized (a .format) (a .aligned .below) (a .unit) (a .target .dropped) (a .count)) (λ n p. p .0) (λ (n : ℕ). Meets (signed (a .format) (a .sign) (boundedHeld (a .aligned .below) (a .format) (a .direction) n (a .unit))) (a .target .c))
+    (s .pre .2) (most (a .format .f) (a .aligned) (a .count) (s .pre .3)) (q .ensures) (c .before .before .before .at-quotient .result) (c .before .before .before .at-quotient .ensures formed valid) (c .before .before .if1 .left)
     (never-alike (a .format .f) (asked .result) (a .direction) (a .unit) (a .aligned) (a .count) (asked .ensures .0 formed) (m .ensures (not-true (m .result) (c .if2 .taken)) formed (a .unit)))
 
 add-next : tie.Need-add-next
@@ -80,9 +81,9 @@ returns-3 c =
     let s = c .before .before .before .before .before .before .before in
     let a = s .args in
     let q = c .before .before .before .before .before .before .least-quotient in
-    λ formed. second-quotient (a .format .f) (a .direction) (a .unit) (q .result) (a .aligned) (a .count) (a .x) (s .pre .4) (λ (n : ℕ). Meets (signed (a .format) (a .sign) (boundedHeld (a .aligned .below) (a .format) (a .direction) n (a .unit))) (a .c))
-    (s .pre .2) (most (a .format .f) (a .aligned) (a .count) (s .pre .3)) (q .ensures) (c .before .before .before .before .at-quotient .result) (c .before .before .before .before .at-quotient .ensures formed) (c .before .before .before .if1 .left)
-    (c .at-quotient2 .result) (c .at-quotient2 .ensures formed)
+    λ formed valid. second-quotient (a .format .f) (a .direction) (a .unit) (q .result) (a .aligned) (a .count) (Sized (a .format) (a .aligned .below) (a .unit) (a .target .dropped) (a .count)) (λ n p. p .0) (λ (n : ℕ). Meets (signed (a .format) (a .sign) (boundedHeld (a .aligned .below) (a .format) (a .direction) n (a .unit))) (a .target .c))
+    (s .pre .2) (most (a .format .f) (a .aligned) (a .count) (s .pre .3)) (q .ensures) (c .before .before .before .before .at-quotient .result) (c .before .before .before .before .at-quotient .ensures formed valid) (c .before .before .before .if1 .left)
+    (c .at-quotient2 .result) (c .at-quotient2 .ensures formed valid)
 
 pub at-count-spec : {M : Type 1} → statement M
 at-count-spec =

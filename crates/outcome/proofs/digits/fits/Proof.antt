@@ -2,7 +2,7 @@
 use native.Mathlib.Omega.{arith}
 use borrow.Author.Tests.{not-true}
 use Rattle.making.proofs.Made.{most-digits-bounds, aligned-lt}
-use Rattle.outcome.proofs.Counted.{none-left}
+use Rattle.outcome.proofs.Counted.{none-left, sized-serves}
 use borrow.Author.Needs.{needs}
 use Rattle.outcome.proofs.digits.fits.Statement.{statement}
 use Rattle.outcome.proofs.digits.fits.Tie as tie
@@ -38,11 +38,16 @@ returns-2 c =
     λ formed valid. none-left (a .format) (a .mode) (a .sign) (a .unit) (a .aligned) (a .target) (a .count) (omega (arith, c .before .before .before .if1 .left)) (d .result) (d .ensures)
     (left .ensures (not-true (left .result) (c .if2 .taken)))
 
-at-digits-requires : tie.Need-at-digits-requires
-at-digits-requires c κs = let s = c .before .before .before .before in (s .pre .0, s .pre .1, s .pre .2, omega (arith, c .before .before .before .if1 .left), s .pre .3)
+at-count-requires : tie.Need-at-count-requires
+at-count-requires c κs = let s = c .before .before .before .before in (s .pre .0, s .pre .1, omega (arith, c .before .before .before .if1 .left), s .pre .3, s .pre .2)
 
 returns-3 : tie.Need-returns-3
-returns-3 c = c .at-digits .ensures
+returns-3 c =
+    let s = c .before .before .before .before .before in
+    let a = s .args in
+    let d = c .before .before .before .direction in
+    λ formed valid. sized-serves (a .format) (a .mode) (a .sign) (a .unit) (a .aligned) (a .target) (a .count) (omega (arith, c .before .before .before .before .if1 .left)) (d .result) (d .ensures)
+    (c .at-count .result) (c .at-count .ensures formed valid)
 
 pub fits-spec : {M : Type 1} → statement M
-fits-spec = tie.close (tie.spec at-zero-requires returns direction-requires word-left-requires returns-2 at-digits-requires returns-3)
+fits-spec = tie.close (tie.spec at-zero-requires returns direction-requires word-left-requires returns-2 at-count-requires returns-3)
