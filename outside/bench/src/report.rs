@@ -232,15 +232,17 @@ fn stack(stacks: &Stacks) -> String {
 
 fn conditions(options: &Options, rows: &[Row]) -> String {
     let left_out: u64 = rows.iter().map(|row| row.left_out).sum();
+    let words: Vec<String> = std::env::args().skip(1).collect();
     format!(
         "## How it was measured\n\n\
          {}, then `cargo run --release --offline --manifest-path \
-         outside/bench/Cargo.toml -- --write`, on {}. Seed {:#x}. Each job is given {RUNS} times, \
+         outside/bench/Cargo.toml -- {}`, on {}. Seed {:#x}. Each job is given {RUNS} times, \
          to z3 as to the generator, and the least time counts; z3 is not given a job again that it \
          has had {} s for. All jobs that are timed ran on a thread with a stack of {} KiB. That no \
          job takes longer than the largest here is not shown.\n\n\
          {KINDS_MEAN} {left_out} impossible jobs were drawn again because they had a case.\n",
         library(),
+        words.join(" "),
         machine(),
         options.seed,
         ENOUGH.as_secs(),
