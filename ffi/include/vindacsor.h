@@ -24,6 +24,13 @@
  * only where it fixes nothing. Map bit 6 of a job record announces, after the random words, one byte
  * g, then care and value of 2 bytes each, low byte first. Where care is 0 the field is refused: with
  * 17 for a g above 8 or a value that is not 0, else with 10.
+ *
+ * Bounds: for each of a, b and c a job may state a low and a high bound, both included. They are
+ * compared as numbers: -0 equals +0, the infinities are the ends, and a NaN lies within no bounds.
+ * Map bit 7 of a job record announces a second map byte directly after the first, so that five
+ * bytes then stand before the masks; its bits 0 to 2 announce the bounds of a, b and c, each two
+ * words, low then high, after all other fields. Where the second map is 0 the record is refused
+ * with 10, after all else.
  */
 #ifndef VINDACSOR_H
 #define VINDACSOR_H
@@ -36,7 +43,7 @@ extern "C" {
 #endif
 
 /* The refusals. The masks are tested in the order 5, 14, 15, 16, 17, after 4 and before 6; those of
- * whole numbers, which have no 17, after 12 and before 6. */
+ * whole numbers, which have no 17, after 12 and before 6. 18 is tested after 6, before 7 and 10. */
 enum {
     VINDACSOR_EXPONENT_BITS = 1, /* w below 2 or above 11 */
     VINDACSOR_FRACTION_BITS = 2, /* f below 2 or above 52 */
@@ -45,11 +52,11 @@ enum {
     VINDACSOR_MASK = 5,          /* a's mask: a value bit outside care, or a bit above its width;
                                   * in whole numbers x's mask; in joining either mask, for a value
                                   * bit outside care */
-    VINDACSOR_WORD = 6,          /* operand, proposed or random word too wide */
+    VINDACSOR_WORD = 6,          /* operand, proposed or random word or bound too wide */
     VINDACSOR_NO_CASE = 7,       /* no case fits */
     VINDACSOR_CUT = 8,           /* record cut short, or no byte where a record is wanted */
-    VINDACSOR_MAP = 9,           /* map bit 7 set */
-    VINDACSOR_DEFAULT = 10,      /* field that says its default */
+    VINDACSOR_MAP = 9,           /* a bit from 3 on set in the second map */
+    VINDACSOR_DEFAULT = 10,      /* field that says its default, or a second map of 0 */
     VINDACSOR_BUFFER = 11,       /* out too short */
     VINDACSOR_LENGTH = 12,       /* length outside 1 to 32 */
     VINDACSOR_CLASH = 13,        /* two masks fix one bit unlike */
@@ -57,11 +64,12 @@ enum {
                                   * in whole numbers y's mask */
     VINDACSOR_THIRD_MASK = 15,   /* c's mask, in whole numbers z's: the same */
     VINDACSOR_CARRY_MASK = 16,   /* the carry mask: the same */
-    VINDACSOR_DROPPED_MASK = 17  /* g above 8, or the mask of the dropped bits: the same */
+    VINDACSOR_DROPPED_MASK = 17, /* g above 8, or the mask of the dropped bits: the same */
+    VINDACSOR_BOUNDS = 18        /* a bound is a NaN, or a low bound exceeds its high one */
 };
 
 /* The bytes of the longest job record. */
-enum { VINDACSOR_RECORD_BYTES = 90 };
+enum { VINDACSOR_RECORD_BYTES = 139 };
 
 /* The bytes of each answer. */
 enum {
@@ -94,7 +102,7 @@ uint64_t vindacsor_join(uint64_t care, uint64_t value, uint64_t care2, uint64_t 
 
 /* What stands first in a job file.
  * Answer: the length in bytes of the job record that stands there, 0 where no byte is left.
- * Refusals: 9, 8, 1 to 5, 14, 15, 16, 17, 6, 10, 11. */
+ * Refusals: 9, 8, 1 to 5, 14, 15, 16, 17, 6, 18, 10, 11. */
 uint64_t vindacsor_read(const uint8_t *file, size_t file_length,
                         uint8_t *out, size_t out_length);
 

@@ -7,8 +7,11 @@
 //! Mode 0 is nearest with ties to even, 1 toward zero, 2 up, 3 down, 4 nearest with ties away from
 //! zero. In a job record every word, of a carry mask too, has 4 bytes where w + f + 1 is at most
 //! 32, else 8. Map bit 6 announces, after the random words, g and the mask of the g dropped bits
-//! and the sticky bit: one byte, then care and value of 2 bytes each, low byte first. A record has
-//! at most [`LONGEST_RECORD`] bytes.
+//! and the sticky bit: one byte, then care and value of 2 bytes each, low byte first. Map bit 7
+//! announces a second map byte directly after the first, whose bits 0 to 2 announce the bounds of
+//! a, b and c: two words each, low then high, after all other fields. Both bounds are included, and
+//! compared as numbers: -0 equals +0, the infinities are the ends, and a NaN lies within none. A
+//! record has at most [`LONGEST_RECORD`] bytes.
 
 pub mod buffer;
 mod refusal;
@@ -16,7 +19,7 @@ mod refusal;
 pub use refusal::Refusal;
 
 /// The bytes of a job record that states everything, with words of 8 bytes.
-pub const LONGEST_RECORD: usize = 90;
+pub const LONGEST_RECORD: usize = 139;
 
 /// Which bits are fixed (`care`), and to what (`value`).
 #[derive(Clone, Copy, Debug, Default, PartialEq, Eq)]
@@ -95,7 +98,7 @@ pub fn join(one: Mask, other: Mask) -> Result<Mask, Refusal> {
 }
 
 /// The length of the job record that stands first in a file; none where no byte is left.
-/// Refuses with 9, 8, 1 to 5, 14, 15, 16, 17, 6, 10.
+/// Refuses with 9, 8, 1 to 5, 14, 15, 16, 17, 6, 18, 10.
 pub fn read(file: &[u8]) -> Result<Option<usize>, Refusal> {
     let length = answer(|out| buffer::read(file, out))?[0];
     Ok((length != 0).then_some(length as usize))
@@ -201,7 +204,47 @@ mod tests {
             assert_eq!(read(&record), Err(Refusal(number)));
             assert_eq!(generate(&record), Err(Refusal(number)));
         }
-        assert_eq!(read(&[0x80]), Err(Refusal(9)));
+    }
+
+    /// The record of case 1 with bounds of a.
+    fn bounded(low: u8, high: u8) -> Vec<u8> {
+        let bounds = [low, 0, 0, 0, high, 0, 0, 0];
+        [&[0x87, 1], &CASE_1[1..], &bounds].concat()
+    }
+
+    /// In case 1 a is 45 or 4D.
+    #[test]
+    fn bounds() {
+        assert_eq!(read(&bounded(0x45, 0x4D)), Ok(Some(37)));
+        let chosen = |low, high| generate(&bounded(low, high)).map(|case| case.a);
+        assert_eq!(chosen(0x45, 0x4D), Ok(0x45));
+        assert_eq!(chosen(0x46, 0x4D), Ok(0x4D));
+        assert_eq!(chosen(0x46, 0x4C), Err(Refusal(7)));
+        assert_eq!(chosen(0x80, 0x70), Ok(0x45));
+        assert_eq!(chosen(0x00, 0x80), Err(Refusal(7)));
+        for (low, high) in [(0x46, 0x45), (0x71, 0x71), (0x00, 0xFF), (0x70, 0xF0)] {
+            assert_eq!(chosen(low, high), Err(Refusal(18)));
+        }
+        let confirmed = |low, high| confirm(&bounded(low, high), 0x4D, 0x3B, 0x55);
+        assert_eq!(confirmed(0x4D, 0x4D), Ok(true));
+        assert_eq!(confirmed(0x45, 0x4C), Ok(false));
+        // 18 is the record's own, and comes before 6 for a proposed word.
+        let wide = confirm(&bounded(0x46, 0x45), 0x100, 0, 0);
+        assert_eq!(wide, Err(Refusal(18)));
+        let mut record = bounded(0x46, 0x45);
+        record[36] = 1;
+        assert_eq!(read(&record), Err(Refusal(6)));
+    }
+
+    #[test]
+    fn second_maps() {
+        let maps = |second: &[u8]| read(&[&[0x80], second].concat());
+        assert_eq!(maps(&[]), Err(Refusal(8)));
+        assert_eq!(maps(&[8]), Err(Refusal(9)));
+        assert_eq!(maps(&[7]), Err(Refusal(8)));
+        assert_eq!(maps(&[0, 3, 4]), Err(Refusal(8)));
+        assert_eq!(maps(&[0, 3, 4, 0]), Err(Refusal(10)));
+        assert_eq!(maps(&[0, 1, 4, 0]), Err(Refusal(1)));
     }
 
     /// Each mask of a job has its own number, and joining has one for both masks.

@@ -63,7 +63,7 @@ fn may_admit(job: Job, fields: Fields, end: Biased, table: &mut [u64; PLACES]) -
 }
 
 // Whether a case whose operands have these exponent fields fits; false in a format that is not supported and for a field that it does not
-// have. The table spares questions whose answer is no, and keeps what is found. For a job with a malformed mask, fields that do not meet
+// have. The table spares questions whose answer is no, and keeps what is found. For a job that is refused, fields that do not meet
 // their masks, another end than `class_end` gives or another table than one that this function kept, the answer and the table are free.
 pub fn admits(job: Job, ea: Biased, eb: Biased, end: Biased, table: &mut [u64; PLACES]) -> bool
     ensures in_range { λ r. ⌜ (r ≡ true → InRange (job .setting .format) ea eb) ⌝ }

@@ -67,7 +67,7 @@ fn open_above(reach: u64, ea: Biased, eb: Biased, end: Biased, closed: u64) -> B
     Biased(eb.0 + run)
 }
 
-// From eb on, a field of b before which none admits a case with a's, as far as the closed classes tell. For a job with a malformed mask,
+// From eb on, a field of b before which none admits a case with a's, as far as the closed classes tell. For a job that is refused,
 // another end than `class_end` gives or another table than one that `admits` kept, the answer is free but not below eb.
 pub fn open_from(job: Job, ea: Biased, eb: Biased, end: Biased, table: &[u64; PLACES]) -> Biased
     ensures { λ r. ⌜ (eb .0 ≤ r .0) × (Valid job → ClassEnd job end → Kept job (now (table .entry)) → NoPartner job ea eb r) ⌝ }
@@ -88,7 +88,7 @@ pub fn open_from(job: Job, ea: Biased, eb: Biased, end: Biased, table: &[u64; PL
     open_above(reach, ea, eb, end, table[at])
 }
 
-// Whether every class of pairs with a's field above the far gap is known to admit nothing. For a job with a malformed mask or another table
+// Whether every class of pairs with a's field above the far gap is known to admit nothing. For a job that is refused or another table
 // than one that `admits` kept, the answer is free.
 pub fn all_closed(job: Job, table: &[u64; PLACES]) -> bool
     ensures { λ r. ⌜ (r ≡ true → Valid job → Kept job (now (table .entry)) → (end : Biased) → ClassEnd job end → NoPair job end) ⌝ }

@@ -13,14 +13,15 @@ use lib.Ieee.{size}
 use Rattle.format.specs.Limits.{leastLength, mostLength, within}
 use Rattle.format.specs.Cause.{first}
 use Rattle.format.specs.Format.{wordBits, formatCause, operationCause, modeCause, wordCause}
-use Rattle.format.proofs.Laws.{first-some, within-holds}
+use Rattle.format.proofs.Laws.{both-none, word-none, within-holds}
 use Rattle.mask.specs.Mask.{maskCause, masksCause}
 use Rattle.choice.specs.Choice.{Farther}
 use Rattle.columns.proofs.Some.{or-cases}
 use Rattle.job.specs.declared.Job.{Job}
 use Rattle.job.specs.Dropped.{droppedCause}
-use Rattle.job.specs.Job.{settingCause, jobCause, requestCause}
-use Rattle.job.proofs.Laws.{job-none, request-none}
+use Rattle.job.specs.Job.{settingCause, formCause, causeWith, jobCause, requestCause}
+use Rattle.bounds.specs.Bounds.{rank, endsCause, boundsCause}
+use Rattle.job.proofs.Laws.{job-none, request-none, taken-words}
 use Rattle.adder.specs.declared.Reply as reply
 use Rattle.adder.specs.declared.Reply.the-variants as answer
 use Rattle.adder.specs.declared.Row as carry-row
@@ -214,8 +215,8 @@ caused-is j k e r1 r2 h1 h2 =
     let positive = ltb-true 0 k (p .0) in
     let is = eqb-true k (jobCause j) (p .1) in
     let width = wordBits (j .setting .format) in
-    let words = first (wordCause width r1) (wordCause width r2) in
-    let named = first-some (jobCause j) words (λ z. let q : k ≡ 0 = is ∙ z in omega (arith, positive, q)) in
+    let words = both-none _ _ (word-none width r1) (word-none width r2) .1 (h1, h2) in
+    let named = taken-words j (first (wordCause width r1) (wordCause width r2)) words in
     inl (subst (λ (n : ℕ). 0 < n) (is ∙ sym named) positive, is ∙ sym named)
 
 no-case-is : (j : Job) (k : ℕ) → (eqb (jobCause j) 0 && (eqb k cause.noCase && everyCase j (λ x y z. false))) ≡ true → Holds (refused j k)
@@ -271,5 +272,5 @@ every-holds (y ∷ ys) t x m =
 -- ---- the table
 
 pub cases-hold : (x : Claim) → List·Memᴰ x cases → Holds x
-unfolding every passes isWord isCarried isRow isBelow allFit listed notCloser isWhole isCase everyCase everyWord fits satisfies caseCause jobCause settingCause requestCause masksCause maskCause droppedCause formatCause operationCause modeCause wordCause resultCause rowCause size significand operandOf direction increment roundOff magnitudeWord overflowWord boundedWord cancelledSign finiteSum infiniteSum kindSum result gather finiteRow kindRow rowOf withSticky droppedWord exactMagnitude finiteBelow kindBelow belowOf
+unfolding every passes isWord isCarried isRow isBelow allFit listed notCloser isWhole isCase everyCase everyWord fits satisfies caseCause causeWith formCause settingCause requestCause masksCause maskCause droppedCause endsCause boundsCause rank formatCause operationCause modeCause wordCause resultCause rowCause size significand operandOf direction increment roundOff magnitudeWord overflowWord boundedWord cancelledSign finiteSum infiniteSum kindSum result gather finiteRow kindRow rowOf withSticky droppedWord exactMagnitude finiteBelow kindBelow belowOf
 cases-hold = every-holds cases refl

@@ -12,7 +12,10 @@ use Rattle.mask.specs.Mask.{freeMask}
 use Rattle.job.specs.declared.Job.{Job}
 use Rattle.job.specs.Dropped.{withDropped}
 use Rattle.job.specs.Job.{jobCause}
-use Rattle.job.specs.Role.{maskedJob}
+use Rattle.job.specs.Role.{wanted, withWanted, maskedJob}
+use Rattle.job.specs.declared.Role.{Role}
+use Rattle.job.specs.declared.Role.the-variants.{A, B, C}
+use Rattle.bounds.specs.declared.Bounds.the-variants.{Between}
 use Rattle.adder.specs.declared.Reply.the-variants.{Word}
 use Rattle.adder.specs.declared.Row.the-variants.{Carries, NoRow}
 use Rattle.adder.specs.declared.RowReply.{RowReply}
@@ -187,5 +190,31 @@ droppedJobs =
     ∷ refused (dropping freeMask 2 (record { care = 0x1; value = 0x1 })) 7 ∷ refused (dropping freeMask 2 (record { care = 0x8; value = 0x0 })) 17
     ∷ refused (dropping freeMask 9 freeMask) 17 ∷ refused (dropping outsideCare 9 freeMask) 16 ∷ []
 
+-- the job with bounds on a word
+abbrev pub bounding : Role → ℕ → ℕ → Job → Job
+bounding role low high j = withWanted role j (record { mask = wanted role j .mask; bounds = Between (record { low = low; high = high }) })
+
+-- the job that adds a and b in mode 0, whatever c
+abbrev pub of : ℕ → ℕ → Job
+of a b = adding 0 (record { care = 0xFF; value = a }) (record { care = 0xFF; value = b }) freeMask freeMask
+
+-- W-207. With the masks of case 1 and a from 46 to 4D only (4D, 3B, 55) fits, both bounds being included, and so with b from 3B to 3B or c
+-- from 4D to 70; with a from 46 to 4C no case does. Negative numbers: B1 lies from B2 to B0. Zeros are equal: 80 lies from 00 to 00, and 00
+-- from 00 to 80. Infinities lie at the ends, and no NaN between them.
+abbrev pub boundedJobs : List Claim
+boundedJobs =
+    exactly (bounding A 0x46 0x4D (masked 0 freeMask)) ((0x4D, 0x3B, 0x55) ∷ []) ∷ exactly (bounding B 0x3B 0x3B (masked 0 freeMask)) ((0x4D, 0x3B, 0x55) ∷ [])
+    ∷ exactly (bounding C 0x4D 0x70 (masked 0 freeMask)) ((0x4D, 0x3B, 0x55) ∷ []) ∷ refused (bounding A 0x46 0x4C (masked 0 freeMask)) 7
+    ∷ found (bounding A 0x46 0x4D (masked 0 freeMask)) 0x00 0x00 0x4D 0x3B 0x55 0x1D ∷ exactly (bounding A 0xB2 0xB0 (of 0xB1 0x30)) ((0xB1, 0x30, 0x84) ∷ [])
+    ∷ exactly (bounding A 0x00 0x00 (of 0x80 0x30)) ((0x80, 0x30, 0x30) ∷ []) ∷ exactly (bounding A 0x00 0x80 (of 0x00 0x30)) ((0x00, 0x30, 0x30) ∷ [])
+    ∷ exactly (bounding A 0xF0 0x70 (of 0x70 0x30)) ((0x70, 0x30, 0x70) ∷ []) ∷ refused (bounding A 0xF0 0x70 (of 0x78 0x30)) 7 ∷ []
+
+-- W-207. A bound that is a NaN and a low bound above the high one are refused with 18, a bound too wide with 6, also where 18 stands against
+-- another word's; a malformed mask of the dropped bits is named before them.
+abbrev pub refusedBounds : List Claim
+refusedBounds =
+    refused (bounding A 0x00 0x78 (of 0x30 0x30)) 18 ∷ refused (bounding C 0x31 0x30 (of 0x30 0x30)) 18 ∷ refused (bounding B 0x00 0x100 (of 0x30 0x30)) 6
+    ∷ refused (bounding A 0x31 0x30 (bounding B 0x00 0x100 (of 0x30 0x30))) 6 ∷ refused (bounding B 0x00 0x100 (dropping freeMask 9 freeMask)) 17 ∷ []
+
 abbrev pub cases : List Claim
-cases = case1 ++ case2 ++ case3 ++ case4 ++ case5 ++ case6 ++ case7 ++ case8 ++ case9 ++ case10 ++ case11 ++ tiesAway ++ malformed ++ byExponent ++ droppedBits ++ droppedJobs
+cases = case1 ++ case2 ++ case3 ++ case4 ++ case5 ++ case6 ++ case7 ++ case8 ++ case9 ++ case10 ++ case11 ++ tiesAway ++ malformed ++ byExponent ++ droppedBits ++ droppedJobs ++ boundedJobs ++ refusedBounds

@@ -11,9 +11,9 @@ use Rattle.bits.proofs.Laws.{bit-lt}
 use Rattle.steps.specs.Steps.{Leads, Resumes}
 use Rattle.steps.proofs.Steps.{leads-resume}
 use Rattle.mask.specs.declared.Mask.{Mask}
-use Rattle.mask.specs.Mask.{free, fix}
+use Rattle.mask.specs.Mask.{Meets, free, fix}
 use Rattle.choice.specs.Walk.{BitWalk, WalkState, FixedFrom, FixedBit, WordBit, OtherBit, NextBit}
-use Rattle.choice.proofs.Walk.{Lawful, WalkInvariant, EndsAt, fixed-below, walk-done, walk-formed, walk-top, walk-back, walk-step, other-all, other-left}
+use Rattle.choice.proofs.Walk.{Lawful, WalkInvariant, EndsAt, fixed-below, walk-done, walk-formed, walk-top, walk-less, walk-step, other-all, other-left}
 
 -- ---- one step
 
@@ -37,15 +37,15 @@ module _ (W : BitWalk) (word : ℕ) where
     other-lt : 1 - bit word (t .open-bits) < 2
     other-lt = omega arith
 
-    -- fixing more never gains a case
-    pub next-back : (c : W .Case) → W .Fits (t .mask) c → W .Fits (s .mask) c
-    next-back c f = go (next .chosen)
+    -- a number that meets the mask after a step met it before
+    pub next-less : (x : ℕ) → Meets x (t .mask) → Meets x (s .mask)
+    next-less x met = go (next .chosen)
       where
-        fixed : (v : ℕ) → v < 2 → t .mask ≡ fix (s .mask) (t .open-bits) v → W .Fits (s .mask) c
-        fixed v hv e = walk-back W n law (s .mask) (o .formed) (t .open-bits) k-lt v hv c (subst (λ (m : Mask). W .Fits m c) e f)
+        fixed : (v : ℕ) → v < 2 → t .mask ≡ fix (s .mask) (t .open-bits) v → Meets x (s .mask)
+        fixed v hv e = walk-less W n law (s .mask) (o .formed) (t .open-bits) k-lt v hv x (subst (Meets x) e met)
 
-        go : FixedBit W word s t ⊎ WordBit W word s t ⊎ OtherBit W word s t → W .Fits (s .mask) c
-        go (inl h) = subst (λ (m : Mask). W .Fits m c) (h .mask) f
+        go : FixedBit W word s t ⊎ WordBit W word s t ⊎ OtherBit W word s t → Meets x (s .mask)
+        go (inl h) = subst (Meets x) (h .mask) met
         go (inr (inl h)) = fixed (bit word (t .open-bits)) (bit-lt word (t .open-bits)) (h .mask)
         go (inr (inr h)) = fixed (1 - bit word (t .open-bits)) other-lt (h .mask)
 

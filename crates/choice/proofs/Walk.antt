@@ -91,9 +91,13 @@ module _ (W : BitWalk) (n : ℕ) (law : Lawful W n) where
       met : Narrowed (λ x. Meets x m) (λ x. Meets x (fix m k v)) k v
       met = fix-narrows m k v k-lt hv (formed .inside)
 
+      -- a number that meets the mask with the bit fixed meets the mask
+      pub walk-less : (x : ℕ) → Meets x (fix m k v) → Meets x m
+      walk-less x h = met .same x .0 h .0
+
       -- fixing more never gains a case
-      pub walk-back : (c : W .Case) → W .Fits (fix m k v) c → W .Fits m c
-      walk-back c f = law .replaced (fix m k v) m c f (met .same (W .number c) .0 (law .meets (fix m k v) c f) .0)
+      walk-back : (c : W .Case) → W .Fits (fix m k v) c → W .Fits m c
+      walk-back c f = law .replaced (fix m k v) m c f (walk-less (W .number c) (law .meets (fix m k v) c f))
 
       walk-narrows : Narrowed (NumberLeft m) (NumberLeft (fix m k v)) k v
       walk-narrows = record { is = met .is; same = λ y. (to y, from y); why = why (met .why) }

@@ -113,7 +113,7 @@ fn asking(job: Job, n: Mask) -> Job
     with_wanted(job, Role::C, wanted)
 }
 
-// Whether the pair that stands for a class admits a case, where n is asked of c's exponent field. For a job with a malformed mask, a class
+// Whether the pair that stands for a class admits a case, where n is asked of c's exponent field. For a job that is refused, a class
 // that its format does not have and a malformed n the answer is free: a job is tested once, where the generator is asked.
 pub fn class_admits(job: Job, class: Class, n: Mask) -> bool
     ensures { λ r. ⌜ (ClassFor job class → WellFormed (job .setting .format .w) n → (r ≡ true) ↔ ClassAdmits job class n) ⌝ }

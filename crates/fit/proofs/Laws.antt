@@ -9,14 +9,16 @@ use Rattle.format.specs.declared.Format.{Format}
 use Rattle.format.specs.Format.{wordBits}
 use Rattle.format.proofs.Laws.{both-none, word-none}
 use Rattle.mask.specs.declared.Mask.{Mask}
-use Rattle.mask.specs.Mask.{Inside}
+use Rattle.mask.specs.Mask.{Inside, meets}
 use Rattle.mask.proofs.ByBits.{free-meets}
 use Rattle.mask.proofs.Checks.{meets-true}
+use Rattle.bounds.specs.Bounds.{within}
+use Rattle.bounds.proofs.Laws.{within-true}
 use Rattle.job.specs.declared.Setting.{Setting}
 use Rattle.job.specs.declared.Wanted.{Wanted}
 use Rattle.job.specs.declared.Job.{Job}
 use Rattle.job.specs.Job.{ValidSetting, Valid}
-use Rattle.job.proofs.Laws.{job-none}
+use Rattle.job.proofs.Laws.{with-none}
 use Rattle.adder.specs.declared.Row as row
 use Rattle.adder.specs.declared.Row.the-variants.{Carries, NoRow}
 use Rattle.adder.specs.declared.Below as below
@@ -38,7 +40,11 @@ unfixed-met (Bits r) m inside none = free-meets r m inside none
 unfixed-met NoBits m inside none = none
 
 pub allowed-true : (F : Format) (x : ℕ) (W : Wanted) → allowed F x W ≡ true ↔ Allowed F x W
-allowed-true F x W = (λ e. record { mask = meets-true x (W .mask) .0 e }, λ h. meets-true x (W .mask) .1 (h .mask))
+allowed-true F x W =
+    let both = and-eq-true-iff (meets x (W .mask)) (within F x (W .bounds)) in (
+      (λ e. record { mask = meets-true x (W .mask) .0 (both .0 e .0); within = within-true F x (W .bounds) .0 (both .0 e .1) }),
+      λ h. both .1 (meets-true x (W .mask) .1 (h .mask), within-true F x (W .bounds) .1 (h .within)),
+    )
 
 pub satisfies-true : (j : Job) (a b c : ℕ) → satisfies j a b c ≡ true ↔ Satisfies j a b c
 unfolding satisfies
@@ -108,7 +114,7 @@ pub case-none : (j : Job) (a b c : ℕ) → caseCause j a b c ≡ 0 ↔ (Valid j
 unfolding caseCause
 case-none j a b c =
     let width = wordBits (j .setting .format) in
-    let law = both-none _ _ (job-none j) (both-none _ _ (word-none width a) (both-none _ _ (word-none width b) (word-none width c))) in (
+    let law = with-none j _ (both-none _ _ (word-none width a) (both-none _ _ (word-none width b) (word-none width c))) in (
       (λ e.
           let p = law .0 e in
           let w = p .1 in

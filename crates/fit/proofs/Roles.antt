@@ -34,3 +34,10 @@ module _ (j : Job) (a b c : ℕ) where
     right = f .right;
     satisfies = record { a-allowed = f .satisfies .a-allowed; b-allowed = f .satisfies .b-allowed; c-allowed = h; row = f .satisfies .row; dropped = f .satisfies .dropped };
   }
+
+-- two conditions on a word of which the first asks for no less
+pub fits-changed : (role : Role) (j : Job) (w w′ : Wanted) (a b c : ℕ) → ((x : ℕ) → Allowed (j .setting .format) x w → Allowed (j .setting .format) x w′)
+    → Fits (withWanted role j w) a b c → Fits (withWanted role j w′) a b c
+fits-changed A j w w′ a b c h f = fits-with (withWanted A j w) a b c A w′ f (h a (f .satisfies .a-allowed))
+fits-changed B j w w′ a b c h f = fits-with (withWanted B j w) a b c B w′ f (h b (f .satisfies .b-allowed))
+fits-changed C j w w′ a b c h f = fits-with (withWanted C j w) a b c C w′ f (h c (f .satisfies .c-allowed))

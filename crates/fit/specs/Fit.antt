@@ -1,4 +1,4 @@
--- A case fits a job (document 01, "Masks and choice"; document 02, W-206): it is right in the job's setting, and it meets what the job
+-- A case fits a job (document 01, "Masks and choice"; document 02, W-206, W-207): it is right in the job's setting, and it meets what the job
 -- states. Beside that the reply about a proposed case ("Causes and replies"). Each statement comes twice: as a record, which laws and
 -- contracts read, and as a Bool, which confirmation computes; `proofs/Laws.antt` has that they say the same. Neither runs a search.
 -- Assumes nothing.
@@ -14,7 +14,8 @@ use Rattle.mask.specs.Mask.{Meets, meets}
 use Rattle.job.specs.declared.Setting.{Setting}
 use Rattle.job.specs.declared.Wanted.{Wanted}
 use Rattle.job.specs.declared.Job.{Job}
-use Rattle.job.specs.Job.{jobCause}
+use Rattle.bounds.specs.Bounds.{Within, within}
+use Rattle.job.specs.Job.{causeWith}
 use Rattle.adder.specs.declared.Row as row
 use Rattle.adder.specs.declared.Row.the-variants.{Carries, NoRow}
 use Rattle.adder.specs.declared.Below as below
@@ -48,12 +49,13 @@ pub record Right (S : Setting) (a b c : ℕ) : Type 0 where
 
 -- ---- what a job states
 
--- a word of the format is as wanted: it agrees with every fixed bit
+-- a word of the format is as wanted: it agrees with every fixed bit, and lies within the bounds (W-207: "Masks and bounds apply jointly")
 pub record Allowed (F : Format) (x : ℕ) (W : Wanted) : Type 0 where
   pub mask : Meets x (W .mask)
+  pub within : Within F x (W .bounds)
 
 abbrev pub allowed : Format → ℕ → Wanted → Bool
-allowed F x W = meets x (W .mask)
+allowed F x W = meets x (W .mask) && within F x (W .bounds)
 
 -- the row agrees with every fixed bit; where there is no row, only a carry mask that fixes no bit is met ("The carry row")
 abbrev pub RowMeets : row.Row → Mask → Type 0
@@ -104,10 +106,10 @@ fits j a b c = eqb (resultIn (j .setting) a b) c && satisfies j a b c
 
 -- ---- the reply
 
--- "Order": what stands against the job, then 6 against the three proposed words
+-- what stands against the job and three proposed words
 unfoldable pub caseCause : Job → ℕ → ℕ → ℕ → ℕ
 caseCause j a b c =
-    first (jobCause j)
+    causeWith j
     (first (wordCause (wordBits (j .setting .format)) a)
     (first (wordCause (wordBits (j .setting .format)) b) (wordCause (wordBits (j .setting .format)) c)))
 

@@ -6,6 +6,7 @@ use adder::RowReply;
 use adder::below_last::below_last;
 use adder::carry_row::carry_row;
 use adder::result::rounded_result;
+use bounds::within;
 use format::Format;
 use format::first;
 use format::format_cause;
@@ -14,13 +15,13 @@ use job::Dropped;
 use job::Job;
 use job::Setting;
 use job::Wanted;
-use job::job_cause;
+use job::cause_with;
 use mask::Mask;
 use mask::meets;
 ghost use mathlib.Core.Path.{_≡_};
 ghost use Prim.Native.Nat.{_^_, _<_};
 ghost use lib.Dec.{eqb};
-ghost use Rattle.format.specs.Format.{wordBits};
+ghost use Rattle.format.specs.Format.{Supported, wordBits};
 ghost use Rattle.job.specs.Dropped.{ValidDropped};
 ghost use Rattle.job.specs.Job.{ValidSetting, Valid};
 ghost use Rattle.fit.specs.Fit.{resultIn, rowIn, belowIn, allowed, rowMeets, belowMeets, satisfies, fits, caseCause, confirmedReply};
@@ -32,28 +33,29 @@ pub enum Confirmed {
     Refused(u64),
 }
 
-// What stands against the job, or 6 where a proposed word is too wide; else 0. Words are looked at in a supported format alone, whose width
-// does not wrap.
+// What stands against the job and three proposed words, 0 for none. In a format that is not supported the words are not looked at, whose
+// width might wrap.
 pub fn case_cause(job: Job, a: u64, b: u64, c: u64) -> u64
     ensures { λ r. ⌜ r ≡ caseCause job a b c ⌝ }
 {
-    let refusal = job_cause(job);
     if format_cause(job.setting.format) != 0 {
-        return refusal;
+        return cause_with(job, 0);
     }
     let width = job.setting.format.w + job.setting.format.f + 1;
     let words = first(
         word_cause(width, a),
         first(word_cause(width, b), word_cause(width, c)),
     );
-    first(refusal, words)
+    cause_with(job, words)
 }
 
 // Whether a word of the format is as wanted.
 fn allowed(format: Format, w: Wanted, x: u64) -> bool
+    requires { ⌜ Supported format ⌝ }
     ensures { λ r. ⌜ r ≡ allowed format x w ⌝ }
 {
-    meets(w.mask, x)
+    let bounds = w.bounds;
+    meets(w.mask, x) & within(format, bounds, x)
 }
 
 // Whether a row agrees with the carry mask; where there is no row, only a mask that fixes no bit does.

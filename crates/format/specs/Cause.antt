@@ -59,6 +59,10 @@ carryMask = 16
 abbrev pub droppedMask : ℕ
 droppedMask = 17
 
+-- W-207: a bound is a NaN, or low exceeds high
+abbrev pub bounds : ℕ
+bounds = 18
+
 -- no cause where the test holds, else the number
 abbrev pub unless : Bool → ℕ → ℕ
 unless true n = 0

@@ -10,15 +10,15 @@ pub const OPERATION: u64 = 3;
 pub const MODE: u64 = 4;
 // a's mask malformed, or x's, or either in joining: a bit above its width, or a value bit outside care
 pub const MASK: u64 = 5;
-// operand, proposed or random word above its width
+// operand, proposed or random word, or a bound, above its width
 pub const WORD: u64 = 6;
 // no case fits
 pub const NO_CASE: u64 = 7;
 // record cut short
 pub const CUT: u64 = 8;
-// map bit 7 set
+// a bit of the second map that stands for no field
 pub const MAP_BITS: u64 = 9;
-// field that says its default
+// field that says its default, or an empty second map
 pub const DEFAULT_FIELD: u64 = 10;
 // buffer too short for the record
 pub const BUFFER: u64 = 11;
@@ -34,3 +34,5 @@ pub const THIRD_MASK: u64 = 15;
 pub const CARRY_MASK: u64 = 16;
 // g above 8, or the mask of the dropped bits malformed
 pub const DROPPED_MASK: u64 = 17;
+// a bound is a NaN, or the low one exceeds the high one
+pub const BOUNDS: u64 = 18;

@@ -3,14 +3,20 @@ use crate::line::ask;
 use crate::line::put_reply;
 use crate::same::same_reply;
 use adder::Row;
+use bounds::Bounds;
+use bounds::Ends;
 use format::Format;
 use format::cause;
 use generator::Case;
 use generator::Reply;
 use job::Dropped;
 use job::Job;
+use job::Role;
 use job::Setting;
+use job::Wanted;
 use job::words::masked_job;
+use job::words::wanted;
+use job::words::with_wanted;
 use mask::Mask;
 use tally::Count;
 use tally::count_line;
@@ -53,6 +59,17 @@ pub(crate) fn eight(mode: u64, carries: Mask) -> Job {
 // Nothing fixed.
 pub(crate) fn open(setting: Setting) -> Job {
     masked_job(setting, free(), free(), free(), free())
+}
+
+// The job with bounds on a word.
+pub(crate) fn bounding(job: Job, role: Role, low: u64, high: u64) -> Job {
+    let own = wanted(job, role);
+    let mask = own.mask;
+    let with = Wanted {
+        mask,
+        bounds: Bounds::Between(Ends { low, high }),
+    };
+    with_wanted(job, role, with)
 }
 
 // The job with a mask on g dropped bits and the sticky bit.

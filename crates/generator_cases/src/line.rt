@@ -1,9 +1,11 @@
 // A line for each case: what was asked, what came, and whether that is what was expected.
 use adder::Row;
+use bounds::Bounds;
 use generator::Case;
 use generator::Reply;
 use job::Dropped;
 use job::Job;
+use job::Wanted;
 use libc::STDOUT_FILENO;
 use mask::Mask;
 
@@ -21,6 +23,19 @@ fn put_mask(name: &[u8], m: Mask) {
     io::write_all(STDOUT_FILENO, name);
     put_word(m.care);
     put_word(m.value);
+}
+
+// The bounds of the word of this name; nothing where none are stated.
+fn put_bounds(name: &[u8], w: Wanted) {
+    let bounds = w.bounds;
+    match bounds {
+        Bounds::Unbounded => {}
+        Bounds::Between(ends) => {
+            io::write_all(STDOUT_FILENO, name);
+            put_word(ends.low);
+            put_word(ends.high);
+        }
+    }
 }
 
 // g, and the care and the value of its mask; nothing where all are 0.
@@ -52,6 +67,9 @@ pub(crate) fn ask(job: Job, r1: u64, r2: u64) {
     put_mask(b" c", job.c.mask);
     put_mask(b" carries", job.carries);
     put_dropped(job.dropped);
+    put_bounds(b" a within", job.a);
+    put_bounds(b" b within", job.b);
+    put_bounds(b" c within", job.c);
     io::write_all(STDOUT_FILENO, b" words");
     put_word(r1);
     put_word(r2);

@@ -1,5 +1,6 @@
-// Cases 1 to 4, 12 and 13 of document 01, a tie in double precision, borrows of equal exponents, dropped bits and one job for each cause of
-// bad input, through the case generator.
+// Cases 1 to 4, 12 and 13 of document 01, a tie in double precision, borrows of equal exponents, dropped bits, bounds and one job for each
+// cause of bad input, through the case generator.
+mod bounded;
 mod difference;
 mod document;
 mod dropped;
@@ -18,6 +19,7 @@ fn main() {
     let double = document::double_tie(signs);
     let borrows = document::borrows(double);
     let ties = difference::ties(near::ties(borrows));
-    let stated = dropped::stated(ties);
-    tally::put_count(dropped::malformed(document::bad_input(stated)));
+    let stated = bounded::stated(dropped::stated(ties));
+    let refused = dropped::malformed(document::bad_input(stated));
+    tally::put_count(bounded::malformed(refused));
 }

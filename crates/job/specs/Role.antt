@@ -7,6 +7,7 @@ use Rattle.job.specs.declared.Job.{Job}
 use Rattle.job.specs.declared.Role.{Role}
 use Rattle.job.specs.declared.Role.the-variants.{A, B, C}
 use Rattle.job.specs.Dropped.{freeDropped}
+use Rattle.bounds.specs.declared.Bounds.the-variants.{Unbounded}
 
 -- the word of a role in the case (a, b, c)
 abbrev pub member : Role → ℕ → ℕ → ℕ → ℕ
@@ -28,7 +29,7 @@ withWanted C j w = record { setting = j .setting; a = j .a; b = j .b; c = w; car
 
 -- the same conditions with another mask
 abbrev pub withMask : Wanted → Mask → Wanted
-withMask w m = record { mask = m }
+withMask w m = record { mask = m; bounds = w .bounds }
 
 -- the job with another mask of that word
 abbrev pub withWordMask : Role → Job → Mask → Job
@@ -36,7 +37,18 @@ withWordMask role j m = withWanted role j (withMask (wanted role j) m)
 
 -- a word agrees with a mask, and nothing else is wanted of it
 abbrev pub onlyMask : Mask → Wanted
-onlyMask m = record { mask = m }
+onlyMask m = record { mask = m; bounds = Unbounded }
+
+-- the job without its bounds
+abbrev pub unbounded : Job → Job
+unbounded j = record {
+  setting = j .setting;
+  a = onlyMask (j .a .mask);
+  b = onlyMask (j .b .mask);
+  c = onlyMask (j .c .mask);
+  carries = j .carries;
+  dropped = j .dropped;
+}
 
 -- the job that states four masks and nothing else
 abbrev pub maskedJob : Setting → Mask → Mask → Mask → Mask → Job

@@ -4,6 +4,9 @@ pub mod guards;
 pub mod words;
 
 use below::dropped_cause;
+use bounds::Bounds;
+use bounds::bounds_cause;
+use bounds::ends_cause;
 use format::Format;
 use format::first;
 use format::format_cause;
@@ -14,7 +17,8 @@ use mask::Mask;
 use mask::masks_cause;
 ghost use mathlib.Core.Path.{_≡_};
 ghost use Rattle.format.specs.Format.{Supported};
-ghost use Rattle.job.specs.Job.{settingCause, jobMasksCause, jobCause, requestCause};
+ghost use Rattle.bounds.specs.Bounds.{endsCause, boundsCause};
+ghost use Rattle.job.specs.Job.{settingCause, jobMasksCause, jobEndsCause, jobBoundsCause, formCause, causeWith, requestCause};
 
 // What decides the result of two operands.
 pub struct Setting {
@@ -26,6 +30,7 @@ pub struct Setting {
 // What is wanted of one word of a case.
 pub struct Wanted {
     pub mask: Mask,
+    pub bounds: Bounds,
 }
 
 // What is wanted of the bits that rounding drops: of g of them, and below them the sticky bit, bit 0 of the mask.
@@ -79,8 +84,8 @@ fn job_masks_cause(job: Job) -> u64
 }
 
 // The first of the causes 1 to 4 that stands against the job, or 5, 14, 15, 16 or 17 for a malformed mask; else 0.
-pub fn job_cause(job: Job) -> u64
-    ensures { λ r. ⌜ r ≡ jobCause job ⌝ }
+fn form_cause(job: Job) -> u64
+    ensures { λ r. ⌜ r ≡ formCause job ⌝ }
 {
     let setting = job.setting;
     let refusal = setting_cause(setting);
@@ -90,16 +95,67 @@ pub fn job_cause(job: Job) -> u64
     job_masks_cause(job)
 }
 
-// What stands against the job, or 6 where a random word is too wide; else 0. Words are looked at in a supported format alone, whose width
-// does not wrap.
+// 6 where a bound of the word is too wide, else 0.
+fn word_ends_cause(format: Format, w: Wanted) -> u64
+    ensures { λ r. ⌜ (Supported format → r ≡ endsCause format (w .bounds)) ⌝ }
+{
+    let bounds = w.bounds;
+    ends_cause(format, bounds)
+}
+
+// 6 where a bound is too wide, else 0.
+fn job_ends_cause(job: Job) -> u64
+    requires { ⌜ Supported (job .setting .format) ⌝ }
+    ensures { λ r. ⌜ r ≡ jobEndsCause job ⌝ }
+{
+    let format = job.setting.format;
+    let a = word_ends_cause(format, job.a);
+    let b = word_ends_cause(format, job.b);
+    first(a, first(b, word_ends_cause(format, job.c)))
+}
+
+// 18 where a bound of the word is a NaN, or the low one exceeds the high one; else 0.
+fn word_bounds_cause(format: Format, w: Wanted) -> u64
+    ensures { λ r. ⌜ (Supported format → r ≡ boundsCause format (w .bounds)) ⌝ }
+{
+    let bounds = w.bounds;
+    bounds_cause(format, bounds)
+}
+
+// 18 where a bound is a NaN, or a low one exceeds its high one; else 0.
+fn job_bounds_cause(job: Job) -> u64
+    requires { ⌜ Supported (job .setting .format) ⌝ }
+    ensures { λ r. ⌜ r ≡ jobBoundsCause job ⌝ }
+{
+    let format = job.setting.format;
+    let a = word_bounds_cause(format, job.a);
+    let b = word_bounds_cause(format, job.b);
+    first(a, first(b, word_bounds_cause(format, job.c)))
+}
+
+// The first cause that stands against the job and words that come with it, whose own cause is given, 0 for none. Bounds are looked at in a
+// supported format alone.
+pub fn cause_with(job: Job, words: u64) -> u64
+    ensures { λ r. ⌜ r ≡ causeWith job words ⌝ }
+{
+    let form = form_cause(job);
+    if form != 0 {
+        return form;
+    }
+    let ends = job_ends_cause(job);
+    let order = job_bounds_cause(job);
+    first(ends, first(words, order))
+}
+
+// What stands against the job and two random words, 0 for none. In a format that is not supported the words are not looked at, whose width
+// might wrap.
 pub fn request_cause(job: Job, r1: u64, r2: u64) -> u64
     ensures { λ r. ⌜ r ≡ requestCause job r1 r2 ⌝ }
 {
-    let refusal = job_cause(job);
     if format_cause(job.setting.format) != 0 {
-        return refusal;
+        return cause_with(job, 0);
     }
     let width = job.setting.format.w + job.setting.format.f + 1;
     let words = first(word_cause(width, r1), word_cause(width, r2));
-    first(refusal, words)
+    cause_with(job, words)
 }

@@ -4,9 +4,10 @@ use crate::Role;
 use crate::Setting;
 use crate::Wanted;
 use crate::below::free_dropped;
+use bounds::Bounds;
 use mask::Mask;
 ghost use mathlib.Core.Path.{_≡_};
-ghost use Rattle.job.specs.Role.{wanted, withWanted, withMask, withWordMask, maskedJob};
+ghost use Rattle.job.specs.Role.{wanted, withWanted, withMask, withWordMask, onlyMask, maskedJob};
 
 // What is wanted of the word of a role.
 pub fn wanted(job: Job, role: Role) -> Wanted
@@ -49,15 +50,25 @@ pub fn with_word_mask(job: Job, role: Role, m: Mask) -> Job
     with_wanted(job, role, with_mask(w, m))
 }
 
+// A word agrees with the mask, and nothing else is wanted of it.
+fn only_mask(m: Mask) -> Wanted
+    ensures { λ r. ⌜ r ≡ onlyMask m ⌝ }
+{
+    Wanted {
+        mask: m,
+        bounds: Bounds::Unbounded,
+    }
+}
+
 // The job that states four masks and nothing else.
 pub fn masked_job(setting: Setting, a: Mask, b: Mask, c: Mask, carries: Mask) -> Job
     ensures { λ r. ⌜ r ≡ maskedJob setting a b c carries ⌝ }
 {
     Job {
         setting,
-        a: Wanted { mask: a },
-        b: Wanted { mask: b },
-        c: Wanted { mask: c },
+        a: only_mask(a),
+        b: only_mask(b),
+        c: only_mask(c),
         carries,
         dropped: free_dropped(),
     }

@@ -4,7 +4,7 @@
 use mathlib.Core.Path.{_≡_, refl, sym, ap, ap₂, _∙_}
 use mathlib.Core.Bool.{Bool, true, false, not, cond, _&&_, _||_, true≢false, and-eq-true-iff}
 use Prim.Native.Nat.{ℕ, zero, suc, _+_, _*_, _%_, _^_, _≤_, _<_}
-use native.Mathlib.Nat.{zero-mul, one-mul, zero-div}
+use native.Mathlib.Nat.{zero-mul, one-mul, zero-div, mod-lt}
 use native.Mathlib.Decide.{decLt}
 use native.Mathlib.Omega.{arith}
 use borrow.Author.Tests.{ltb-true, eqb-true, eqb-false, eq-eqb, ne-eqb}
@@ -14,7 +14,7 @@ use lib.Dec.{eqb, ltb}
 use lib.Bits.{bitOr, or-zero-r, or-lt}
 use lib.Pow.{pow-lt, pow-pos}
 use Rattle.bits.specs.Bit.{bit}
-use Rattle.bits.proofs.Laws.{bit-lt, by-bits, bit-pow-same, bit-pow-other}
+use Rattle.bits.proofs.Laws.{bit-lt, bit-mod, by-bits, bit-pow-same, bit-pow-other}
 use Rattle.bits.proofs.Logic.{bit-or}
 use Rattle.mask.proofs.Bitwise.{of-bit, bit-case}
 use Rattle.numbers.specs.Number.{number}
@@ -136,6 +136,25 @@ default-cons i n p ps ns t =
     let both = and-eq-true-iff (not (eqb (p .bit) i) || eqb n 0) (isDefault i ps ns) .0 t in
     (λ e. eqb-true n 0 (rw (eq-eqb (p .bit) i e) at (both .0)), both .1)
 
+-- the test of a layout is that of its first part, and of the rest with the numbers after those
+pub default-front : (i : ℕ) (ps qs : List Slot) (ns : List ℕ) → isDefault i (ps ++ qs) ns ≡ true → isDefault i ps ns ≡ true
+unfolding isDefault
+default-front i [] qs ns t = refl
+default-front i (p ∷ ps) qs [] t = refl
+default-front i (p ∷ ps) qs (n ∷ ns) t =
+    let own : Bool = not (eqb (p .bit) i) || eqb n 0 in
+    let both = and-eq-true-iff own (isDefault i (ps ++ qs) ns) .0 t in
+    and-eq-true-iff own (isDefault i ps ns) .1 (both .0, default-front i ps qs ns (both .1))
+
+pub default-append : (i : ℕ) (ps qs : List Slot) (ns : List ℕ) → isDefault i ps ns ≡ true → isDefault i qs (drop (length ps) ns) ≡ true → isDefault i (ps ++ qs) ns ≡ true
+unfolding isDefault
+default-append i [] qs ns s t = t
+default-append i (p ∷ ps) qs [] s t = refl
+default-append i (p ∷ ps) qs (n ∷ ns) s t =
+    let own : Bool = not (eqb (p .bit) i) || eqb n 0 in
+    let both = and-eq-true-iff own (isDefault i ps ns) .0 s in
+    and-eq-true-iff own (isDefault i (ps ++ qs) ns) .1 (both .0, default-append i ps qs ns (both .1) t)
+
 -- every field whose bit does not stand in the map m says its default
 abbrev pub Absent : ℕ → List Slot → List ℕ → Type 0
 Absent m ps ns = (i : ℕ) → bit m i ≡ 0 → isDefault i ps ns ≡ true
@@ -174,7 +193,7 @@ fits-map m (p ∷ ps) (n ∷ ns) (more h f) absent =
 
 -- ---- the test for defaults
 
-neither : (s t : Bool) → s || t ≡ false → (s ≡ false) × (t ≡ false)
+pub neither : (s t : Bool) → s || t ≡ false → (s ≡ false) × (t ≡ false)
 neither true t e = absurd (true≢false e)
 neither false t e = (refl, e)
 
@@ -202,19 +221,26 @@ map-no-default (suc i) ps ns = rw (map-bit i ps ns, map-no-default i ps ns) (go 
     go true = refl
     go false = refl
 
--- numbers whose absent fields say their default, and of which no other field does, have the map itself as their own
-module _ (c m : ℕ) (ps : List Slot) (ns : List ℕ) (below : allBelow c (mapBits ps) ≡ true) (h : m < 2 ^ c) (absent : Absent m ps ns) where
-  pub map-back : saysDefault c m ps ns ≡ false → mapOf ps ns ≡ m
+-- the test looks at no other bits
+says-low : (c k m : ℕ) (ps : List Slot) (ns : List ℕ) → k ≤ c → saysDefault k (m % 2 ^ c) ps ns ≡ saysDefault k m ps ns
+unfolding saysDefault
+says-low c zero m ps ns h = refl
+says-low c (suc i) m ps ns h = rw (bit-mod m i c (omega arith), says-low c i m ps ns (omega arith))
+
+-- of numbers whose absent fields say their default, and of which none of the first c fields does otherwise, the map has these bits of m
+module _ (c m : ℕ) (ps : List Slot) (ns : List ℕ) (below : allBelow c (mapBits ps) ≡ true) (absent : Absent m ps ns) where
+  pub map-back : saysDefault c m ps ns ≡ false → mapOf ps ns ≡ m % 2 ^ c
   map-back t =
-      by-bits c (map-lt c ps ns below) h
+      by-bits c (map-lt c ps ns below) (mod-lt m (pow-pos c))
       (λ i lt. map-bit i ps ns
-      ∙ bit-case m i (λ e. ap bitUnless (absent i e) ∙ sym e) (λ e. ap bitUnless (no-default c m ps ns t i lt e) ∙ sym e))
+      ∙ bit-case m i (λ e. ap bitUnless (absent i e) ∙ sym e) (λ e. ap bitUnless (no-default c m ps ns t i lt e) ∙ sym e) ∙ sym (bit-mod m i c lt))
 
   -- so the test for defaults compares the two maps
-  pub default-map : not (saysDefault c m ps ns) ≡ eqb (mapOf ps ns) m
+  pub default-map : not (saysDefault c m ps ns) ≡ eqb (mapOf ps ns) (m % 2 ^ c)
   default-map = go (saysDefault c m ps ns) refl
     where
-      go : (d : Bool) → saysDefault c m ps ns ≡ d → not d ≡ eqb (mapOf ps ns) m
-      go false e = sym (eq-eqb (mapOf ps ns) m (map-back e))
+      go : (d : Bool) → saysDefault c m ps ns ≡ d → not d ≡ eqb (mapOf ps ns) (m % 2 ^ c)
+      go false e = sym (eq-eqb (mapOf ps ns) (m % 2 ^ c) (map-back e))
       go true e =
-          sym (ne-eqb (mapOf ps ns) m (λ q. true≢false (sym e ∙ ap (λ (k : ℕ). saysDefault c k ps ns) (sym q) ∙ map-no-default c ps ns)))
+          sym (ne-eqb (mapOf ps ns) (m % 2 ^ c)
+          (λ q. true≢false (sym e ∙ sym (says-low c c m ps ns (omega arith)) ∙ ap (λ (k : ℕ). saysDefault c k ps ns) (sym q) ∙ map-no-default c ps ns)))

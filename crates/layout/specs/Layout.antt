@@ -1,6 +1,6 @@
 -- The numbers of a record by its map (document 01, "Job files"): "in bit order, only the fields whose bit stands". A field has one or more
 -- numbers; a layout lists, number by number, the map bit of its field and its byte count. Where the bit does not stand the number has no
--- bytes, so it is 0, and that is what absence says. Assumes nothing.
+-- bytes, so it is 0; of a field that has a default that is what absence says. Assumes nothing.
 use mathlib.Core.Bool.{Bool, true, false, not, cond, _&&_, _||_}
 use Prim.Native.Nat.{ℕ, zero, suc, _*_, _^_}
 use mathlib.Core.List.{List, [], _∷_}
@@ -20,7 +20,7 @@ mapOf [] ns = 0
 mapOf (p ∷ ps) [] = 0
 mapOf (p ∷ ps) (n ∷ ns) = cond (eqb n 0) (mapOf ps ns) (bitOr (mapOf ps ns) (2 ^ p .bit))
 
--- field i "says what its absence says": each of its numbers is 0
+-- each number of field i is 0: of a field that has a default, it "says what its absence says"
 unfoldable pub isDefault : ℕ → List Slot → List ℕ → Bool
 isDefault i [] ns = true
 isDefault i (p ∷ ps) [] = true

@@ -1,5 +1,7 @@
 // The layout of a job record: which numbers it has, in which order, and by its map.
 use bits::bit_at;
+use bounds::Bounds;
+use bounds::Ends;
 use format::Format;
 use job::Dropped;
 use job::Job;
@@ -8,10 +10,10 @@ use job::Wanted;
 use job::below::normalised;
 use mask::Mask;
 ghost use mathlib.Core.Path.{_≡_};
-ghost use Prim.Native.Nat.{_*_};
+ghost use Prim.Native.Nat.{_+_, _*_, _<_};
 ghost use Rattle.bits.specs.Bit.{bit};
 ghost use Rattle.layout.specs.Layout.{mapOf};
-ghost use Rattle.layout.specs.Fields.{wordBytes, layout, fieldSizes, entryNumbers, entryMap, jobWith, entryWith};
+ghost use Rattle.layout.specs.Fields.{wordBytes, withDefault, layout, fieldSizes, endsOf, entryNumbers, presence, secondMap, entryMap, maskAt, boundsAt, jobWith, entryWith};
 
 // A word of up to so many bits is narrow.
 const NARROW_BITS: u64 = 32;
@@ -19,10 +21,14 @@ const NARROW_BITS: u64 = 32;
 const NARROW: usize = 4;
 // How many any other word has.
 const WIDE: usize = 8;
-// The map bits that stand for fields.
-pub const FIELDS: u64 = 7;
+// The bits of both map bytes that have a meaning, as of one number.
+pub const MAP_WIDTH: u64 = 11;
+// The map bit that announces a second map byte.
+pub const ANNOUNCING: u64 = 7;
 // The numbers of all fields.
-pub const NUMBERS: usize = 14;
+pub const NUMBERS: usize = 20;
+// How many of them, the first ones, are of fields that have a default.
+const WITH_DEFAULT: usize = 14;
 
 // A job with its two random words: the content of a record.
 pub struct Entry {
@@ -52,7 +58,7 @@ pub fn word_bytes(format: Format) -> usize
 }
 
 // The numbers in bit order: care and value of the masks of a, b, c and carries, the mode, the random words, g, care and value of the mask
-// of the dropped bits.
+// of the dropped bits, the low and the high bound of a, b and c.
 fn layout(word: usize) -> [Slot; NUMBERS]
     ensures { λ r. ⌜ r ≡ layout word ⌝ }
 {
@@ -71,6 +77,18 @@ fn layout(word: usize) -> [Slot; NUMBERS]
         Slot { bit: 6, size: 1 },
         Slot { bit: 6, size: 2 },
         Slot { bit: 6, size: 2 },
+        Slot { bit: 8, size: word },
+        Slot { bit: 8, size: word },
+        Slot { bit: 9, size: word },
+        Slot { bit: 9, size: word },
+        Slot {
+            bit: 10,
+            size: word,
+        },
+        Slot {
+            bit: 10,
+            size: word,
+        },
     ]
 }
 
@@ -99,13 +117,13 @@ pub fn field_sizes(word: usize, map: u64) -> [usize; NUMBERS]
     sizes
 }
 
-// The map of a record with these numbers: each that is not 0 sets the bit of its field.
+// The map bits of the fields that have a default: each of their numbers that is not 0 sets the bit of its field.
 fn map_of(word: usize, numbers: [u64; NUMBERS]) -> u64
-    ensures { λ r. ⌜ r ≡ mapOf (layout word) numbers ⌝ }
+    ensures { λ r. ⌜ r ≡ mapOf (withDefault word) numbers ⌝ }
 {
     let slots = layout(word);
     let mut map: u64 = 0;
-    let mut i = NUMBERS;
+    let mut i = WITH_DEFAULT;
     while 0 < i {
         i -= 1;
         let slot = slots[i];
@@ -116,11 +134,25 @@ fn map_of(word: usize, numbers: [u64; NUMBERS]) -> u64
     map
 }
 
+// The ends of a word's bounds; 0 and 0 where none are stated.
+fn ends_of(w: Wanted) -> Ends
+    ensures { λ r. ⌜ r ≡ endsOf (w .bounds) ⌝ }
+{
+    let bounds = w.bounds;
+    match bounds {
+        Bounds::Unbounded => Ends { low: 0, high: 0 },
+        Bounds::Between(ends) => ends,
+    }
+}
+
 // The numbers of an entry, in the order of the layout; g is 0 where none of the dropped bits is fixed.
 pub fn entry_numbers(entry: Entry) -> [u64; NUMBERS]
     ensures { λ r. ⌜ r ≡ entryNumbers entry ⌝ }
 {
     let dropped = normalised(entry.job.dropped);
+    let a = ends_of(entry.job.a);
+    let b = ends_of(entry.job.b);
+    let c = ends_of(entry.job.c);
     [
         entry.job.a.mask.care,
         entry.job.a.mask.value,
@@ -136,40 +168,92 @@ pub fn entry_numbers(entry: Entry) -> [u64; NUMBERS]
         dropped.g,
         dropped.mask.care,
         dropped.mask.value,
+        a.low,
+        a.high,
+        b.low,
+        b.high,
+        c.low,
+        c.high,
     ]
 }
 
-// The map of the entry's record.
+// 1 where bounds of the word are stated, else 0.
+fn presence(w: Wanted) -> u64
+    ensures { λ r. ⌜ r ≡ presence (w .bounds) ⌝ }
+{
+    let bounds = w.bounds;
+    match bounds {
+        Bounds::Unbounded => 0,
+        Bounds::Between(_) => 1,
+    }
+}
+
+// The second map byte: which of a, b and c have bounds.
+fn second_map(job: Job) -> u64
+    ensures { λ r. ⌜ r ≡ secondMap job ⌝ }
+{
+    let a = presence(job.a);
+    let b = presence(job.b);
+    let c = presence(job.c);
+    a + (2 * b + 4 * c)
+}
+
+// The map of the entry's record: both map bytes as one number.
 pub fn entry_map(entry: Entry) -> u64
     ensures { λ r. ⌜ r ≡ entryMap entry ⌝ }
 {
-    map_of(word_bytes(entry.job.setting.format), entry_numbers(entry))
+    let earlier = map_of(word_bytes(entry.job.setting.format), entry_numbers(entry));
+    let second = second_map(entry.job);
+    if second == 0 {
+        return earlier;
+    }
+    earlier + (128 + 256 * second)
 }
 
-// The job with these numbers.
-fn job_with(format: Format, operation: u64, numbers: [u64; NUMBERS]) -> Job
-    ensures { λ r. ⌜ r ≡ jobWith format operation numbers ⌝ }
+// The mask whose care is number i.
+fn mask_at(numbers: [u64; NUMBERS], i: usize) -> Mask
+    requires { ⌜ i + 1 < 20 ⌝ }
+    ensures { λ r. ⌜ r ≡ maskAt numbers i ⌝ }
+{
+    Mask {
+        care: numbers[i],
+        value: numbers[i + 1],
+    }
+}
+
+// The bounds of a field, the low one of which is number i.
+fn bounds_at(map: u64, numbers: [u64; NUMBERS], field: u64, i: usize) -> Bounds
+    requires { ⌜ i + 1 < 20 ⌝ }
+    ensures { λ r. ⌜ r ≡ boundsAt map numbers field i ⌝ }
+{
+    let low = numbers[i];
+    let high = numbers[i + 1];
+    if bit_at(map, field) == 0 {
+        return Bounds::Unbounded;
+    }
+    Bounds::Between(Ends { low, high })
+}
+
+// The job of a record with this map and these numbers.
+fn job_with(format: Format, operation: u64, map: u64, numbers: [u64; NUMBERS]) -> Job
+    ensures { λ r. ⌜ r ≡ jobWith format operation map numbers ⌝ }
 {
     let mode = numbers[8];
-    let a = Mask {
-        care: numbers[0],
-        value: numbers[1],
+    let a = Wanted {
+        mask: mask_at(numbers, 0),
+        bounds: bounds_at(map, numbers, 8, 14),
     };
-    let b = Mask {
-        care: numbers[2],
-        value: numbers[3],
+    let b = Wanted {
+        mask: mask_at(numbers, 2),
+        bounds: bounds_at(map, numbers, 9, 16),
     };
-    let c = Mask {
-        care: numbers[4],
-        value: numbers[5],
+    let c = Wanted {
+        mask: mask_at(numbers, 4),
+        bounds: bounds_at(map, numbers, 10, 18),
     };
-    let carries = Mask {
-        care: numbers[6],
-        value: numbers[7],
-    };
-    let below = Mask {
-        care: numbers[12],
-        value: numbers[13],
+    let dropped = Dropped {
+        g: numbers[11],
+        mask: mask_at(numbers, 12),
     };
     Job {
         setting: Setting {
@@ -177,23 +261,20 @@ fn job_with(format: Format, operation: u64, numbers: [u64; NUMBERS]) -> Job
             operation,
             mode,
         },
-        a: Wanted { mask: a },
-        b: Wanted { mask: b },
-        c: Wanted { mask: c },
-        carries,
-        dropped: Dropped {
-            g: numbers[11],
-            mask: below,
-        },
+        a,
+        b,
+        c,
+        carries: mask_at(numbers, 6),
+        dropped,
     }
 }
 
-// The entry with these numbers.
-pub fn entry_with(format: Format, operation: u64, numbers: [u64; NUMBERS]) -> Entry
-    ensures { λ r. ⌜ r ≡ entryWith format operation numbers ⌝ }
+// The entry of a record with this map and these numbers.
+pub fn entry_with(format: Format, operation: u64, map: u64, numbers: [u64; NUMBERS]) -> Entry
+    ensures { λ r. ⌜ r ≡ entryWith format operation map numbers ⌝ }
 {
     Entry {
-        job: job_with(format, operation, numbers),
+        job: job_with(format, operation, map, numbers),
         r1: numbers[9],
         r2: numbers[10],
     }

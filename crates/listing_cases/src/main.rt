@@ -50,6 +50,14 @@ fn dropped_bits() {
     );
 }
 
+// W-207: a from 31 to 33; the masks of case 1 with a from 46 to 4C, which shuts both its cases out; and a bound that is a NaN.
+fn bounds() {
+    list(
+        b"bounds\n",
+        b"\x80\x01\x03\x04\x00\x31\x00\x00\x00\x33\x00\x00\x00\x87\x01\x03\x04\x00\xf7\x00\x00\x00\x45\x00\x00\x00\xef\x00\x00\x00\x2b\x00\x00\x00\xe6\x00\x00\x00\x44\x00\x00\x00\x46\x00\x00\x00\x4c\x00\x00\x00\x80\x02\x03\x04\x00\x78\x00\x00\x00\x78\x00\x00\x00",
+    );
+}
+
 // Eight digits in a format of 32 bits and 16 in one of 33, whatever the values; in double precision a half of the last place of 1 and 1, in
 // mode 4, and the largest number and infinity, which have no row.
 fn word_sizes() {
@@ -92,7 +100,9 @@ fn refused() {
         b"\x20\x03\x04\x00\x00\x01\x00\x00\x00\x00\x00\x00",
     );
     list(b"cut short\n", b"\x10\x03\x04\x00");
-    list(b"map bit\n", b"\x80");
+    list(b"cut after the first map\n", b"\x80");
+    list(b"bit of the second map\n", b"\x80\x08");
+    list(b"empty second map\n", b"\x80\x00\x03\x04\x00");
     list(b"default said\n", b"\x10\x03\x04\x00\x00");
     list(
         b"no dropped bit fixed\n",
@@ -100,7 +110,7 @@ fn refused() {
     );
     list(
         b"refused after found\n",
-        b"\x00\x03\x04\x00\x00\x03\x04\x01\x80\x03\x04\x00\x00\x03\x04\x00",
+        b"\x00\x03\x04\x00\x00\x03\x04\x01\x80\x80\x03\x04\x00\x00\x03\x04\x00",
     );
 }
 
@@ -108,6 +118,7 @@ fn main() {
     lengths();
     listed();
     dropped_bits();
+    bounds();
     word_sizes();
     refused();
 }

@@ -73,7 +73,7 @@ word-stepped n v g h hg =
 abbrev pub broken : Mask → ℕ → ℕ
 broken m n = bitXor (bitAnd n (m .care)) (m .value)
 
-xor-zero : (a b : ℕ) → bitXor a b ≡ 0 → a ≡ b
+pub xor-zero : (a b : ℕ) → bitXor a b ≡ 0 → a ≡ b
 xor-zero a b e = omega (arith, xor-add-and a b, and-le-l a b, and-le-r a b)
 
 broken-pos : (m : Mask) (n : ℕ) → (Meets n m → ⊥) → 0 < broken m n

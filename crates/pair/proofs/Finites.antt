@@ -119,9 +119,9 @@ module _ (j : Job) (valid : Valid j) (ea eb : Biased) (fin : FinitePair (j .sett
         sum = refl;
       };
       satisfies = record {
-        a-allowed = record { mask = meets-fields (F .w) (F .f) (j .a .mask) (valid .a .mask) a .1 (rw a-sign msa, rw a-exponent ma, rw a-fraction (N .p-meets)) };
-        b-allowed = record { mask = meets-fields (F .w) (F .f) (j .b .mask) (valid .b .mask) b .1 (rw b-sign msb, rw b-exponent mb, rw b-fraction (N .q-meets)) };
-        c-allowed = record { mask = subst (λ (n : ℕ). Meets n (j .c .mask)) (sym (result-finite F (j .setting .operation) (j .setting .mode) a b na nb ∙ ap₂ (finiteSum F (j .setting .mode)) x-is y-is)) (N .sum-meets) };
+        a-allowed = record { mask = meets-fields (F .w) (F .f) (j .a .mask) (valid .a .mask) a .1 (rw a-sign msa, rw a-exponent ma, rw a-fraction (N .p-meets)); within = tt };
+        b-allowed = record { mask = meets-fields (F .w) (F .f) (j .b .mask) (valid .b .mask) b .1 (rw b-sign msb, rw b-exponent mb, rw b-fraction (N .q-meets)); within = tt };
+        c-allowed = record { mask = subst (λ (n : ℕ). Meets n (j .c .mask)) (sym (result-finite F (j .setting .operation) (j .setting .mode) a b na nb ∙ ap₂ (finiteSum F (j .setting .mode)) x-is y-is)) (N .sum-meets); within = tt };
         row = subst (λ (r : row.Row). RowMeets r (j .carries)) (sym (row-finite F (j .setting .operation) (j .setting .mode) a b na nb ∙ ap₂ (λ (x y : record-of.Finite). Carries (finiteRow F x y)) x-is y-is)) (N .row-meets);
         dropped = subst (λ (r : below.Below). BelowMeets r (j .dropped .mask)) (sym (below-finite F (j .setting .operation) (j .setting .mode) a b na nb (j .dropped .g) ∙ ap₂ (finiteBelow F (j .dropped .g)) x-is y-is)) (N .below-meets);
       };

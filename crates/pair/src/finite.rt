@@ -159,7 +159,7 @@ pub(crate) fn finite_fields(format: Format, ea: Biased, eb: Biased) -> bool
 }
 
 // Whether some two signs pose a case with these exponent fields, both finite, whose masks are not asked; false where they are no such
-// fields. For a job with a malformed mask the answer is free: a job is tested once, where the generator is asked.
+// fields. For a job that is refused the answer is free: a job is tested once, where the generator is asked.
 pub fn finite_admits(job: Job, ea: Biased, eb: Biased) -> bool
     ensures finite { λ r. ⌜ (r ≡ true → FinitePair (job .setting .format) ea eb) ⌝ }
     ensures exact { λ r. ⌜ (Valid job → FinitePair (job .setting .format) ea eb → (r ≡ true) ↔ SomeSigns job ea eb) ⌝ }

@@ -25,7 +25,7 @@ pub struct Side {
 }
 
 // Whether a case whose operands have these exponent fields fits; false in a format that is not supported and for a field that it does not
-// have. For a job with a malformed mask the answer is free: a job is tested once, where the generator is asked.
+// have. For a job that is refused the answer is free: a job is tested once, where the generator is asked.
 pub fn pair_admits(job: Job, ea: Biased, eb: Biased) -> bool
     ensures in_range { λ r. ⌜ (r ≡ true → InRange (job .setting .format) ea eb) ⌝ }
     ensures exact { λ r. ⌜ (Valid job → (r ≡ true) ↔ PairFits job ea eb) ⌝ }

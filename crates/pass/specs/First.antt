@@ -1,5 +1,5 @@
 -- The first pair of exponent fields that admits a case (document 01: "Whether a case is left is settled at the first pair of exponents that
--- admits one"). Assumes nothing.
+-- admits one"). Bounds play no part in it (`PairFits`). Assumes nothing.
 use mathlib.Core.Logic.{_⊎_}
 use mathlib.Core.Path.{_≡_}
 use Prim.Native.Nat.{_^_, _<_}

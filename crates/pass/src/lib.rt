@@ -16,8 +16,8 @@ pub struct Exponents {
     pub b: Biased,
 }
 
-// The first pair of exponent fields that admits a case, or past them all, where those before `start` are known to admit none. In a format that
-// is not supported and for a job with a malformed mask the answer is free.
+// The first pair of exponent fields that admits a case, or past them all, where those before `start` are known to admit none; bounds are left
+// out. In a format that is not supported and for a job that is refused the answer is free.
 pub fn first_pair(job: Job, start: Exponents) -> Exponents
     ensures { λ r. ⌜ (Valid job → NoneBefore job start → FirstPair job r) ⌝ }
 {

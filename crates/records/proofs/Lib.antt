@@ -1,3 +1,4 @@
+pub mod Headers
 pub mod Causes
 pub mod RoundTrip
 pub mod Files

@@ -1,66 +1,83 @@
 -- One record: what was written, followed by any bytes, reads as the entry with those bytes as the rest, its g taken as 0 where no dropped
 -- bit is fixed, and bytes that read as an entry are what writing that entry gives. So entries that are not taken alike have different
 -- records, and no record is the start of another. Assumes nothing.
-use mathlib.Core.Path.{_≡_, refl, sym, ap, ap₂, _∙_}
-use mathlib.Core.Bool.{Bool}
-use Prim.Native.Nat.{ℕ, suc, _+_, _^_, _≤_, _<_}
+use mathlib.Core.Path.{_≡_, sym, ap, ap₂, _∙_}
+use mathlib.Core.Bool.{Bool, not}
+use Prim.Native.Nat.{ℕ, _+_, _^_, _≤_, _<_}
 use native.Mathlib.Omega.{arith}
-use mathlib.Core.List.{List, [], _∷_, _++_, append-nil}
+use mathlib.Core.List.{List, [], _++_, append-nil, append-assoc}
+use borrow.Author.Tests.{eqb-true}
 use lib.Dec.{eqb}
-use lib.ListN.{length, getD, take, drop, length-append}
+use lib.ListN.{length, take, drop, length-append, length-drop}
 use lib.Seq.{drop-append-seam}
 use Rattle.format.specs.Cause as cause
 use Rattle.format.specs.Cause.{unless, first}
-use Rattle.format.specs.declared.Format.{Format}
-use Rattle.numbers.specs.Number.{Bytes}
+use Rattle.numbers.specs.Number.{Bytes, littleEndian}
 use Rattle.numbers.specs.Numbers.{total, numberBytes, numbers}
+use Rattle.numbers.proofs.Numbers.{bytes-drop}
+use Rattle.numbers.proofs.BySizes.{numbers-back, bytes-back}
 use Rattle.job.specs.Dropped.{normalised, normalisedJob}
 use Rattle.job.proofs.Laws.{request-none, normalised-request}
-use Rattle.layout.specs.Layout.{sizes, isDefault, saysDefault}
-use Rattle.layout.specs.Fields.{fieldCount, layout, fieldNumbers, normalisedEntry, entryNumbers, entryWith, fieldSizes, entryWord, entryMap}
-use Rattle.records.specs.Record.{headerBytes, recordCause, recordBytes, recordLength, formatIn, entryIn, readCause, readReply, firstWith, firstIn, rest, restAfter}
-use Rattle.layout.specs.declared.Slot.{Slot}
+use Rattle.layout.specs.Layout.{isDefault}
+use Rattle.layout.specs.Fields.{wordBytes, mapWidth, layout, fieldNumbers, normalisedEntry, entryNumbers, entryWith, fieldSizes, entryWord, entryMap, saysAbsence}
 use Rattle.layout.specs.declared.Entry.{Entry}
+use Rattle.layout.proofs.ByMap.{Absent, neither, read-absent}
+use Rattle.layout.proofs.Maps.{entry-map-lt, absence-map, own-absence}
+use Rattle.layout.proofs.Entries.{entry-back, numbers-again, entry-same, numbers-same, read-announces, numbers-read, entry-absent, read-normalised}
+use Rattle.records.specs.Record.{mapBytes, headerBytes, headed, recordCause, recordBytes, mapIn, recordLength, formatIn, operationIn, numbersIn, entryIn, firstWith, firstIn, rest, restAfter}
 use Rattle.records.specs.declared.First.{First}
 use Rattle.records.specs.declared.First.the-variants as found
-use Rattle.numbers.proofs.BySizes.{numbers-back, bytes-back}
-use Rattle.layout.proofs.ByMap.{Absent, map-lt, map-no-default, read-absent, map-back, default-map}
-use Rattle.layout.proofs.JobLayout.{layout-bits}
-use Rattle.layout.proofs.Entries.{entry-back, numbers-again, entry-same, numbers-same, entry-absent, read-normalised}
-use Rattle.records.proofs.Causes.{record-fits, record-length, read-none, Readable, wordIn, first-job, lateCause}
+use Rattle.records.proofs.Headers.{map-headed, format-headed, entry-headed, take-headed, entry-map-fits, map-fits, headed-back}
+use Rattle.records.proofs.Causes.{record-fits, record-length, Readable, Taken, taken-job, wordIn, first-job, lateCause}
 
 -- ---- written and read back
 module _ (e : Entry) (t : List ℕ) (ok : recordCause e ≡ 0) where
-  same-numbers : numbers (fieldSizes (entryWord e) (entryMap e)) (numberBytes (fieldSizes (entryWord e) (entryMap e)) (entryNumbers e) ++ t) ≡ entryNumbers e
-  same-numbers = numbers-back (record-fits e ok) t
+  -- the bytes of the fields, and what follows
+  tail : List ℕ
+  tail = numberBytes (fieldSizes (entryWord e) (entryMap e)) (entryNumbers e) ++ t
+
+  whole-record : recordBytes e ++ t ≡ headed (entryMap e) (e .job .setting .format) (e .job .setting .operation) tail
+  unfolding recordBytes tail
+  whole-record = append-assoc (littleEndian (mapBytes (entryMap e)) (entryMap e)) _ t
+
+  same-map : mapIn (recordBytes e ++ t) ≡ entryMap e
+  same-map = ap mapIn whole-record ∙ map-headed (entryMap e) (e .job .setting .format) (e .job .setting .operation) tail (entry-map-fits e)
+
+  same-word : wordIn (recordBytes e ++ t) ≡ entryWord e
+  same-word =
+      ap wordIn whole-record ∙ ap wordBytes (format-headed (entryMap e) (e .job .setting .format) (e .job .setting .operation) tail (entry-map-fits e))
 
   same-entry : entryIn (entryWord e) (recordBytes e ++ t) ≡ normalisedEntry e
-  unfolding recordBytes entryIn
-  same-entry = ap (entryWith (e .job .setting .format) (e .job .setting .operation)) same-numbers ∙ entry-back e
+  unfolding tail
+  same-entry =
+      let S = e .job .setting in
+      ap (entryIn (entryWord e)) whole-record ∙ entry-headed (entryMap e) (S .format) (S .operation) tail (entry-map-fits e) (entryWord e)
+      ∙ ap (entryWith (S .format) (S .operation) (entryMap e)) (numbers-back (record-fits e ok) t) ∙ entry-back e
 
   same-cause : recordCause (normalisedEntry e) ≡ 0
   same-cause =
       request-none (normalisedJob (e .job)) (e .r1) (e .r2) .1
       (normalised-request (e .job) (e .r1) (e .r2) (request-none (e .job) (e .r1) (e .r2) .0 ok))
 
-  no-cause : readCause fieldCount (entryWord e) (recordBytes e ++ t) ≡ 0
-  unfolding recordBytes entryMap
-  no-cause =
-      let ps : List Slot = layout (entryWord e) in
-      read-none fieldCount (entryWord e) (recordBytes e ++ t) .1
-      (record {
-        map = map-lt fieldCount ps (entryNumbers e) (layout-bits (entryWord e));
-        whole = omega (arith, record-length e ok, length-append (recordBytes e) t);
-        sound = ap recordCause same-entry ∙ same-cause;
-        no-default = ap (saysDefault fieldCount (entryMap e) ps) (ap entryNumbers same-entry ∙ numbers-again e)
-            ∙ map-no-default fieldCount ps (entryNumbers e);
-      })
+  taken : Taken mapWidth (entryWord e) (recordBytes e ++ t) (normalisedEntry e) (length (recordBytes e))
+  taken =
+      let long : recordLength (entryWord e) (mapIn (recordBytes e ++ t)) ≡ length (recordBytes e) = ap (recordLength (entryWord e)) same-map ∙ record-length e ok in
+      record {
+        readable = record {
+          map = rw same-map (entry-map-lt e);
+          whole = omega (arith, long, length-append (recordBytes e) t);
+          sound = ap recordCause same-entry ∙ same-cause;
+          no-default = ap₂ (saysAbsence (entryWord e)) same-map (ap entryNumbers same-entry ∙ numbers-again e) ∙ own-absence e;
+        };
+        entry = same-entry;
+        count = long;
+      }
 
   pub read-written : firstIn (recordBytes e ++ t) ≡ found.Job (normalisedEntry e) (length (recordBytes e))
-  unfolding firstIn firstWith recordBytes
+  unfolding firstIn
   read-written =
-      ap (λ (k : ℕ). readReply k (entryIn (entryWord e) (recordBytes e ++ t)) (recordLength (entryWord e) (entryMap e))) no-cause
-      ∙ ap₂ found.Job same-entry (record-length e ok)
+      ap (λ (word : ℕ). firstWith mapWidth word (recordBytes e ++ t)) same-word
+      ∙ taken-job mapWidth (entryWord e) (recordBytes e ++ t) (normalisedEntry e) (length (recordBytes e)) taken
 
   -- the bytes that follow are the rest
   pub rest-written : rest (recordBytes e ++ t) ≡ t
@@ -69,62 +86,51 @@ module _ (e : Entry) (t : List ℕ) (ok : recordCause e ≡ 0) where
 
 -- ---- read and written back
 
--- the numbers of the fields of the entry are the numbers that were read, and the absent ones say their default
-field-numbers : (F : Format) (operation word m : ℕ) (s : List ℕ) → fieldNumbers (entryWith F operation (numbers (fieldSizes word m) s)) ≡ numbers (fieldSizes word m) s
-unfolding layout sizes numbers
-field-numbers F operation word m s = refl
-
-pub fields-absent : (word : ℕ) (s : List ℕ) → Absent (getD s 0 0) (layout word) (fieldNumbers (entryIn word s))
+-- the fields that are absent from a record say their default in the entry that is read
+pub fields-absent : (word : ℕ) (s : List ℕ) → Absent (mapIn s) (layout word) (fieldNumbers (entryIn word s))
 unfolding entryIn
 fields-absent word s i z =
-    let m : ℕ = getD s 0 0 in
-    ap (isDefault i (layout word)) (field-numbers (formatIn s) (getD s 3 0) word m (drop headerBytes s)) ∙ read-absent m (layout word) (drop headerBytes s) i z
+    let m : ℕ = mapIn s in
+    let t : List ℕ = drop (headerBytes m) s in
+    ap (isDefault i (layout word)) (numbers-read (formatIn s) (operationIn s) word m t) ∙ read-absent m (layout word) t i z
 
--- so the test for defaults may compare the map that was read with the entry's own
-pub entry-default : (s : List ℕ) → getD s 0 0 < 2 ^ fieldCount
-    → first (recordCause (entryIn (wordIn s) s)) (unless (eqb (entryMap (entryIn (wordIn s) s)) (getD s 0 0)) cause.defaultField) ≡ lateCause (wordIn s) s
-unfolding entryIn entryMap
-entry-default s h =
-    let m : ℕ = getD s 0 0 in
+-- so the test for 10 may compare the map that was read with the entry's own
+absence-read : (s : List ℕ) → mapIn s < 2 ^ mapWidth → mapIn s < 256 ^ mapBytes (mapIn s)
+    → not (saysAbsence (wordIn s) (mapIn s) (entryNumbers (entryIn (wordIn s) s))) ≡ eqb (entryMap (entryIn (wordIn s) s)) (mapIn s)
+unfolding entryIn
+absence-read s h fits =
+    let m : ℕ = mapIn s in
     let e : Entry = entryIn (wordIn s) s in
-    ap (λ (t : Bool). first (recordCause e) (unless t cause.defaultField))
-    (sym (default-map fieldCount m (layout (wordIn s)) (entryNumbers e) (layout-bits (wordIn s)) h (entry-absent m (wordIn s) e (fields-absent (wordIn s) s))))
+    absence-map m e h (λ z. rw z at fits) (read-announces (formatIn s) (operationIn s) m (numbersIn (wordIn s) s)) (entry-absent m (wordIn s) e (fields-absent (wordIn s) s))
+
+pub entry-default : (s : List ℕ) → mapIn s < 2 ^ mapWidth → mapIn s < 256 ^ mapBytes (mapIn s)
+    → first (recordCause (entryIn (wordIn s) s)) (unless (eqb (entryMap (entryIn (wordIn s) s)) (mapIn s)) cause.defaultField) ≡ lateCause (wordIn s) s
+entry-default s h fits = ap (λ (t : Bool). first (recordCause (entryIn (wordIn s) s)) (unless t cause.defaultField)) (sym (absence-read s h fits))
 
 -- a job that was read carries no g where no dropped bit is fixed
-pub read-taken : (fields word : ℕ) (s : List ℕ) → Readable fields word s → normalised (entryIn word s .job .dropped) ≡ entryIn word s .job .dropped
-read-taken fields word s r =
+pub read-taken : (bits word : ℕ) (s : List ℕ) → Readable bits word s → normalised (entryIn word s .job .dropped) ≡ entryIn word s .job .dropped
+unfolding saysAbsence
+read-taken bits word s r =
     let e : Entry = entryIn word s in
-    read-normalised (getD s 0 0) word e (request-none (e .job) (e .r1) (e .r2) .0 (r .sound) .valid .dropped) (fields-absent word s) (r .no-default)
+    read-normalised (mapIn s) word e (request-none (e .job) (e .r1) (e .r2) .0 (r .sound) .valid .dropped) (fields-absent word s) (neither _ _ (r .no-default) .0)
 
-module _ (m w f o : ℕ) (t : List ℕ) (b : Bytes (m ∷ w ∷ f ∷ o ∷ t)) where
-  abbrev word : ℕ
-  word = wordIn (m ∷ w ∷ f ∷ o ∷ t)
-
-  -- the record of the entry that was read is what was read
-  record-back : Readable fieldCount word (m ∷ w ∷ f ∷ o ∷ t)
-      → recordBytes (entryIn word (m ∷ w ∷ f ∷ o ∷ t)) ≡ take (recordLength word m) (m ∷ w ∷ f ∷ o ∷ t)
-  unfolding recordBytes recordLength entryIn entryMap
-  record-back r =
-      let ps : List Slot = layout word in
-      let e : Entry = entryIn word (m ∷ w ∷ f ∷ o ∷ t) in
-      let ns : List ℕ = numbers (fieldSizes word m) t in
-      let same : entryNumbers e ≡ ns = numbers-same e (read-taken fieldCount word (m ∷ w ∷ f ∷ o ∷ t) r) ∙ field-numbers (record { w = w; f = f }) o word m t in
-      let map : entryMap e ≡ m =
-      map-back fieldCount m ps (entryNumbers e) (layout-bits word) (r .map) (entry-absent m word e (fields-absent word (m ∷ w ∷ f ∷ o ∷ t))) (r .no-default) in
-      let long : headerBytes + total (fieldSizes word m) ≡ suc (suc (suc (suc (total (fieldSizes word m))))) = omega arith in
-      ap₂ (λ (k : ℕ) (bs : List ℕ). k ∷ w ∷ f ∷ o ∷ bs) map
-      (ap₂ (λ (k : ℕ) (xs : List ℕ). numberBytes (fieldSizes word k) xs) map same
-      ∙ bytes-back (fieldSizes word m) t (λ i. b (suc (suc (suc (suc i))))) (omega (arith, r .whole)))
-      ∙ ap (λ (n : ℕ). take n (m ∷ w ∷ f ∷ o ∷ t)) (sym long)
-
--- a record has its four header bytes
-pub record-read : (s : List ℕ) → Bytes s → Readable fieldCount (wordIn s) s → recordBytes (entryIn (wordIn s) s) ≡ take (recordLength (wordIn s) (getD s 0 0)) s
-unfolding recordLength
-record-read [] b r = absurd (omega (arith, r .whole))
-record-read (a ∷ []) b r = absurd (omega (arith, r .whole))
-record-read (a ∷ w ∷ []) b r = absurd (omega (arith, r .whole))
-record-read (a ∷ w ∷ f ∷ []) b r = absurd (omega (arith, r .whole))
-record-read (a ∷ w ∷ f ∷ o ∷ t) b r = record-back a w f o t b r
+-- the record of the entry that was read is what was read
+pub record-read : (s : List ℕ) → Bytes s → Readable mapWidth (wordIn s) s → recordBytes (entryIn (wordIn s) s) ≡ take (recordLength (wordIn s) (mapIn s)) s
+unfolding recordBytes recordLength entryIn
+record-read s b r =
+    let word : ℕ = wordIn s in
+    let m : ℕ = mapIn s in
+    let e : Entry = entryIn word s in
+    let t : List ℕ = drop (headerBytes m) s in
+    let n : ℕ = total (fieldSizes word m) in
+    let same : entryNumbers e ≡ numbers (fieldSizes word m) t =
+    numbers-same e (read-taken mapWidth word s r) ∙ numbers-read (formatIn s) (operationIn s) word m t in
+    let map : entryMap e ≡ m = eqb-true (entryMap e) m (sym (absence-read s (r .map) (map-fits s b)) ∙ ap not (r .no-default)) in
+    let bytes : numberBytes (fieldSizes word (entryMap e)) (entryNumbers e) ≡ take n t =
+    ap₂ (λ (k : ℕ) (xs : List ℕ). numberBytes (fieldSizes word k) xs) map same
+    ∙ bytes-back (fieldSizes word m) t (bytes-drop (headerBytes m) s b) (omega (arith, r .whole, length-drop (headerBytes m) s)) in
+    ap₂ (λ (k : ℕ) (l : List ℕ). headed k (formatIn s) (operationIn s) l) map bytes
+    ∙ sym (take-headed m (formatIn s) (operationIn s) t n) ∙ ap (take (headerBytes m + n)) (headed-back s b (omega (arith, r .whole)))
 
 -- bytes that read as an entry are the record of that entry, against which no cause stands
 pub written-read : (s : List ℕ) → Bytes s → (e : Entry) (n : ℕ) → firstIn s ≡ found.Job e n
@@ -140,7 +146,7 @@ written-read s b e n q =
 pub read-same : (s : List ℕ) (e : Entry) (n : ℕ) → firstIn s ≡ found.Job e n → normalisedEntry e ≡ e
 read-same s e n q =
     let taken = first-job s e n q in
-    ap normalisedEntry (sym (taken .entry)) ∙ entry-same (entryIn (wordIn s) s) (read-taken fieldCount (wordIn s) s (taken .readable)) ∙ taken .entry
+    ap normalisedEntry (sym (taken .entry)) ∙ entry-same (entryIn (wordIn s) s) (read-taken mapWidth (wordIn s) s (taken .readable)) ∙ taken .entry
 
 -- ---- records tell entries apart
 

@@ -1,6 +1,7 @@
 // Job records: what stands first in a file, the rest after it, and the writing of a record into a lent buffer.
 mod fields;
 
+use bits::bit_at;
 use fields::put_numbers;
 use fields::read_numbers;
 use fields::total;
@@ -9,8 +10,9 @@ use format::cause;
 use format::first;
 use format::unless;
 use job::request_cause;
+use layout::ANNOUNCING;
 use layout::Entry;
-use layout::FIELDS;
+use layout::MAP_WIDTH;
 use layout::NUMBERS;
 use layout::entry_map;
 use layout::entry_numbers;
@@ -19,7 +21,7 @@ use layout::field_sizes;
 use layout::word_bytes;
 use numbers::wide;
 ghost use mathlib.Core.Path.{_≡_};
-ghost use Prim.Native.Nat.{_≤_};
+ghost use Prim.Native.Nat.{_≤_, _<_, _^_};
 ghost use mathlib.Core.List.{_++_};
 ghost use lib.Dec.{eqb};
 ghost use lib.ListN.{length, getD, drop};
@@ -27,12 +29,12 @@ ghost use Rattle.format.specs.Cause as cause;
 ghost use Rattle.format.specs.Cause.{first, unless};
 ghost use Rattle.numbers.specs.Numbers.{total, numbers};
 ghost use Rattle.layout.specs.Fields.{wordBytes, entryWith, fieldSizes, entryMap};
-ghost use Rattle.records.specs.Record.{recordCause, recordBytes, recordLength, formatIn, entryIn, readReply, firstIn, rest, writing, written};
+ghost use Rattle.records.specs.Record.{mapBytes, headerBytes, recordCause, recordBytes, mapIn, recordLength, formatIn, entryIn, readReply, firstIn, rest, writing, written};
 
-// The bytes before the fields: map, w, f, operation.
-const HEADER: usize = 4;
-// A map with a bit above those of the fields is this or more.
-const MAPS: u64 = 1 << FIELDS;
+// The bytes of w, f and the operation, which stand after the map.
+const SETTING: usize = 3;
+// A map with a bit that has no meaning is this or more.
+const MAPS: u64 = 1 << MAP_WIDTH;
 
 // What stands first in bytes: their end, a job and the length of its record, or the number of a refusal.
 pub enum First {
@@ -47,23 +49,40 @@ pub enum Writing {
     Refused(u64),
 }
 
-// The first of the causes 1 to 6, with 14 to 17 after 5, that stands against the entry, 0 for none.
+// The first of the causes 1 to 6, with 14 to 17 after 5 and 18 after 6, that stands against the entry, 0 for none.
 pub fn entry_cause(entry: Entry) -> u64
     ensures { λ r. ⌜ r ≡ recordCause entry ⌝ }
 {
     request_cause(entry.job, entry.r1, entry.r2)
 }
 
+// How many bytes a map has: a second one where it is announced.
+fn map_bytes(map: u64) -> usize
+    ensures { λ r. ⌜ r ≡ mapBytes map ⌝ }
+{
+    if bit_at(map, ANNOUNCING) == 0 {
+        return 1;
+    }
+    2
+}
+
+// How many bytes stand before the fields of a record with this map.
+fn header_bytes(map: u64) -> usize
+    ensures { λ r. ⌜ r ≡ headerBytes map ⌝ }
+{
+    map_bytes(map) + SETTING
+}
+
 // The length of a record of this format with this map.
 fn record_length(format: Format, map: u64) -> usize
     ensures { λ r. ⌜ r ≡ recordLength (wordBytes format) map ⌝ }
 {
-    HEADER + total(&field_sizes(word_bytes(format), map))
+    header_bytes(map) + total(&field_sizes(word_bytes(format), map))
 }
 
 // A byte as a number; 0 where there is none.
 fn byte_at(s: &[u8], i: usize) -> u64
-    ensures { λ r. ⌜ r ≡ getD (now (s .entry)) i 0 ⌝ }
+    ensures { λ r. ⌜ (r ≡ getD (now (s .entry)) i 0) × (r < 256) ⌝ }
 {
     if i < s.len() {
         return wide(s[i]);
@@ -71,38 +90,52 @@ fn byte_at(s: &[u8], i: usize) -> u64
     0
 }
 
-// The widths of a record's format, as its bytes say.
-fn format_in(s: &[u8]) -> Format
+// The map of a record: its first byte, and 256 times a second one where that is announced. Without one it is below 256.
+fn map_in(s: &[u8]) -> u64
+    ensures { λ r. ⌜ (r ≡ mapIn (now (s .entry))) × (r < 256 ^ mapBytes r) ⌝ }
+{
+    let first = byte_at(s, 0);
+    if map_bytes(first) == 1 {
+        return first;
+    }
+    first + 256 * byte_at(s, 1)
+}
+
+// The widths of a record's format, as its bytes after the map say.
+fn format_in(s: &[u8], map: u64) -> Format
+    requires { ⌜ mapIn (now s) ≡ map ⌝ }
     ensures { λ r. ⌜ r ≡ formatIn (now (s .entry)) ⌝ }
 {
+    let at = map_bytes(map);
     Format {
-        w: byte_at(s, 1),
-        f: byte_at(s, 2),
+        w: byte_at(s, at),
+        f: byte_at(s, at + 1),
     }
 }
 
 // The entry of a record, from the bytes after its header.
 fn decode(s: &[u8], map: u64, format: Format, operation: u64) -> Entry
     requires { ⌜ total (fieldSizes (wordBytes format) map) ≤ length (now s) ⌝ }
-    ensures { λ r. ⌜ r ≡ entryWith format operation (numbers (fieldSizes (wordBytes format) map) (now (s .entry))) ⌝ }
+    ensures { λ r. ⌜ r ≡ entryWith format operation map (numbers (fieldSizes (wordBytes format) map) (now (s .entry))) ⌝ }
 {
     let sizes = field_sizes(word_bytes(format), map);
     let mut numbers = [0; NUMBERS];
     read_numbers(s, &sizes, &mut numbers);
-    entry_with(format, operation, numbers)
+    entry_with(format, operation, map, numbers)
 }
 
 // The entry of a record that is not cut short.
 fn entry_in(s: &[u8], map: u64, format: Format) -> Entry
-    requires { ⌜ (getD (now s) 0 0 ≡ map) × (formatIn (now s) ≡ format) × (recordLength (wordBytes format) map ≤ length (now s)) ⌝ }
+    requires { ⌜ (mapIn (now s) ≡ map) × (formatIn (now s) ≡ format) × (recordLength (wordBytes format) map ≤ length (now s)) ⌝ }
     ensures { λ r. ⌜ r ≡ entryIn (wordBytes format) (now (s .entry)) ⌝ }
 {
-    let operation = wide(s[3]);
-    decode(&s[HEADER..], map, format, operation)
+    let header = header_bytes(map);
+    let operation = wide(s[header - 1]);
+    decode(&s[header..], map, format, operation)
 }
 
-// The reply to an entry whose record has this map and this length. A field that says its default would not be written, so the maps differ
-// exactly where there is one.
+// The reply to an entry whose record has this map and this length. A field that says its default, or an empty second map, would not be
+// written, so the maps differ exactly where there is one.
 fn read_reply(entry: Entry, map: u64, n: usize) -> First
     ensures { λ r. ⌜ r ≡ readReply (first (recordCause entry) (unless (eqb (entryMap entry) map) cause.defaultField)) entry n ⌝ }
 {
@@ -123,8 +156,8 @@ pub fn read(s: &[u8]) -> First
     if s.len() == 0 {
         return First::End;
     }
-    let map = wide(s[0]);
-    let format = format_in(s);
+    let map = map_in(s);
+    let format = format_in(s, map);
     let n = record_length(format, map);
     let bits = unless(map < MAPS, cause::MAP_BITS);
     let cut = unless(n <= s.len(), cause::CUT);
@@ -154,10 +187,10 @@ fn put_record(buffer: &mut [u8], map: u64, entry: Entry)
 {
     let format = entry.job.setting.format;
     let header = [map, format.w, format.f, entry.job.setting.operation];
-    put_numbers(buffer, 0, &[1; HEADER], &header);
+    put_numbers(buffer, 0, &[map_bytes(map), 1, 1, 1], &header);
     let sizes = field_sizes(word_bytes(format), map);
     let numbers = entry_numbers(entry);
-    put_numbers(buffer, HEADER, &sizes, &numbers);
+    put_numbers(buffer, header_bytes(map), &sizes, &numbers);
 }
 
 // Writes the entry's record to the front of the buffer. Of a field that says its default nothing is written, and of a g where none of the

@@ -25,7 +25,8 @@ pub(crate) fn read() {
     reading::show(b"\x40\x03\x04\x00\x08\x00\x00\x00\x00");
 }
 
-// 17 after 16, and before a random word that is too wide and a mode that says its default; 9 for bit 7 before all of them.
+// 17 after 16, and before a random word that is too wide and a mode that says its default; 9 for a bit of the second map before all of
+// them.
 pub(crate) fn order() {
     reading::show(
         b"\x78\x03\x04\x00\x00\x00\x00\x00\x01\x00\x00\x00\x00\x00\x01\x00\x00\x00\x00\x00\x00\x09\x00\x00\x00\x00",
@@ -33,7 +34,7 @@ pub(crate) fn order() {
     reading::show(b"\x70\x03\x04\x00\x00\x00\x01\x00\x00\x00\x00\x00\x00\x09\x00\x00\x00\x00");
     reading::show(b"\x70\x03\x04\x00\x00\x00\x01\x00\x00\x00\x00\x00\x00\x08\x00\x00\x00\x00");
     reading::show(b"\x50\x03\x04\x00\x00\x08\x01\x00\x00\x00");
-    reading::show(b"\xc0\x03\x04\x00\x09\x00\x00\x00\x00");
+    reading::show(b"\xc0\x08\x03\x04\x00\x09\x00\x00\x00\x00");
 }
 
 // The entry with something wanted of the dropped bits.
@@ -51,14 +52,19 @@ fn with(entry: Entry, g: u64, care: u64, value: u64) -> Entry {
     }
 }
 
+// The longest record without bounds.
+pub(crate) fn longest(w: u64, f: u64) -> Entry {
+    with(writing::masked(w, f), 8, 0x1ff, 0x101)
+}
+
 // The same in writing: the longest records, in buffers that are long enough and a byte short; a g that is not written; the refusals.
 pub(crate) fn written() {
-    let narrow = writing::masked(3, 4);
-    let wide = writing::masked(11, 52);
-    writing::show(with(narrow, 8, 0x1ff, 0x101), 50);
-    writing::show(with(narrow, 8, 0x1ff, 0x101), 49);
-    writing::show(with(wide, 8, 0x1ff, 0x101), 90);
-    writing::show(with(wide, 8, 0x1ff, 0x101), 89);
+    let narrow = longest(3, 4);
+    let wide = longest(11, 52);
+    writing::show(narrow, 50);
+    writing::show(narrow, 49);
+    writing::show(wide, 90);
+    writing::show(wide, 89);
     let short = writing::shortest(0, 0);
     writing::show(with(short, 0, 1, 1), 9);
     writing::show(with(short, 3, 0, 0), 4);

@@ -1,4 +1,5 @@
 // Job records: document 01's example file read, written back and cut at every place, and each refusal of reading and of writing.
+mod bounded;
 mod dropped;
 mod reading;
 mod writing;
@@ -17,5 +18,10 @@ fn main() {
     dropped::order();
     dropped::written();
     dropped::back();
+    bounded::read();
+    bounded::second_map();
+    bounded::order();
+    bounded::written();
+    bounded::back();
     reading::truncations();
 }

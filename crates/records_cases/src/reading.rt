@@ -100,9 +100,9 @@ pub(crate) fn refusals() {
     // cut short, before w is looked at
     show(b"\x00");
     show(b"\x10\x00\x04\x00");
-    // map bit 7, before the length is looked at
-    show(b"\x80");
-    show(b"\x80\x03\x04\x00");
+    // a bit of the second map that has no meaning, before the length is looked at
+    show(b"\x80\x80");
+    show(b"\x80\x08\x04\x00");
     // fields that say their default: a mask, the mode, both random words; and one random word alone, which does not
     show(b"\x01\x03\x04\x00\x00\x00\x00\x00\x00\x00\x00\x00");
     show(b"\x10\x03\x04\x00\x00");

@@ -1,4 +1,4 @@
-// Entries written into a buffer of 96 bytes, all 255 before.
+// Entries written into a buffer of 144 bytes, all 255 before.
 use crate::reading;
 use format::Format;
 use job::Setting;
@@ -9,8 +9,8 @@ use mask::Mask;
 use records::First;
 use records::Writing;
 
-fn blank() -> [u8; 96] {
-    [255u8; 96]
+fn blank() -> [u8; 144] {
+    [255u8; 144]
 }
 
 fn show_reply(reply: Writing) {
@@ -38,7 +38,7 @@ fn length(reply: Writing) -> usize {
 fn kept(buffer: &[u8], n: usize) {
     let before = blank();
     if n <= buffer.len() {
-        if n <= 96 {
+        if n <= 144 {
             io::write_all(STDOUT_FILENO, b", after it ");
             reading::show_same(check::same(&buffer[n..], &before[n..]));
             io::write_all(STDOUT_FILENO, b"\n");
@@ -81,6 +81,15 @@ pub(crate) fn back(s: &[u8]) {
     show_reply(reply);
     compare(&buffer, s, n);
     kept(&buffer, n);
+}
+
+// Writes an entry, and reads and writes what then stands in the buffer.
+pub(crate) fn read_back(entry: Entry) {
+    let mut buffer = blank();
+    show_reply(records::write(entry, &mut buffer));
+    io::write_all(STDOUT_FILENO, b"; ");
+    reading::show(&buffer);
+    back(&buffer);
 }
 
 pub(crate) fn example() {

@@ -1,9 +1,11 @@
 // Pseudo-random jobs by a congruential generator. Every state gives an entry and a room; no state's numbers are told by those of another.
+use bounds::Bounds;
+use bounds::Ends;
 use format::Format;
 use job::Dropped;
 use job::Job;
 use job::Setting;
-use job::words::masked_job;
+use job::Wanted;
 use layout::Entry;
 use mask::Mask;
 
@@ -15,14 +17,15 @@ fn next(state: u64) -> u64 {
     state % MODULUS * 48271 % MODULUS
 }
 
-// The state after the two that a mask, two words, or g and its mask are made of.
+// The state after the two that a mask, two words, bounds, or g and its mask are made of.
 fn skipped(state: u64) -> u64 {
     next(next(state))
 }
 
 // The state of the next job.
 pub fn following(state: u64) -> u64 {
-    skipped(skipped(skipped(skipped(skipped(skipped(next(state)))))))
+    let words = skipped(skipped(skipped(skipped(next(state)))));
+    skipped(skipped(skipped(skipped(skipped(words)))))
 }
 
 // A word of 64 bits, 16 from each of four other multipliers.
@@ -69,13 +72,61 @@ fn dropped(state: u64) -> Dropped {
     }
 }
 
-fn job(format: Format, operation: u64, mode: u64, a: Mask, b: Mask, c: Mask, carries: Mask) -> Job {
-    let setting = Setting {
-        format,
-        operation,
-        mode,
-    };
-    masked_job(setting, a, b, c, carries)
+fn smaller(x: u64, y: u64) -> u64 {
+    if x < y { x } else { y }
+}
+
+fn larger(x: u64, y: u64) -> u64 {
+    if x < y { y } else { x }
+}
+
+// The ends of an interval, both positive, both negative, or the low one negative: it is not above the high one, unless one is a NaN.
+fn ends(width: u64, state: u64) -> Ends {
+    let places = bits::minus(width, 1);
+    let sign = bits::power(places);
+    let x = bits::low(word(state), places);
+    let y = bits::low(word(next(state)), places);
+    let low = smaller(x, y);
+    let high = larger(x, y);
+    match state / 48 % 3 {
+        0 => Ends { low, high },
+        1 => Ends {
+            low: sign | high,
+            high: sign | low,
+        },
+        _ => Ends {
+            low: sign | x,
+            high: y,
+        },
+    }
+}
+
+// No bounds, or in one of three cases ends as above. Of these one in 16 has any two words, and one in 16 its ends exchanged.
+fn bounds(width: u64, state: u64) -> Bounds {
+    if state % 3 != 0 {
+        return Bounds::Unbounded;
+    }
+    if state / 3 % 16 == 0 {
+        return Bounds::Between(Ends {
+            low: word(state),
+            high: word(next(state)),
+        });
+    }
+    let drawn = ends(width, state);
+    if state / 144 % 16 == 0 {
+        return Bounds::Between(Ends {
+            low: drawn.high,
+            high: drawn.low,
+        });
+    }
+    Bounds::Between(drawn)
+}
+
+fn wanted(width: u64, fixed: u64, bounded: u64) -> Wanted {
+    Wanted {
+        mask: mask(width, fixed),
+        bounds: bounds(width, bounded),
+    }
 }
 
 // The entry of a state: its numbers are those of the state, its fields those of the states after it.
@@ -89,16 +140,20 @@ pub fn entry(state: u64) -> Entry {
     let fourth = skipped(third);
     let words = skipped(fourth);
     let below = skipped(words);
-    let mut job = job(
-        Format { w, f },
-        state / 510 % 2,
-        state / 1020 % 5,
-        mask(width, first),
-        mask(width, second),
-        mask(width, third),
-        mask(f + 1, fourth),
-    );
-    job.dropped = dropped(below);
+    let a = skipped(below);
+    let b = skipped(a);
+    let job = Job {
+        setting: Setting {
+            format: Format { w, f },
+            operation: state / 510 % 2,
+            mode: state / 1020 % 5,
+        },
+        a: wanted(width, first, a),
+        b: wanted(width, second, b),
+        c: wanted(width, third, skipped(b)),
+        carries: mask(f + 1, fourth),
+        dropped: dropped(below),
+    };
     Entry {
         job,
         r1: random(width, words),
@@ -109,8 +164,8 @@ pub fn entry(state: u64) -> Entry {
 // The room for a state's record: the whole buffer, or in one of four cases any part of it.
 pub fn room(state: u64) -> usize {
     if state / 5100 % 4 == 0 {
-        (state / 20400 % 93) as usize
+        (state / 20400 % 142) as usize
     } else {
-        92
+        141
     }
 }

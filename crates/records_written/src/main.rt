@@ -15,5 +15,5 @@ fn lines(count: u64) {
 }
 
 fn main() {
-    lines(450);
+    lines(600);
 }

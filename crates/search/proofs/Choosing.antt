@@ -13,11 +13,9 @@ use Rattle.job.specs.declared.Role.{Role}
 use Rattle.job.specs.declared.Role.the-variants.{A, B}
 use Rattle.special.specs.Asked.{fieldIs}
 use Rattle.fit.specs.Fit.{Fits, Fitting}
-use Rattle.pass.specs.declared.Exponents.{Exponents}
-use Rattle.search.specs.Left.{Ready}
+use Rattle.left.specs.Left.{Ready}
 use Rattle.pass.specs.First.{NoneBefore}
 use Rattle.search.specs.Walk.{OpenBits, Triple, TripleFits, memberOf, WalkEnd}
-use Rattle.search.proofs.Roles.{none-back}
 
 -- before a walk every bit is open
 pub all-open : (j : Job) (role : Role) (width : ℕ) → Ready j → width ≡ wordBits (j .setting .format) → OpenBits j role width
@@ -27,10 +25,6 @@ all-open j role width ready e = record { ready = ready; most = omega arith; fixe
 pub none-first : (j : Job) → NoneBefore j (record { a = fieldIs 0; b = fieldIs 0 })
 none-first j d e (inl l) P = omega arith
 none-first j d e (inr (same, l)) P = omega arith
-
--- and no case that the first walk leaves has exponent fields that none had
-pub end-none : (j : Job) (word : ℕ) (t : Job) (n : Exponents) → t .setting ≡ j .setting → WalkEnd j A word t → NoneBefore j n → NoneBefore t n
-end-none j word t n same q = none-back j t n same (λ p f. q .ends .same p .0 f .0)
 
 module _ (j : Job) (r1 r2 : ℕ) (t u : Job) (qa : WalkEnd j A r1 t) (qb : WalkEnd t B r2 u) where
   a-closest : Closest (First (Fitting j)) r1 (t .a .mask .value)

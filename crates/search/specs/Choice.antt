@@ -6,7 +6,7 @@ use Rattle.job.specs.declared.Job.{Job}
 use Rattle.fit.specs.Fit.{Fitting}
 use Rattle.search.specs.declared.Choice.{Choice}
 use Rattle.search.specs.declared.Choice.the-variants.{Operands, Nothing}
-use Rattle.search.specs.Left.{Ready}
+use Rattle.left.specs.Left.{Ready}
 
 -- the closest operands of a fitting case, or nothing where the job is not valid or no case is left
 abbrev pub Chosen : Job → ℕ → ℕ → Choice → Type 0

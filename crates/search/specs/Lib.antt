@@ -1,3 +1,2 @@
-pub mod Left
 pub mod Choice
 pub mod Walk

@@ -11,7 +11,7 @@ use Rattle.fit.specs.Fit.{Fits}
 use Rattle.pass.specs.declared.Exponents.{Exponents}
 use Rattle.pass.specs.First.{NoneBefore, FirstPair}
 use Rattle.search.specs.declared.walk.State.{State}
-use Rattle.search.specs.Left.{Ready}
+use Rattle.left.specs.Left.{Ready}
 
 -- a case is left, and the word's bits from position k on are fixed
 pub record OpenBits (j : Job) (role : Role) (k : ℕ) : Type 0 where
@@ -19,7 +19,7 @@ pub record OpenBits (j : Job) (role : Role) (k : ℕ) : Type 0 where
   pub most : k ≤ wordBits (j .setting .format)
   pub fixed : FixedFrom (wordBits (j .setting .format)) (wanted role j .mask) k
 
--- and no case left has exponent fields before p
+-- and no case, bounds left out, has exponent fields before p
 pub record WalkStart (j : Job) (role : Role) (k : ℕ) (p : Exponents) : Type 0 where
   pub top : OpenBits j role k
   pub none : NoneBefore j p
@@ -34,7 +34,7 @@ TripleFits j p = Fits j (p .0) (p .1) (p .2)
 abbrev pub memberOf : Role → Triple → ℕ
 memberOf role p = member role (p .0) (p .1) (p .2)
 
--- p is the first pair of exponent fields that admits a case
+-- p is the first pair of exponent fields that admits a case, bounds left out
 pub record FoundAt (j : Job) (p : Exponents) : Type 0 where
   pub first : FirstPair j p
   pub within : p .a .0 < 2 ^ j .setting .format .w
@@ -53,8 +53,8 @@ walkOf j role = record {
 abbrev pub walkState : State → WalkState Exponents
 walkState s = record { mask = s .mask; open-bits = s .open_bits; at = s .at }
 
--- a walk can start at the state s: with its mask a case is left, the bits above its open ones are fixed, and no case left has exponent
--- fields before its pair
+-- a walk can start at the state s: with its mask a case is left, the bits above its open ones are fixed, and no case, bounds left out,
+-- has exponent fields before its pair
 abbrev pub StartState : Job → Role → State → Type 0
 StartState j role s = WalkStart (withWordMask role j (s .mask)) role (s .open_bits) (s .at)
 
@@ -66,7 +66,8 @@ NextState j role word s t = NextBit (walkOf j role) word (walkState s) (walkStat
 abbrev pub StateRun : Job → Role → ℕ → ℕ → State → State → Type 0
 StateRun j role word count s t = StartState j role s → Leads State (NextState j role word) count s t
 
--- t is j with the word fixed to its closest value
+-- t is j with the word fixed to its closest value, and pairs of exponent fields that admit no case of j, bounds left out, admit none of t
 pub record WalkEnd (j : Job) (role : Role) (word : ℕ) (t : Job) : Type 0 where
   pub ready : Ready t
+  pub none : (n : Exponents) → NoneBefore j n → NoneBefore t n
   pub ends : EndOfWalk Triple (memberOf role) (TripleFits j) word (TripleFits t) (wanted role t .mask .value)

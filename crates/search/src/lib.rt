@@ -1,12 +1,12 @@
-// The masked search: whether a case is left, and the operands of the one that two random words choose.
+// The masked search: the operands of the case that two random words choose, where one is left.
 mod walk;
 
 use bits::power;
 use format::format_cause;
 use job::Job;
 use job::Role;
+use left::first_left;
 use pass::Exponents;
-use pass::first_pair;
 use walk::follow;
 use word::Biased;
 ghost use mathlib.Core.Path.{_≡_};
@@ -28,7 +28,7 @@ pub enum Choice {
 }
 
 // The operands that the random words choose: each bit of a, from the top, follows the first, and then each bit of b the second. Nothing in
-// a format that is not supported. For a job with a malformed mask the answer is free: a job is tested once, where the generator is asked.
+// a format that is not supported. For a job that is refused the answer is free: a job is tested once, where the generator is asked.
 pub fn choose(job: Job, r1: u64, r2: u64) -> Choice
     ensures unsupported { λ r. ⌜ ((Supported (job .setting .format) → ⊥) → r ≡ Nothing) ⌝ }
     ensures chosen { λ r. ⌜ (Valid job → Chosen job r1 r2 r) ⌝ }
@@ -41,7 +41,7 @@ pub fn choose(job: Job, r1: u64, r2: u64) -> Choice
         a: Biased(0),
         b: Biased(0),
     };
-    let first = first_pair(job, start);
+    let first = first_left(job, start);
     if first.a.0 < power(format.w) {
         let width = format.w + format.f + 1;
         let with_a = follow(job, Role::A, r1, width, first);

@@ -4,18 +4,18 @@ use job::Job;
 use job::Role;
 use job::words::wanted;
 use job::words::with_word_mask;
+use left::first_left;
 use mask::Mask;
 use mask::fix;
 use mask::free;
 use pass::Exponents;
-use pass::first_pair;
 ghost use mathlib.Core.Path.{_≡_};
 ghost use Prim.Native.Nat.{suc, _≤_, _<_};
 ghost use Rattle.format.specs.Format.{Supported};
 ghost use Rattle.search.specs.Walk.{WalkStart, StartState, NextState, StateRun, WalkEnd};
 
 // What is handed on from one bit position to the next: the mask of the operand with the bits chosen so far, how many bits are open, and
-// the pair of exponent fields where the search stands: no case left has fields before it.
+// the pair of exponent fields where the search stands: no case, bounds left out, has fields before it.
 pub struct State {
     pub mask: Mask,
     pub open_bits: u64,
@@ -40,7 +40,7 @@ fn follow_bit(job: Job, role: Role, word: u64, state: State) -> State
     }
     let v = bits::bit_at(word, k);
     let tried = fix(mask, k, v);
-    let first = first_pair(with_word_mask(job, role, tried), at);
+    let first = first_left(with_word_mask(job, role, tried), at);
     if first.a.0 < power(job.setting.format.w) {
         return State {
             mask: tried,
@@ -67,8 +67,8 @@ fn follow_bits(job: Job, role: Role, word: u64, state: State, count: u64) -> Sta
     follow_bits(job, role, word, next, count - 1)
 }
 
-// The job with one operand fixed to its closest value, where its bits from position `open_bits` on are fixed and no case left has exponent
-// fields before `start`.
+// The job with one operand fixed to its closest value, where its bits from position `open_bits` on are fixed and no case, bounds left out,
+// has exponent fields before `start`.
 pub(crate) fn follow(job: Job, role: Role, word: u64, open_bits: u64, start: Exponents) -> Job
     requires { ⌜ Supported (job .setting .format) ⌝ }
     ensures { λ r. ⌜ (r .setting ≡ job .setting) × (WalkStart job role open_bits start → WalkEnd job role word r) ⌝ }

@@ -85,7 +85,7 @@ module _ (j : Job) (valid : Valid j) (E e g : Biased) (ones : E .0 ≡ allOnes (
       };
       satisfies = record {
         a-allowed = p .fits .satisfies .a-allowed;
-        b-allowed = record { mask = field-meets F (p .b) g within (j .b .mask) (valid .b .mask) (p .fits .satisfies .b-allowed .mask) met };
+        b-allowed = record { mask = field-meets F (p .b) g within (j .b .mask) (valid .b .mask) (p .fits .satisfies .b-allowed .mask) met; within = tt };
         c-allowed = p .fits .satisfies .c-allowed;
         row = rowless (p .a) (withField F (p .b) g within) (inl (all-ones (p .a) (p .a-exponent))) (special-unfixed j valid E e (inl ones) p);
         dropped = bitless (p .a) (withField F (p .b) g within) (inl (all-ones (p .a) (p .a-exponent))) (special-unfixed j valid E e (inl ones) p);
@@ -108,7 +108,7 @@ module _ (j : Job) (valid : Valid j) (E e g : Biased) (ones : E .0 ≡ allOnes (
         sum = p .fits .right .sum ∙ finite-first F (j .setting .operation) (j .setting .mode) (p .a) (withField F (p .a) g within) (p .b) (all-ones (p .b) (p .b-exponent)) (finite (p .a) e (p .a-exponent) e-lt) (finite (withField F (p .a) g within) g (field-biased F (p .a) g within) g-lt);
       };
       satisfies = record {
-        a-allowed = record { mask = field-meets F (p .a) g within (j .a .mask) (valid .a .mask) (p .fits .satisfies .a-allowed .mask) met };
+        a-allowed = record { mask = field-meets F (p .a) g within (j .a .mask) (valid .a .mask) (p .fits .satisfies .a-allowed .mask) met; within = tt };
         b-allowed = p .fits .satisfies .b-allowed;
         c-allowed = p .fits .satisfies .c-allowed;
         row = rowless (withField F (p .a) g within) (p .b) (inr (all-ones (p .b) (p .b-exponent))) (special-unfixed j valid e E (inr ones) p);

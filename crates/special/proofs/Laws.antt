@@ -11,6 +11,7 @@ use Rattle.mask.specs.Mask.{Meets, meets}
 use Rattle.mask.proofs.Checks.{meets-true}
 use Rattle.columns.specs.Machine.{some}
 use Rattle.columns.proofs.Some.{some-sound, some-complete}
+use Rattle.job.specs.Role.{unbounded}
 use Rattle.job.specs.declared.Job.{Job}
 use Rattle.job.specs.Job.{Valid}
 use Rattle.word.specs.declared.Biased.{Biased}
@@ -56,15 +57,15 @@ module _ (j : Job) (valid : Valid j) where
 
   -- with nothing fixed beside the words that is a case
   together-fits : (a b : ℕ) → a < 2 ^ wordBits (j .setting .format) → b < 2 ^ wordBits (j .setting .format) → Special (j .setting .format) (biased (j .setting .format) a) (biased (j .setting .format) b)
-      → Unfixed j → together j a b ≡ true → Fits j a b (resultIn (j .setting) a b)
+      → Unfixed j → together j a b ≡ true → Fits (unbounded j) a b (resultIn (j .setting) a b)
   together-fits a b ha hb special free t =
       let m = together-meets a b .0 t in
       record {
         right = record { a-word = ha; b-word = hb; c-word = result-lt (j .setting .format) (valid .setting .format) (j .setting .operation) (j .setting .mode) a b; sum = refl };
         satisfies = record {
-          a-allowed = record { mask = m .0 };
-          b-allowed = record { mask = m .1 };
-          c-allowed = record { mask = m .2 };
+          a-allowed = record { mask = m .0; within = tt };
+          b-allowed = record { mask = m .1; within = tt };
+          c-allowed = record { mask = m .2; within = tt };
           row = subst (λ (r : row.Row). RowMeets r (j .carries)) (sym (special-row (j .setting .format) (j .setting .operation) a b special)) (free .carries);
           dropped = subst (λ (r : below.Below). BelowMeets r (j .dropped .mask)) (sym (special-below (j .setting .format) (j .setting .operation) (j .dropped .g) a b special)) (free .dropped);
         };

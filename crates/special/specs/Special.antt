@@ -9,12 +9,13 @@ use mathlib.Core.Bool.{Bool, _&&_}
 use Prim.Native.Nat.{ℕ, zero, suc, _/_, _%_}
 use Rattle.format.specs.declared.Format.{Format}
 use Rattle.mask.specs.declared.Mask.{Mask}
+use Rattle.mask.specs.Mask.{meets}
 use Rattle.columns.specs.Machine.{some}
 use Rattle.job.specs.declared.Job.{Job}
 use Rattle.word.specs.declared.Biased.{Biased}
 use Rattle.word.specs.Word.{allOnes, wordOf}
 use Rattle.word.specs.Masks.{fractionMask}
-use Rattle.fit.specs.Fit.{resultIn, allowed}
+use Rattle.fit.specs.Fit.{resultIn}
 use Rattle.significand.specs.Tail.{least, greatest}
 
 -- "With an infinite or NaN operand": one of the exponent fields is all ones ("The carry row")
@@ -35,9 +36,9 @@ extreme f m (suc n) = greatest f m
 unfoldable pub representative : Format → Mask → Biased → ℕ → ℕ
 representative F m e k = wordOf F (k / 2) (e .0) (extreme (F .f) (fractionMask F m) (k % 2))
 
--- a, b and their rounded result are as wanted ("As c follows from a and b"); there is no row and no dropped bit to look at
+-- a, b and their rounded result meet their masks ("As c follows from a and b"); there is no row and no dropped bit to look at
 unfoldable pub together : Job → ℕ → ℕ → Bool
-together j a b = allowed (j .setting .format) a (j .a) && allowed (j .setting .format) b (j .b) && allowed (j .setting .format) (resultIn (j .setting) a b) (j .c)
+together j a b = meets a (j .a .mask) && meets b (j .b .mask) && meets (resultIn (j .setting) a b) (j .c .mask)
 
 -- a goes together with a word that stands for those with the exponent field eb
 unfoldable pub partnered : Job → ℕ → Biased → Bool

@@ -110,7 +110,7 @@ fn special_fields(format: Format, ea: Biased, eb: Biased) -> bool
 
 // Whether an operand with one of these exponent fields is infinite or a NaN and some case with them fits; false in a format that is not
 // supported and for a field that it does not have. There is no row and no bit below the last, so where one is fixed that settles it. For a job
-// with a malformed mask the answer is free: a job is tested once, where the generator is asked.
+// that is refused the answer is free: a job is tested once, where the generator is asked.
 pub fn special_admits(job: Job, ea: Biased, eb: Biased) -> bool
     ensures special { λ r. ⌜ (r ≡ true → InRange (job .setting .format) ea eb × Special (job .setting .format) ea eb) ⌝ }
     ensures exact { λ r. ⌜ (Valid job → Special (job .setting .format) ea eb → (r ≡ true) ↔ PairFits job ea eb) ⌝ }

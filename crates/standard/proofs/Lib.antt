@@ -14,3 +14,4 @@ pub mod Unique
 pub mod Overflow
 pub mod Special
 pub mod Standard
+pub mod Order

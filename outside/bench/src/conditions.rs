@@ -7,11 +7,13 @@ use second::format::{ones, Format, LARGEST_G};
 use second::mask::Mask;
 use second::random::Random;
 use second::sample::{dropping_pair, opposed_pair, pair};
+use second::within::{around_some, Stated};
 
+use crate::bounded;
 use crate::kinds::{Kind, CANCELLED};
 
 /// The masks of a, b and c.
-type Words = [Mask; 3];
+pub type Words = [Mask; 3];
 /// The masks of a, b, c, the carries and the dropped bits, of which there are `LARGEST_G`.
 type Masks = [Mask; 5];
 /// The bits of the last mask, and those of a tie.
@@ -19,27 +21,12 @@ const BELOW: u32 = LARGEST_G as u32 + 1;
 const TIE: u64 = 1 << LARGEST_G;
 
 /// About half of the bits, of 16.
-const HALF: u64 = 8;
+pub const HALF: u64 = 8;
 
 /// The conditions of a job of a kind. One that is to be impossible may have a case.
 pub fn conditions(random: &mut Random, adder: &Adder, kind: Kind) -> Conditions {
-    let [a, b, c, carries, below] = match kind {
-        Kind::Fixed { of_16, carries } => fixed(random, adder, of_16, carries),
-        Kind::Cancelled => alone(cancelled(random, adder)),
-        Kind::Subnormal => alone(subnormal(random, adder)),
-        Kind::Overflow => alone(overflow(random, adder)),
-        Kind::Result => alone(result(random, adder)),
-        Kind::Fractions => alone(fractions(random, adder.format)),
-        Kind::Signs => alone(signs(adder.format)),
-        Kind::ExponentOfC => alone(other_exponent(random, adder)),
-        Kind::Carries => other_carry(random, adder),
-        Kind::Opposed => opposed(random, adder),
-        Kind::Below => below(random, adder),
-        Kind::Tie => tie(random, adder),
-        Kind::OtherBelow => other_below(random, adder),
-        Kind::OddTie => odd_tie(),
-        Kind::Mixed { below } => mixed(random, adder, below),
-    };
+    let (masks, bounds) = masks_and_bounds(random, adder, kind);
+    let [a, b, c, carries, below] = masks;
     let dropped = Dropped {
         g: LARGEST_G,
         mask: below,
@@ -54,7 +41,47 @@ pub fn conditions(random: &mut Random, adder: &Adder, kind: Kind) -> Conditions 
         c,
         carries,
         dropped: dropped.taken(),
+        bounds,
     }
+}
+
+/// What a job of a kind asks for.
+fn masks_and_bounds(random: &mut Random, adder: &Adder, kind: Kind) -> (Masks, Stated) {
+    let masks = match kind {
+        Kind::Wide { words } => return beside(bounded::wide(random, adder, words)),
+        Kind::Narrow { words } => return beside(bounded::narrow(random, adder, words)),
+        Kind::Turned { words } => return beside(bounded::narrow_turned(random, adder, words)),
+        Kind::Beyond { far } => return beside(bounded::beyond(random, adder, places(adder, far))),
+        Kind::Mixed { below, bounds } => return mixed(random, adder, below, bounds),
+        Kind::Fixed { of_16, carries } => fixed(random, adder, of_16, carries),
+        Kind::Cancelled => alone(cancelled(random, adder)),
+        Kind::Subnormal => alone(subnormal(random, adder)),
+        Kind::Overflow => alone(overflow(random, adder)),
+        Kind::Result => alone(result(random, adder)),
+        Kind::Fractions => alone(fractions(random, adder.format)),
+        Kind::Signs => alone(signs(adder.format)),
+        Kind::ExponentOfC => alone(other_exponent(random, adder)),
+        Kind::Carries => other_carry(random, adder),
+        Kind::Opposed => opposed(random, adder),
+        Kind::Below => below(random, adder),
+        Kind::Tie => tie(random, adder),
+        Kind::OtherBelow => other_below(random, adder),
+        Kind::OddTie => odd_tie(),
+    };
+    (masks, [None; 3])
+}
+
+/// How far c's bounds are to lie from all results: a factor of two, or one place.
+fn places(adder: &Adder, far: bool) -> u64 {
+    match far {
+        true => 1 << adder.format.fraction_bits(),
+        false => 1,
+    }
+}
+
+/// The masks of a, b and c, with nothing else fixed, beside bounds.
+fn beside((words, bounds): (Words, Stated)) -> (Masks, Stated) {
+    (alone(words), bounds)
 }
 
 /// A care word with about `of_16` of 16 bits.
@@ -104,7 +131,7 @@ fn lowest(word: u64) -> u64 {
 }
 
 /// The case of a pair of words.
-fn any_case(random: &mut Random, adder: &Adder) -> Case {
+pub fn any_case(random: &mut Random, adder: &Adder) -> Case {
     let (a, b) = pair(random, adder.format);
     Case::of(adder, a, b)
 }
@@ -127,13 +154,13 @@ fn close_case(random: &mut Random, adder: &Adder) -> Case {
 }
 
 /// The first case drawn that is as wanted.
-fn first(draw: impl FnMut() -> Case, wanted: impl Fn(&Case) -> bool) -> Case {
+pub fn first(draw: impl FnMut() -> Case, wanted: impl Fn(&Case) -> bool) -> Case {
     let mut cases = std::iter::repeat_with(draw);
     cases.find(wanted).expect("an endless supply")
 }
 
 /// The masks of a, b and c around a case, with about `of_16` of 16 bits fixed.
-fn around(random: &mut Random, adder: &Adder, case: &Case, of_16: u64) -> Words {
+pub fn around(random: &mut Random, adder: &Adder, case: &Case, of_16: u64) -> Words {
     let width = adder.format.width();
     [case.a, case.b, case.c].map(|word| mask(word, care(random, width, of_16)))
 }
@@ -308,7 +335,7 @@ fn any_share(random: &mut Random, word: u64, width: u32) -> Mask {
     mask(word, care(random, width, of_16))
 }
 
-fn mixed(random: &mut Random, adder: &Adder, with_below: bool) -> Masks {
+fn mixed(random: &mut Random, adder: &Adder, with_below: bool, bounds: bool) -> (Masks, Stated) {
     let (a, b) = pair(random, adder.format);
     let Computed { case, below } = Computed::of(adder, a, b);
     let (width, precision) = (adder.format.width(), adder.format.precision());
@@ -319,5 +346,9 @@ fn mixed(random: &mut Random, adder: &Adder, with_below: bool) -> Masks {
         true => any_share(random, word, BELOW),
         false => Mask::FREE,
     };
-    [a, b, c, carries, below]
+    let stated = match bounds {
+        true => around_some(random, adder.format, [case.a, case.b, case.c]),
+        false => [None; 3],
+    };
+    ([a, b, c, carries, below], stated)
 }

@@ -51,7 +51,8 @@ fn job(random: &mut Random, (w, f): (u64, u64), kind: Kind) -> Job {
     Job { conditions, words }
 }
 
-/// The job without the one mask that is to leave it no case, where its kind has one such mask.
+/// The job without the one mask or the bounds that are to leave it no case, where its kind has
+/// such.
 fn relieved(job: &Job, kind: Kind) -> Option<Job> {
     let mut relieved = *job;
     let conditions = &mut relieved.conditions;
@@ -62,13 +63,15 @@ fn relieved(job: &Job, kind: Kind) -> Option<Job> {
         }
         Kind::OtherBelow | Kind::OddTie => conditions.dropped = Dropped::FREE,
         Kind::Carries => conditions.carries = Mask::FREE,
+        Kind::Turned { .. } => conditions.bounds = [None; 3],
+        Kind::Beyond { .. } => conditions.bounds[2] = None,
         _ => return None,
     }
     Some(relieved)
 }
 
-/// Whether a job of an impossible kind has no case, and has one without the mask that its kind is
-/// named for.
+/// Whether a job of an impossible kind has no case, and has one without the mask or the bounds that
+/// its kind is named for.
 fn is_as_said(drawn: &Recorded, kind: Kind) -> bool {
     if !kind.is_impossible() {
         return true;

@@ -43,9 +43,21 @@ pub enum Kind {
     /// A tie with ties going to even, by the dropped bits and the sticky bit, and the last bit of c
     /// fixed to 1, nothing else: no case.
     OddTie,
+    /// Few bits fixed around a true case, and bounds of so many words, with any ends around it.
+    Wide { words: usize },
+    /// Fractions half fixed around a true case, and bounds of so many words, with ends up to a
+    /// factor of two from it.
+    Narrow { words: usize },
+    /// The same with a fixed bit turned, and no case: without the bounds there would be one.
+    Turned { words: usize },
+    /// Few bits fixed around a true case, bounds of a and b around it, and bounds of c beyond all
+    /// results of these, by a factor of two or more, or by a place or two: no case, and without the
+    /// bounds of c there would be one.
+    Beyond { far: bool },
     /// Each mask, the carries' too, with its own share of fixed bits, from none to all, and around
-    /// a true case or not; the dropped bits' too where that is said.
-    Mixed { below: bool },
+    /// a true case or not; the dropped bits' too where that is said, and bounds of one word or
+    /// more.
+    Mixed { below: bool, bounds: bool },
 }
 
 /// How far c's exponent field stands below both operands' where digits are to cancel.
@@ -53,14 +65,19 @@ pub const CANCELLED: u64 = 3;
 
 pub const HALF_FIXED: (&str, Kind) = ("half fixed", fixed(8));
 pub const IMPOSSIBLE: (&str, Kind) = ("impossible (all fractions fixed)", Kind::Fractions);
-pub const MIXED: (&str, Kind) = ("any share of each mask fixed", Kind::Mixed { below: false });
+pub const MIXED: (&str, Kind) = ("any share of each mask fixed", mixed(false, false));
 pub const MIXED_BELOW: (&str, Kind) = (
     "any share of each mask fixed, dropped bits too",
-    Kind::Mixed { below: true },
+    mixed(true, false),
+);
+pub const MIXED_BOUNDS: (&str, Kind) = (
+    "any share of each mask fixed, dropped bits and bounds too",
+    mixed(true, true),
 );
 /// Those of which z3 is asked for the smallest case, those of which it is asked whether there is
-/// one, and those with carry masks, of which it is not asked.
-pub const KINDS: [(&str, Kind); 19] = [
+/// one, and those with carry masks, of which it is not asked; then those with bounds in the same
+/// order.
+pub const KINDS: [(&str, Kind); 31] = [
     ("sparse (1/16 of the bits fixed)", fixed(1)),
     HALF_FIXED,
     ("dense (7/8 fixed)", fixed(14)),
@@ -86,7 +103,38 @@ pub const KINDS: [(&str, Kind); 19] = [
     ("impossible only by the carries", Kind::Carries),
     MIXED,
     MIXED_BELOW,
+    ("wide bounds of one word", Kind::Wide { words: 1 }),
+    ("wide bounds of two words", Kind::Wide { words: 2 }),
+    ("wide bounds of three words", Kind::Wide { words: 3 }),
+    ("narrow bounds of one word", Kind::Narrow { words: 1 }),
+    ("narrow bounds of two words", Kind::Narrow { words: 2 }),
+    ("narrow bounds of three words", Kind::Narrow { words: 3 }),
+    (
+        "impossible by masks and bounds of one word",
+        Kind::Turned { words: 1 },
+    ),
+    (
+        "impossible by masks and bounds of two words",
+        Kind::Turned { words: 2 },
+    ),
+    (
+        "impossible by masks and bounds of three words",
+        Kind::Turned { words: 3 },
+    ),
+    (
+        "impossible only by c's bounds, far off",
+        Kind::Beyond { far: true },
+    ),
+    (
+        "impossible only by c's bounds, one place off or two",
+        Kind::Beyond { far: false },
+    ),
+    MIXED_BOUNDS,
 ];
+
+const fn mixed(below: bool, bounds: bool) -> Kind {
+    Kind::Mixed { below, bounds }
+}
 
 const fn fixed(of_16: u64) -> Kind {
     Kind::Fixed {
@@ -108,15 +156,33 @@ impl Kind {
     fn has_below(self) -> bool {
         matches!(
             self,
-            Kind::Below | Kind::Tie | Kind::OtherBelow | Kind::OddTie | Kind::Mixed { below: true }
+            Kind::Below
+                | Kind::Tie
+                | Kind::OtherBelow
+                | Kind::OddTie
+                | Kind::Mixed { below: true, .. }
+        )
+    }
+
+    /// Whether bounds are stated.
+    pub fn has_bounds(self) -> bool {
+        matches!(
+            self,
+            Kind::Wide { .. }
+                | Kind::Narrow { .. }
+                | Kind::Turned { .. }
+                | Kind::Beyond { .. }
+                | Kind::Mixed { bounds: true, .. }
         )
     }
 
     /// Whether the linked library takes its jobs: one that is older than W-206 refuses those that
-    /// ask for dropped bits.
+    /// ask for dropped bits, and one older than W-207 those with bounds.
     pub fn is_known(self) -> bool {
         const WITH_BELOW: [u8; 9] = [0x40, 3, 4, 0, 0, 1, 0, 0, 0];
-        !self.has_below() || vindacsor::read(&WITH_BELOW).is_ok()
+        const WITH_BOUNDS: [u8; 13] = [0x80, 1, 3, 4, 0, 0, 0, 0, 0, 0, 0, 0, 0];
+        (!self.has_below() || vindacsor::read(&WITH_BELOW).is_ok())
+            && (!self.has_bounds() || vindacsor::read(&WITH_BOUNDS).is_ok())
     }
 
     /// Whether no job of the kind has a case.
@@ -129,6 +195,8 @@ impl Kind {
                 | Kind::OtherBelow
                 | Kind::OddTie
                 | Kind::Carries
+                | Kind::Turned { .. }
+                | Kind::Beyond { .. }
         )
     }
 }

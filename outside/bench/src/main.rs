@@ -11,6 +11,7 @@
 //! of target/staticlib/libvindacsor.a: so two builds can be timed one after the other. Kinds of
 //! jobs that an older one refuses are left out.
 
+mod bounded;
 mod case_13;
 mod conditions;
 mod dropped;
@@ -48,6 +49,8 @@ fn found(options: &Options) -> Result<Found, String> {
     let mut random = Random::new(options.seed);
     let mut rows = rows::case_rows(&mut random, &mut solver, options.jobs)?;
     rows.extend(rows::whole_rows(&mut random, options.jobs));
+    // After all others, so that these keep their jobs.
+    rows.extend(rows::bounded_rows(&mut random, &mut solver, options.jobs)?);
     let time = options.slow.unwrap_or(SEARCH);
     Ok(Found {
         version,

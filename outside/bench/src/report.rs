@@ -53,7 +53,8 @@ fn comparison(version: &str, options: &Options, rows: &[Row]) -> String {
         "## Beside z3\n\n\
          {version}. It is started once and asked over its standard input, so its start is not in \
          the times. A job is three bit vectors under the masks, with c the IEEE 754 sum or \
-         difference (fp.add, fp.sub) in the job's mode and the one NaN. Dropped bits are written \
+         difference (fp.add, fp.sub) in the job's mode and the one NaN. Bounds are `fp.leq`, which \
+         holds of no NaN. Dropped bits are written \
          out in bit-vector operations: the smaller operand aligned to the larger with a sticky \
          bit, their sum or difference in as few columns as serve, moved up until its leading 1 \
          stands at the top. Of a job with a case z3's optimizer is asked for the smallest a \
@@ -106,8 +107,8 @@ pub fn slow(options: &Options, slowest: &[Slowest], time: Duration) -> String {
         "## The slowest found\n\n\
          A search for slow jobs (`--slow`), {} s, half of it in each format, seed {:#x}. {BEGINNINGS} \
          random jobs, of every kind in turn, are changed at random: bits, runs of bits and fields \
-         of the masks, bits of the random words, the mode, the operation. A change is kept where \
-         the reply takes longer, by the least of {COMPARED} runs, and the slower half of the jobs goes on \
+         of the masks, bits of the random words, bounds, the mode, the operation. A change is kept \
+         where the reply takes longer, by the least of {COMPARED} runs, and the slower half of the jobs goes on \
          until one is left. Its time here is the least of {RUNS} runs. The times have a part in \
          the way that the search takes, so the seed alone does not repeat it. That no job is \
          slower is not shown.\n\n",
@@ -126,7 +127,7 @@ pub fn slow(options: &Options, slowest: &[Slowest], time: Duration) -> String {
 }
 
 /// What is said of a slow job, line by line.
-const SLOW_LINES: [&str; 12] = [
+const SLOW_LINES: [&str; 15] = [
     "Format",
     "time",
     "reply",
@@ -137,6 +138,9 @@ const SLOW_LINES: [&str; 12] = [
     "c: care, value",
     "carries: care, value",
     "dropped bits: g, care, value",
+    "bounds of a: low, high",
+    "bounds of b: low, high",
+    "bounds of c: low, high",
     "random words",
     "changes tried",
 ];
@@ -155,6 +159,10 @@ fn lines_of(slowest: &Slowest) -> Vec<String> {
     );
     let Dropped { g, mask } = conditions.dropped;
     lines.push(format!("{g} {}", hexadecimal([mask.care, mask.value])));
+    lines.extend(conditions.bounds.map(|stated| match stated {
+        Some(bounds) => hexadecimal(bounds.words()),
+        None => "none".to_string(),
+    }));
     lines.push(hexadecimal(slowest.job.words));
     lines.push(slowest.tried.to_string());
     lines
@@ -260,11 +268,18 @@ const KINDS_MEAN: &str = "Operation and mode of a job are random, but case 13 is
     fraction are fixed. For overflow c is fixed to infinity, but for its sign, and so is a 0 of \
     each operand's exponent. Impossible only by c's exponent: this is fixed to another field than \
     the true case's, and about a quarter of a's and b's exponents is fixed; only by the carries: \
-    one is fixed to the other value than the true case's; only by the dropped bits: all are fixed, \
-    one of them to the other value. Without that all three have a case. With equal exponents both \
-    are fixed, and the effective signs of the true case are unlike. There are 8 dropped bits, \
-    beside the sticky bit; in a tie the first is 1, and all else 0. All else in these is half \
-    fixed. For a tie to an odd c only the dropped bits and the last bit of c are fixed.";
+    one is fixed to the other value than the true case's; only by the dropped bits: all are \
+    fixed, one of them to the other value. Without that all three have a case. With equal \
+    exponents both are fixed, and the effective signs of the true case are unlike. There are 8 \
+    dropped bits, beside the sticky bit; in a tie the first is 1, and all else 0. All else in \
+    these is half fixed. For a tie to an odd c only the dropped bits and the last bit of c are \
+    fixed. Wide bounds have any ends around the words of a true case, and 1/16 of the bits is \
+    fixed around it; narrow ones have ends up to a factor of two away, of any number of digits, \
+    and of the fractions half is fixed, nothing else. Impossible by masks and bounds: narrow \
+    ones, and a fixed bit of a fraction turned; without the bounds there is a case. Only by c's \
+    bounds: 1/16 of the bits is fixed around a true case, a's and b's bounds lie around it, wide \
+    or narrow, and c's begin beyond all rounded results of these, by 2^f numbers of the format or \
+    up to twice as many, or by one or two; without them there is a case.";
 
 /// What was linked: the library that the toolchain writes, or the file that a variable names.
 fn library() -> String {

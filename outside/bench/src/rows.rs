@@ -54,6 +54,18 @@ impl Row {
     pub fn is_impossible(&self) -> bool {
         self.subject.is_some_and(|(_, kind)| kind.is_impossible())
     }
+
+    /// Whether its jobs state bounds.
+    pub fn has_bounds(&self) -> bool {
+        self.subject.is_some_and(|(_, kind)| kind.has_bounds())
+    }
+
+    /// The least ratio of a job.
+    pub fn least_ratio(&self) -> f64 {
+        self.other
+            .as_ref()
+            .map_or(f64::INFINITY, |other| other.least_ratio)
+    }
 }
 
 /// Times z3 on the jobs and holds its answers against the generator's, whose times are given. An
@@ -111,15 +123,19 @@ fn row(
     })
 }
 
-/// The rows of the case generator, first those of the formats in which z3 is asked too.
-pub fn case_rows(
+/// The rows of every format in which z3 is asked too, of the kinds with bounds or of the others.
+fn format_rows(
     random: &mut Random,
     solver: &mut Option<Solver>,
     count: usize,
+    bounds: bool,
 ) -> Result<Vec<Row>, String> {
     let mut rows = Vec::new();
     for format in FORMATS {
         for (name, kind) in KINDS {
+            if kind.has_bounds() != bounds {
+                continue;
+            }
             let count = match kind {
                 Kind::Mixed { .. } => MIXED * count,
                 _ => count,
@@ -131,12 +147,32 @@ pub fn case_rows(
             }
         }
     }
+    Ok(rows)
+}
+
+/// The rows of the case generator on jobs without bounds, first those of the formats in which z3 is
+/// asked too.
+pub fn case_rows(
+    random: &mut Random,
+    solver: &mut Option<Solver>,
+    count: usize,
+) -> Result<Vec<Row>, String> {
+    let mut rows = format_rows(random, solver, count, false)?;
     for format in WIDE_FRACTIONS {
         for kind in [HALF_FIXED, IMPOSSIBLE] {
             rows.push(row(random, &mut None, format, kind, count)?);
         }
     }
     Ok(rows)
+}
+
+/// The rows of the case generator on jobs with bounds.
+pub fn bounded_rows(
+    random: &mut Random,
+    solver: &mut Option<Solver>,
+    count: usize,
+) -> Result<Vec<Row>, String> {
+    format_rows(random, solver, count, true)
 }
 
 fn whole_row(random: &mut Random, of_16: u64, possible: bool, name: &str, count: usize) -> Row {

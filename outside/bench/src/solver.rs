@@ -1,8 +1,8 @@
 //! z3, run once and asked many jobs over its standard input, so that its start is not timed.
-//! A job is a and b as bit vectors with c the floating-point sum, under the masks; dropped bits are
-//! written out in bit-vector operations. Of a job that has a case the smallest a exclusive-or the
-//! first random word is asked for, then b with the second, by z3's optimizer; of an impossible one
-//! only whether it has a case.
+//! A job is a and b as bit vectors with c the floating-point sum, under the masks and within the
+//! bounds; dropped bits are written out in bit-vector operations. Of a job that has a case the
+//! smallest a exclusive-or the first random word is asked for, then b with the second, by z3's
+//! optimizer; of an impossible one only whether it has a case.
 
 use std::io::{BufRead, BufReader, Write};
 use std::process::{Child, ChildStdin, Command, Stdio};
@@ -10,7 +10,9 @@ use std::sync::mpsc::{channel, Receiver};
 use std::thread;
 use std::time::{Duration, Instant};
 
+use second::bounds::Bounds;
 use second::choice::Job;
+use second::fits::Conditions;
 use second::format::Format;
 use second::mask::Mask;
 
@@ -133,7 +135,31 @@ pub fn meets(name: &str, mask: Mask, width: u32) -> String {
     format!("(assert (= (bvand {name} {care}) {value}))\n")
 }
 
-/// The job for z3: declarations, masks, the sum, dropped bits, the objectives and the question.
+/// That a word lies within bounds: `fp.leq` holds of no NaN, and of the zeros both ways.
+fn lies_within(name: &str, bounds: Bounds, width: u32, float: &str) -> String {
+    let [low, high] = bounds
+        .words()
+        .map(|word| format!("((_ to_fp {float}) {})", literal(word, width)));
+    let number = format!("((_ to_fp {float}) {name})");
+    format!("(assert (fp.leq {low} {number}))\n(assert (fp.leq {number} {high}))\n")
+}
+
+/// The words a, b and c, with what is asked of each alone.
+fn words(conditions: &Conditions, width: u32, float: &str) -> String {
+    let masks = [conditions.a, conditions.b, conditions.c];
+    let mut asked = String::new();
+    for (i, name) in ["a", "b", "c"].into_iter().enumerate() {
+        asked += &format!("(declare-const {name} (_ BitVec {width}))\n");
+        asked += &meets(name, masks[i], width);
+        if let Some(bounds) = conditions.bounds[i] {
+            asked += &lies_within(name, bounds, width, float);
+        }
+    }
+    asked
+}
+
+/// The job for z3: declarations, masks, bounds, the sum, dropped bits, the objectives and the
+/// question.
 fn script(job: &Job, has_case: bool) -> String {
     let conditions = &job.conditions;
     let format = Format::new(conditions.w, conditions.f).expect("within the limits");
@@ -145,14 +171,7 @@ fn script(job: &Job, has_case: bool) -> String {
     if !has_case {
         script += "(set-logic QF_BVFP)\n";
     }
-    for (name, mask) in [
-        ("a", conditions.a),
-        ("b", conditions.b),
-        ("c", conditions.c),
-    ] {
-        script += &format!("(declare-const {name} (_ BitVec {width}))\n");
-        script += &meets(name, mask, width);
-    }
+    script += &words(conditions, width, &float);
     let nan = literal(format.nan(), width);
     script += &format!(
         "(define-fun s () (_ FloatingPoint {float}) \
@@ -196,14 +215,15 @@ mod tests {
     use super::*;
     use second::choice::{free_bits, generate};
     use second::random::Random;
-    use second::sample::{all_but_few, dropped_job};
+    use second::sample::{all_but_few, bounded_job, dropped_job};
 
-    /// Jobs that ask for dropped bits and for no carries, of a format, with so few bits of a and b
-    /// free that all pairs can be tried.
+    /// Jobs that ask for dropped bits or state bounds, and ask for no carries, of a format, with so
+    /// few bits of a and b free that all pairs can be tried.
     fn jobs(random: &mut Random, (w, f): (u64, u64), count: usize) -> Vec<Job> {
         let draw = || {
             let numbers = [w, f, random.below(2), random.below(5)];
-            let mut job = dropped_job(random, numbers, all_but_few(numbers));
+            let draw = [dropped_job, bounded_job][random.below(2) as usize];
+            let mut job = draw(random, numbers, all_but_few(numbers));
             job.conditions.carries = Mask::FREE;
             job
         };

@@ -1,10 +1,13 @@
 //! Random changes of a job that leave it well made.
 
+use second::bounds::Bounds;
 use second::choice::Job;
 use second::dropped::Dropped;
 use second::format::{ones, Format, LARGEST_G, LARGEST_MODE};
 use second::mask::Mask;
 use second::random::Random;
+use second::sample::word;
+use second::within::{between, place_of};
 
 use crate::conditions::{exponent_field, with, without};
 
@@ -18,15 +21,19 @@ pub fn changed(random: &mut Random, job: &Job) -> Job {
     job
 }
 
-/// Changes the mode, the operation, a random word or a mask.
+/// Changes the mode, the operation, a random word, bounds or a mask.
 fn change(random: &mut Random, job: &mut Job) {
     let format = Format::new(job.conditions.w, job.conditions.f).expect("within the limits");
-    match random.below(12) {
+    match random.below(14) {
         0 => job.conditions.mode = random.below(LARGEST_MODE + 1),
         1 => job.conditions.operation = 1 - job.conditions.operation,
         2 | 3 => {
             let bits = some_bits(random, format, format.width());
             job.words[random.below(2) as usize] ^= bits;
+        }
+        4 | 5 => {
+            let stated = &mut job.conditions.bounds[random.below(3) as usize];
+            *stated = changed_bounds(random, *stated, format);
         }
         _ => change_mask(random, job, format),
     }
@@ -69,6 +76,26 @@ fn changed_dropped(random: &mut Random, dropped: Dropped, format: Format) -> Dro
     let mask = without(dropped.mask, !ones(width));
     let mask = changed_mask(random, mask, bits);
     Dropped { g, mask }.taken()
+}
+
+/// Turns some bits of the ends of bounds, or states any where there are none. Every fourth time,
+/// and where an end has become a NaN, there are none.
+fn changed_bounds(random: &mut Random, stated: Option<Bounds>, format: Format) -> Option<Bounds> {
+    if stated.is_some() && random.one_in(4) {
+        return None;
+    }
+    let words = match stated {
+        Some(bounds) => bounds.words(),
+        None => [0; 2].map(|_| word(random, format)),
+    };
+    let [one, other] = words.map(|end| {
+        let moved = match random.below(2) {
+            0 => end ^ some_bits(random, format, format.width()),
+            _ => end,
+        };
+        place_of(format, moved)
+    });
+    Some(between(random, format, one?, other?))
 }
 
 /// One bit, some in a row, or a field of a word or all of it, as far as that lies in so many bits.

@@ -2,7 +2,7 @@
 
 use std::time::Duration;
 
-use crate::kinds::{Kind, MIXED, MIXED_BELOW};
+use crate::kinds::{Kind, MIXED, MIXED_BELOW, MIXED_BOUNDS};
 use crate::rows::{Row, DOUBLE};
 use crate::times::{plain, text};
 
@@ -11,26 +11,47 @@ struct Faster {
     /// The target in words.
     text: &'static str,
     target: f64,
-    /// Whether the kinds are those without a case.
+    /// Whether the kinds are those without a case, and whether they are those with bounds.
     impossible: bool,
+    bounds: bool,
 }
 
-const FASTER: [Faster; 2] = [
+const FASTER: [Faster; 4] = [
     Faster {
         text:
             "The whole reply 1,000 times faster than z3's `minimize`, in the median of each kind \
-               that z3 is asked",
+               without bounds that z3 is asked",
         target: 1000.0,
         impossible: false,
+        bounds: false,
+    },
+    Faster {
+        text: "Impossible jobs 100 times faster than z3's decision, in the median of each kind \
+               without bounds that z3 is asked",
+        target: 100.0,
+        impossible: true,
+        bounds: false,
     },
     Faster {
         text:
-            "Impossible jobs 100 times faster than z3's decision, in the median of each kind that \
-               z3 is asked",
+            "With bounds, the whole reply 100 times faster than z3's `minimize`, in the median of \
+               each kind",
         target: 100.0,
+        impossible: false,
+        bounds: true,
+    },
+    Faster {
+        text:
+            "Impossible jobs with bounds 30 times faster than z3's decision, in the median of each \
+               kind",
+        target: 30.0,
         impossible: true,
+        bounds: true,
     },
 ];
+
+/// How many times faster than z3 each single job with bounds is to be.
+const SINGLE: f64 = 10.0;
 
 /// How many jobs with any share of each mask fixed there are to be in double precision, and what
 /// none of them is to take longer than.
@@ -46,6 +67,7 @@ pub fn section(rows: &[Row]) -> String {
     for faster in FASTER {
         table += &faster.line(rows);
     }
+    table += &single(rows);
     for kind in [MIXED, MIXED_BELOW] {
         table += &bounded(rows, kind);
     }
@@ -65,7 +87,8 @@ impl Faster {
     /// of them.
     fn line(&self, rows: &[Row]) -> String {
         let Faster { text, target, .. } = self;
-        let of_kind = |row: &&Row| row.is_impossible() == self.impossible;
+        let of_kind =
+            |row: &&Row| row.is_impossible() == self.impossible && row.has_bounds() == self.bounds;
         let mut ratios: Vec<(f64, &Row)> = rows
             .iter()
             .filter(of_kind)
@@ -75,11 +98,8 @@ impl Faster {
         let Some((least, row)) = ratios.first() else {
             return format!("| {text} | - | z3 was not asked |\n");
         };
-        let of_job = |row: &Row| row.other.as_ref().map_or(f64::INFINITY, |o| o.least_ratio);
-        let of_jobs = ratios.iter().map(|(_, row)| (of_job(row), &row.name));
-        let (least_of_jobs, job_name) = of_jobs
-            .min_by(|(one, _), (other, _)| one.total_cmp(other))
-            .expect("a row");
+        let asked: Vec<&Row> = ratios.iter().map(|(_, row)| *row).collect();
+        let (least_of_jobs, job_name) = least_of_jobs(&asked).expect("a row");
         let below = ratios.iter().filter(|(ratio, _)| ratio < target).count();
         format!(
             "| {text} | {} | least ratio of medians {} ({}), {below} of {} below {target}; least \
@@ -91,6 +111,30 @@ impl Faster {
             plain(least_of_jobs),
         )
     }
+}
+
+/// The least ratio of a single job in some rows, and its row's name.
+fn least_of_jobs<'a>(rows: &[&'a Row]) -> Option<(f64, &'a str)> {
+    let of_jobs = rows.iter().map(|row| (row.least_ratio(), &row.name[..]));
+    of_jobs.min_by(|(one, _), (other, _)| one.total_cmp(other))
+}
+
+/// The line of every single job with bounds that z3 is asked, with the largest time of them.
+fn single(rows: &[Row]) -> String {
+    let target = format!("Each single job with bounds {SINGLE} times faster than z3");
+    let asked = |row: &&Row| row.has_bounds() && row.other.is_some();
+    let asked: Vec<&Row> = rows.iter().filter(asked).collect();
+    let slowest = asked.iter().max_by_key(|row| row.times.largest);
+    let (Some((least, name)), Some(slowest)) = (least_of_jobs(&asked), slowest) else {
+        return format!("| {target} | - | z3 was not asked |\n");
+    };
+    format!(
+        "| {target} | {} | least ratio of a single job {} ({name}); largest time {} ({}) |\n",
+        met(least >= SINGLE),
+        plain(least),
+        text(slowest.times.largest),
+        slowest.name
+    )
 }
 
 /// The line of the bound on a single job of a kind.

@@ -65,7 +65,7 @@ pub const COUNTED: [Counted; 4] = [
 /// double precision.
 const FORMATS: [(u64, u64); 5] = [(4, 23), (6, 23), (8, 23), (10, 23), (11, 52)];
 /// No record is longer than this; in the file each has this many bytes after its length.
-const SLOT: usize = 127;
+const SLOT: usize = 255;
 
 /// The mean counts per reply for one kind, in each of the formats.
 pub struct Counts {

@@ -1,9 +1,10 @@
 //! Numbers, words, masks and files that are not as they should be, or nearly.
 
+use second::bounds::Bounds;
 use second::choice::Job;
 use second::dropped::Dropped;
 use second::format::{LARGEST_F, LARGEST_G, LARGEST_MODE, LARGEST_W};
-use second::malform::{malform_job, MASKS};
+use second::malform::{malform_bounds, malform_job, MASKS};
 use second::mask::Mask;
 use second::random::Random;
 use second::record::{dropped_bytes, map_of, unchecked, word_bytes};
@@ -35,22 +36,51 @@ pub fn damaged_word(random: &mut Random, word: u64, width: u32) -> u64 {
 /// A record of full length with any two bytes for w and f, by which its words have four or eight
 /// bytes. Its fields are good ones but for a few.
 pub fn raw_record(random: &mut Random, w: u8, f: u8) -> Vec<u8> {
-    let map = random.bits(7) as u8;
+    let first = random.bits(8) as u8;
+    let second = match first >> 7 {
+        0 => None,
+        _ => Some(second_map(random)),
+    };
     let word_bytes = word_bytes(u64::from(w), u64::from(f));
-    let mut record = vec![map, w, f, random.below(2) as u8];
-    for bit in (0..7).filter(|bit| map >> bit & 1 == 1) {
+    let mut record: Vec<u8> = [first].into_iter().chain(second).collect();
+    record.extend([w, f, random.below(2) as u8]);
+    let map = u16::from_le_bytes([first, second.unwrap_or(0)]);
+    for bit in (0..16).filter(|bit| map >> bit & 1 == 1) {
         match bit {
             4 => record.push(1 + random.below(4) as u8),
             6 => record.extend(dropped_field(random)),
-            _ => put_words(random, &mut record, word_bytes),
+            7 | 11.. => {}
+            bit => {
+                let words = two_words(random, bit > 7);
+                put_words(random, &mut record, word_bytes, words);
+            }
         }
     }
     record
 }
 
-/// Adds two words that a mask of two bits can be; the top byte of a few is any.
-fn put_words(random: &mut Random, record: &mut Vec<u8>, word_bytes: usize) {
-    for low in [3, random.bits(2) as u8] {
+/// A second map: bounds of some words, but for a few that are empty or any.
+fn second_map(random: &mut Random) -> u8 {
+    match random.below(16) {
+        0 => 0,
+        1 => random.bits(8) as u8,
+        _ => 1 + random.below(7) as u8,
+    }
+}
+
+/// Two small words: bounds, a few of them the wrong way round, or what a mask of two bits can be.
+fn two_words(random: &mut Random, bounds: bool) -> [u8; 2] {
+    let low = random.bits(2) as u8;
+    match bounds {
+        true if random.one_in(8) => [low + 1, low],
+        true => [low, low + random.bits(2) as u8],
+        false => [3, low],
+    }
+}
+
+/// Adds two words; the top byte of a few is any.
+fn put_words(random: &mut Random, record: &mut Vec<u8>, word_bytes: usize, words: [u8; 2]) {
+    for low in words {
         let end = record.len() + word_bytes;
         record.push(low);
         record.resize(end, 0);
@@ -107,13 +137,43 @@ pub fn some_masks(random: &mut Random, count: u64) -> u64 {
     1 + random.below((1 << count) - 1)
 }
 
-/// The record of a job with one or more of its masks malformed. Every second time there is another
-/// fault beside them, or nearly: a number near or above its limit, a random word that is too wide,
-/// a field that says its default, a g beside nothing fixed, or damaged bytes.
+/// The record of a job with one or more of its masks malformed, and perhaps another fault.
 pub fn malformed_record(random: &mut Random, job: &Job) -> Vec<u8> {
     let mut job = *job;
     let set = some_masks(random, MASKS);
     malform_job(random, &mut job, set);
+    with_another_fault(random, job)
+}
+
+/// The record of a job with bounds of one word that are wrong, a bound that is too wide, or both,
+/// and perhaps another fault.
+pub fn misbounded_record(random: &mut Random, job: &Job) -> Vec<u8> {
+    let mut job = *job;
+    let faults = 1 + random.below(3);
+    if faults & 1 == 1 {
+        malform_bounds(random, &mut job);
+    }
+    if faults & 2 == 2 {
+        widen_bounds(random, &mut job);
+    }
+    with_another_fault(random, job)
+}
+
+/// Gives one of the words of a job bounds of which one is too wide, or any where a word has all
+/// bits that can be given.
+fn widen_bounds(random: &mut Random, job: &mut Job) {
+    let c = &mut job.conditions;
+    let width = (c.w + c.f + 1) as u32;
+    let mut words = [0; 2];
+    words[random.below(2) as usize] = damaged_word(random, 0, width);
+    let [low, high] = words;
+    c.bounds[random.below(3) as usize] = Some(Bounds { low, high });
+}
+
+/// The record of a job. Every second time it has another fault, or nearly: a number near or above
+/// its limit, a random word that is too wide, a field that says its default, a g beside nothing
+/// fixed, a second map that is empty or has other bits, or damaged bytes.
+fn with_another_fault(random: &mut Random, mut job: Job) -> Vec<u8> {
     let fault = random.below(16);
     let c = &mut job.conditions;
     let width = (c.w + c.f + 1) as u32;
@@ -128,11 +188,12 @@ pub fn malformed_record(random: &mut Random, job: &Job) -> Vec<u8> {
     }
     let more = match fault {
         5 => 0x40,
-        6 => random.bits(7) as u8,
+        6 => random.bits(11) as u16,
+        7 => 0x80 << random.below(9),
         _ => 0,
     };
     let mut record = unchecked(map_of(&job) | more, &job);
-    if fault == 7 {
+    if fault == 8 {
         damage_file(random, &mut record);
     }
     record

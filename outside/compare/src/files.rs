@@ -1,21 +1,26 @@
 //! What takes a job file: reading, confirmation and the case generator.
 
 use second::arith::{every_setting, Adder};
+use second::bounds::{Bounds, Number};
 use second::choice::{free_bits, generate, Job};
 use second::dropped::Dropped;
 use second::fits::{confirm, Case, Computed, Conditions};
 use second::format::{Refusal, CUT_SHORT};
+use second::mask::Mask;
 use second::random::Random;
 use second::record::{encode, read, Reply};
 use second::sample::{
-    all_but_few, dropped_job, dropping_pair, job, numbers, opposed_job, pair, unrelated_job,
+    all_but_few, bounded_job, dropped_job, dropping_pair, job, numbers, opposed_job, pair,
+    unrelated_job,
 };
 use second::signs::refusal;
 use second::table::Table;
 use vindacsor::buffer;
 
 use crate::call::{self, compare, Tally};
-use crate::damage::{any_raw_record, damage_file, damaged_word, malformed_record};
+use crate::damage::{
+    any_raw_record, damage_file, damaged_word, malformed_record, misbounded_record,
+};
 use crate::numbers::every_adder;
 
 /// The job that a function which wants one takes from a file.
@@ -46,11 +51,12 @@ pub fn returned(record: &[u8], [a, b, c]: [u64; 3]) -> [u64; 3] {
 }
 
 /// A job of any format; about `care` of 64 bits are fixed in the masks of a and b. One in four asks
-/// for dropped bits of a chosen kind.
+/// for dropped bits of a chosen kind, and one in four states bounds, at least.
 fn any_job(random: &mut Random, care: u64) -> Job {
     let numbers = numbers(random);
     match random.below(4) {
         0 => dropped_job(random, numbers, care),
+        1 => bounded_job(random, numbers, care),
         _ => job(random, numbers, care),
     }
 }
@@ -62,7 +68,7 @@ fn case_numbers(case: Case) -> Vec<u64> {
 }
 
 /// One to three records, damaged but for one file in eight; some files are random bytes, and some
-/// end with a record that has any bytes for w and f, or malformed masks.
+/// end with a record that has any bytes for w and f, malformed masks or bad bounds.
 pub fn damaged_file(random: &mut Random) -> Vec<u8> {
     let kind = random.below(16);
     if kind == 0 {
@@ -76,9 +82,10 @@ pub fn damaged_file(random: &mut Random) -> Vec<u8> {
     match kind {
         1..=2 => any_raw_record(random),
         3..=4 => [file, any_raw_record(random)].concat(),
-        5..=7 => {
+        5..=9 => {
             let job = any_job(random, 32);
-            [file, malformed_record(random, &job)].concat()
+            let fault = [malformed_record, misbounded_record][(kind % 2) as usize];
+            [file, fault(random, &job)].concat()
         }
         _ if random.one_in(8) => file,
         _ => {
@@ -88,8 +95,8 @@ pub fn damaged_file(random: &mut Random) -> Vec<u8> {
     }
 }
 
-/// The record of a job; one time of eight it is damaged, one of eight it has malformed masks, and
-/// one of sixteen another one stands there, with any bytes for w and f.
+/// The record of a job; one time of eight it is damaged, one of eight it has malformed masks, one
+/// of sixteen bad bounds, and one of sixteen another one stands there, with any bytes for w and f.
 fn perhaps_damaged(random: &mut Random, job: &Job) -> Vec<u8> {
     let mut file = record(job);
     match random.below(16) {
@@ -99,6 +106,7 @@ fn perhaps_damaged(random: &mut Random, job: &Job) -> Vec<u8> {
             file
         }
         3 | 4 => malformed_record(random, job),
+        5 => misbounded_record(random, job),
         _ => file,
     }
 }
@@ -160,14 +168,21 @@ fn proposed(random: &mut Random, job: &Job, adder: &Adder) -> [u64; 3] {
     case
 }
 
-/// Asks of c and of the dropped bits what a case has, where its operands are words of the format.
+/// Asks of c, of the dropped bits and by bounds what a case has, where its words are words of the
+/// format. Bounds that shut a word out become this word alone, and are left out for a NaN.
 fn ask_for(conditions: &mut Conditions, adder: &Adder, [a, b, c]: [u64; 3]) {
     conditions.c.value = c & conditions.c.care;
-    let are_words = [a, b]
+    let are_words = [a, b, c]
         .iter()
         .all(|&word| adder.format.check_word(word).is_ok());
     if !are_words {
         return;
+    }
+    for (stated, word) in conditions.bounds.iter_mut().zip([a, b, c]) {
+        if stated.is_some_and(|bounds| !bounds.admit(adder.format, word)) {
+            let (low, high) = (word, word);
+            *stated = Number::of(adder.format, word).map(|_| Bounds { low, high });
+        }
     }
     if let Some(below) = Computed::of(adder, a, b).below {
         let Dropped { g, mask } = &mut conditions.dropped;
@@ -182,11 +197,11 @@ pub fn confirmations(random: &mut Random, count: u64) -> Result<Tally, String> {
         let care = 8 * random.below(3);
         let mut job = any_job(random, care);
         if random.one_in(2) {
-            job.conditions.carries = second::mask::Mask::FREE;
+            job.conditions.carries = Mask::FREE;
         }
         let adder = job.check().expect("a well-made job");
         let [a, b, c] = proposed(random, &job, &adder);
-        // Every second job asks of c and of the dropped bits only what this case has.
+        // Every second job asks of c, of the dropped bits and by bounds only what this case has.
         if random.one_in(2) {
             ask_for(&mut job.conditions, &adder, [a, b, c]);
         }
@@ -267,6 +282,20 @@ pub fn small_dropped_generations(random: &mut Random, each: u64) -> Result<Tally
     })
 }
 
+/// Jobs that state bounds, of which every fifth has free masks of a, b and c, so that the bounds
+/// alone decide.
+pub fn small_bounded_generations(random: &mut Random, each: u64) -> Result<Tally, String> {
+    small(random, each, |random, numbers, n| {
+        let care = 8 * random.below(6);
+        let mut job = bounded_job(random, numbers, care);
+        if n % 5 == 0 {
+            let masks = &mut job.conditions;
+            [masks.a, masks.b, masks.c] = [Mask::FREE; 3];
+        }
+        job
+    })
+}
+
 /// A job that fixes the effective signs of a and b to + and that of c to −, and other bits too
 /// where `more` holds.
 fn signs_job(random: &mut Random, numbers: [u64; 4], more: bool) -> Job {
@@ -344,4 +373,9 @@ pub fn wide_opposed_generations(random: &mut Random, count: u64) -> Result<Tally
 /// Jobs around a case with chosen bits below its last one, some of which are always fixed.
 pub fn wide_dropped_generations(random: &mut Random, count: u64) -> Result<Tally, String> {
     wide(random, count, dropped_job)
+}
+
+/// Jobs that state bounds.
+pub fn wide_bounded_generations(random: &mut Random, count: u64) -> Result<Tally, String> {
+    wide(random, count, bounded_job)
 }

@@ -12,7 +12,7 @@ use second::random::{seed, Random};
 const SEED: u64 = 0x5EED;
 
 /// Each part with how many calls, files or jobs it makes.
-const PARTS: [(&str, Part, u64); 15] = [
+const PARTS: [(&str, Part, u64); 17] = [
     ("rounded result", numbers::results, 4_000_000),
     ("carry row", numbers::rows, 4_000_000),
     ("row, equal exponents", numbers::opposed_rows, 500_000),
@@ -48,6 +48,18 @@ const PARTS: [(&str, Part, u64); 15] = [
     (
         "dropped bits, few bits free",
         files::wide_dropped_generations,
+        30_000,
+    ),
+    // Bounds are stated in some of the jobs above, and in each of these: 30,000, and as many of any
+    // format.
+    (
+        "bounds, small formats",
+        files::small_bounded_generations,
+        300,
+    ),
+    (
+        "bounds, few bits free",
+        files::wide_bounded_generations,
         30_000,
     ),
     // 5,100 adders of every format, so 10,200 jobs.

@@ -92,7 +92,9 @@ fn other_faults_before_the_masks() {
         }
         let mut file = bytes(&small_job(&mut random, set));
         assert_eq!(returned(&file[..file.len() - 1], [0; 3]), [8; 3]);
+        // A second map with a bit too many.
         file[0] |= 0x80;
+        file.insert(1, 8);
         assert_eq!(returned(&file, [0; 3]), [9; 3]);
     }
 }

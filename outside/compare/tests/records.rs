@@ -3,6 +3,7 @@
 //! output that is stored beside the program, which `rt ci` holds the program to. The jobs are drawn
 //! here as `jobs.rt` of that program draws them.
 
+use second::bounds::Bounds;
 use second::choice::Job;
 use second::dropped::Dropped;
 use second::fits::Conditions;
@@ -14,7 +15,7 @@ const OUTPUT: &str = concat!(
     env!("CARGO_MANIFEST_DIR"),
     "/../../crates/records_written/stdout"
 );
-const JOBS: usize = 450;
+const JOBS: usize = 600;
 const MODULUS: u64 = (1 << 31) - 1;
 
 /// The state that many steps of the generator on.
@@ -60,6 +61,36 @@ fn dropped(state: u64) -> Dropped {
     }
 }
 
+/// The ends of an interval, both positive, both negative, or the low one negative.
+fn ends(width: u32, state: u64) -> Bounds {
+    let sign = 1 << (width - 1);
+    let [x, y] = [state, after(state, 1)].map(|state| word(state) & ones(width - 1));
+    let (low, high) = match state / 48 % 3 {
+        0 => (x.min(y), x.max(y)),
+        1 => (sign | x.max(y), sign | x.min(y)),
+        _ => (sign | x, y),
+    };
+    Bounds { low, high }
+}
+
+fn bounds(width: u32, state: u64) -> Option<Bounds> {
+    if state % 3 != 0 {
+        return None;
+    }
+    if state / 3 % 16 == 0 {
+        let [low, high] = [state, after(state, 1)].map(word);
+        return Some(Bounds { low, high });
+    }
+    let Bounds { low, high } = ends(width, state);
+    match state / 144 % 16 {
+        0 => Some(Bounds {
+            low: high,
+            high: low,
+        }),
+        _ => Some(Bounds { low, high }),
+    }
+}
+
 fn job(state: u64) -> Job {
     let (w, f) = (2 + state % 10, 2 + state / 10 % 51);
     let [width, precision] = [w + f + 1, f + 1].map(|width| width as u32);
@@ -69,12 +100,13 @@ fn job(state: u64) -> Job {
     conditions.c = mask(width, after(state, 5));
     conditions.carries = mask(precision, after(state, 7));
     conditions.dropped = dropped(after(state, 11));
+    conditions.bounds = [13, 15, 17].map(|steps| bounds(width, after(state, steps)));
     let words = [9, 10].map(|steps| random(width, after(state, steps)));
     Job { conditions, words }
 }
 
 /// The bytes of every buffer.
-const BUFFER: usize = 92;
+const BUFFER: usize = 141;
 
 /// The room for a record: the whole buffer, or in one of four cases any part of it.
 fn room(state: u64) -> usize {
@@ -96,7 +128,7 @@ fn line(state: u64) -> String {
 }
 
 fn lines() -> Vec<String> {
-    let states = std::iter::successors(Some(after(1, 13)), |&state| Some(after(state, 13)));
+    let states = std::iter::successors(Some(after(1, 19)), |&state| Some(after(state, 19)));
     states.take(JOBS).map(line).collect()
 }
 
@@ -110,8 +142,8 @@ fn every_byte_is_alike() {
     }
 }
 
-/// The jobs are worth comparing: most of the 128 map bytes, every w, all f but one, both operations,
-/// and records that find no room or have malformed masks.
+/// The jobs are worth comparing: most of the 256 first map bytes, every second one, every w and f,
+/// both operations, and records that find no room, have malformed masks or are refused for bounds.
 #[test]
 fn the_jobs_are_many_kinds() {
     let bytes = |line: &String| line.split(' ').nth(2).map(str::to_string);
@@ -120,17 +152,22 @@ fn the_jobs_are_many_kinds() {
         .filter(|line| line.starts_with("written"))
         .filter_map(bytes)
         .collect();
-    let kinds = |from: usize| {
-        let mut all: Vec<&str> = written.iter().map(|bytes| &bytes[from..from + 2]).collect();
+    let second = |bytes: &String| bytes.as_str() >= "80";
+    let kinds = |byte: &dyn Fn(&String) -> Option<usize>| {
+        let at = |bytes: &String| byte(bytes).map(|n| bytes[2 * n..2 * n + 2].to_string());
+        let mut all: Vec<String> = written.iter().filter_map(at).collect();
         all.sort_unstable();
         all.dedup();
         all.len()
     };
     assert!((300..JOBS).contains(&written.len()), "{}", written.len());
-    for number in [5, 11, 14, 15, 16, 17] {
+    for number in [5, 6, 11, 14, 15, 16, 17, 18] {
         let refused = format!("refused {number} ");
         assert!(lines().iter().any(|line| line.starts_with(&refused)));
     }
-    assert!(kinds(0) > 90, "{} maps", kinds(0));
-    assert_eq!([kinds(2), kinds(4), kinds(6)], [10, 50, 2]);
+    let maps = kinds(&|_| Some(0));
+    assert!(maps > 140, "{maps} maps");
+    assert_eq!(kinds(&|bytes| second(bytes).then_some(1)), 7);
+    let after = [0, 1, 2].map(|n| kinds(&|bytes| Some(1 + n + usize::from(second(bytes)))));
+    assert_eq!(after, [10, 51, 2]);
 }

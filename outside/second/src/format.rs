@@ -1,7 +1,7 @@
 //! Limits, refusal numbers and the fixed words of a format (document 01, "Numbers of a format" and
-//! "Causes and replies"; document 02, W-201 to W-203, W-206).
+//! "Causes and replies"; document 02, W-201 to W-203, W-206, W-207).
 
-/// The number of a refusal, 1 to 17.
+/// The number of a refusal, 1 to 18.
 pub type Refusal = u8;
 
 /// w below 2 or above 11.
@@ -15,15 +15,16 @@ pub const UNKNOWN_MODE: Refusal = 4;
 /// a's or x's mask malformed: a bit above its width, or a value bit outside care. In joining,
 /// either mask: a value bit outside care.
 pub const BAD_MASK: Refusal = 5;
-/// Operand, proposed or random word above w + f + 1 bits, or above N bits for whole numbers.
+/// Operand, proposed or random word or bound above w + f + 1 bits, or word above N bits for whole
+/// numbers.
 pub const WORD_TOO_WIDE: Refusal = 6;
 /// No case fits.
 pub const NO_CASE: Refusal = 7;
 /// Record cut short.
 pub const CUT_SHORT: Refusal = 8;
-/// Map bit 7 set.
+/// A bit from 3 on set in the second map.
 pub const UNKNOWN_MAP_BIT: Refusal = 9;
-/// Field that says its default.
+/// Field that says its default, or empty second map.
 pub const SAYS_DEFAULT: Refusal = 10;
 /// Buffer too short for the record.
 pub const BUFFER_TOO_SHORT: Refusal = 11;
@@ -39,8 +40,10 @@ pub const BAD_THIRD_MASK: Refusal = 15;
 pub const BAD_CARRY_MASK: Refusal = 16;
 /// g above 8, or the mask of the dropped bits and the sticky bit malformed.
 pub const BAD_DROPPED_MASK: Refusal = 17;
+/// A bound is a NaN, or a low bound exceeds its high one.
+pub const BAD_BOUNDS: Refusal = 18;
 /// The largest of these numbers.
-pub const LAST_REFUSAL: Refusal = BAD_DROPPED_MASK;
+pub const LAST_REFUSAL: Refusal = BAD_BOUNDS;
 
 pub const SMALLEST_W: u64 = 2;
 pub const LARGEST_W: u64 = 11;

@@ -13,6 +13,7 @@
 //! - `row`: the carry row
 //! - `mask`: masks, well formed, met, joined, the first four of a job, and the words that meet one
 //! - `dropped`: the bits below the last fraction bit, and what a job asks of them
+//! - `bounds`: the order of numbers, and a low and a high bound of a word
 //! - `fits`: conditions, the definition of a fitting case, confirmation
 //! - `choice`: jobs and the generator by trying pairs
 //! - `table`: the same search for many jobs over one small format
@@ -21,12 +22,14 @@
 //! - `record`: job records and job files
 //! - `listing`: what the listing program prints
 //! - `random`: a small deterministic random generator
-//! - `sample`: random words, pairs and jobs that favour hard places
-//! - `malform`: malformed masks
+//! - `within`: random bounds that favour hard places
+//! - `sample`: random words, pairs and jobs that do
+//! - `malform`: malformed masks and bounds
 
 #![forbid(unsafe_code)]
 
 pub mod arith;
+pub mod bounds;
 pub mod choice;
 pub mod dropped;
 pub mod fits;
@@ -43,3 +46,4 @@ pub mod signs;
 pub mod table;
 pub mod whole;
 pub mod wide;
+pub mod within;

@@ -1,12 +1,13 @@
-//! Malformed masks of jobs, for test programs.
+//! Malformed masks and bounds of jobs, for test programs.
 
 use crate::choice::Job;
 use crate::dropped::Dropped;
-use crate::format::LARGEST_G;
+use crate::format::{Format, LARGEST_G};
 use crate::mask::Mask;
 use crate::random::Random;
 use crate::record::word_bytes;
 use crate::whole::WholeJob;
+use crate::within;
 
 /// How many masks a job for a case has, that of the dropped bits the last, and how many one for
 /// whole numbers.
@@ -23,6 +24,13 @@ pub fn malform_job(random: &mut Random, job: &mut Job, set: u64) {
     if set >> (MASKS - 1) & 1 == 1 {
         malform_dropped(random, &mut c.dropped);
     }
+}
+
+/// Gives one of the words of a job whose format is good bounds that 18 refuses.
+pub fn malform_bounds(random: &mut Random, job: &mut Job) {
+    let c = &mut job.conditions;
+    let format = Format::new(c.w, c.f).expect("within the limits");
+    c.bounds[random.below(3) as usize] = Some(within::wrong(random, format));
 }
 
 /// The same for the four masks of whole numbers, which are given in 64 bits.

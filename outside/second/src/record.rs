@@ -1,24 +1,30 @@
-//! Job records and job files (document 01, "Job files"; document 02, W-202 and W-206).
+//! Job records and job files (document 01, "Job files"; document 02, W-202, W-206 and
+//! W-207).
 
+use crate::bounds::Bounds;
 use crate::choice::Job;
 use crate::dropped::Dropped;
 use crate::fits::Conditions;
 use crate::format::{Refusal, BUFFER_TOO_SHORT, CUT_SHORT, SAYS_DEFAULT, UNKNOWN_MAP_BIT};
 use crate::mask::Mask;
 
-/// Map byte, w, f and operation.
-const HEADER: usize = 4;
 /// The map bits, from bit 0 on: the masks of a, b, c and carries, the mode, the random words, the
-/// dropped bits.
-const FIELDS: usize = 7;
+/// dropped bits, and whether there is a second map byte. The bits of this one are counted on from
+/// 8: the bounds of a, b and c. So a record's map, of one byte or two, is one number, and this many
+/// of its bits have a meaning.
+const MAP_BITS: usize = 11;
 /// The map bit of the mode, which has one byte. The fields of the bits before it are two words.
 const MODE: usize = 4;
 /// The map bit of the random words, two words as well.
 const WORDS: usize = 5;
 /// The map bit of the dropped bits: one byte for g, then care and value, two bytes each.
 const DROPPED: usize = 6;
+/// The map bit that announces the second map byte. It has no field.
+const SECOND: usize = 7;
+/// The map bit of a's bounds, low and high: two words; those of b and c follow.
+const BOUNDS: usize = 8;
 /// The bytes of a record that has every field, with words of eight bytes.
-pub const LONGEST_RECORD: usize = 90;
+pub const LONGEST_RECORD: usize = 139;
 
 /// The bytes of a word in records, for the carries too: 4 where w + f + 1 is at most 32, else 8.
 /// A header's w and f may be out of their limits here: whether a record is cut short is told
@@ -39,22 +45,20 @@ pub enum Reply {
 }
 
 /// What stands first, and the rest of the file: what follows the record, or on a refusal the
-/// file from the refused record on. Refuses with 9, 8, 1 to 5, 14 to 17, 6, 10.
+/// file from the refused record on. Refuses with 9, 8, 1 to 5, 14 to 17, 6, 18, 10.
 pub fn read(file: &[u8]) -> (Reply, &[u8]) {
-    let Some(&map) = file.first() else {
+    if file.is_empty() {
         return (Reply::End, file);
-    };
-    match decode(map, file) {
+    }
+    match decode(file) {
         Ok((job, rest)) => (Reply::Job(job), rest),
         Err(number) => (Reply::Refused(number), file),
     }
 }
 
-fn decode(map: u8, file: &[u8]) -> Result<(Job, &[u8]), Refusal> {
-    if map >> FIELDS != 0 {
-        return Err(UNKNOWN_MAP_BIT);
-    }
-    let Some((&[_, w, f, operation], after)) = file.split_first_chunk::<HEADER>() else {
+fn decode(file: &[u8]) -> Result<(Job, &[u8]), Refusal> {
+    let (map, after) = take_map(file)?;
+    let Some((&[w, f, operation], after)) = after.split_first_chunk() else {
         return Err(CUT_SHORT);
     };
     let header = [w, f, operation].map(u64::from);
@@ -65,11 +69,25 @@ fn decode(map: u8, file: &[u8]) -> Result<(Job, &[u8]), Refusal> {
     let job = take_fields(layout, header, fields);
     job.check()?;
     // A field that is not there reads as its default, so the two maps differ exactly where
-    // a field that is there says its default.
+    // a field that is there says its default, or a second map byte says nothing.
     if map_of(&job) != map {
         return Err(SAYS_DEFAULT);
     }
     Ok((job, rest))
+}
+
+/// A record's map, and what follows it. A second byte has to be there to be refused with 9.
+fn take_map(file: &[u8]) -> Result<(u16, &[u8]), Refusal> {
+    let (&first, after) = file.split_first().ok_or(CUT_SHORT)?;
+    if first >> SECOND == 0 {
+        return Ok((u16::from(first), after));
+    }
+    let (&second, after) = after.split_first().ok_or(CUT_SHORT)?;
+    let map = u16::from_le_bytes([first, second]);
+    if map >> MAP_BITS != 0 {
+        return Err(UNKNOWN_MAP_BIT);
+    }
+    Ok((map, after))
 }
 
 /// The job that the header's numbers and a record's fields state, unchecked.
@@ -85,6 +103,7 @@ fn take_fields(layout: Layout, [w, f, operation]: [u64; 3], fields: &[u8]) -> Jo
     let mode = fields.take(MODE).first().copied().map_or(0, u64::from);
     let words = fields.take_words(WORDS);
     let dropped = fields.take_dropped();
+    let bounds = [0, 1, 2].map(|place| fields.take_bounds(BOUNDS + place));
     let conditions = Conditions {
         w,
         f,
@@ -95,6 +114,7 @@ fn take_fields(layout: Layout, [w, f, operation]: [u64; 3], fields: &[u8]) -> Jo
         c,
         carries,
         dropped,
+        bounds,
     };
     Job { conditions, words }
 }
@@ -102,12 +122,12 @@ fn take_fields(layout: Layout, [w, f, operation]: [u64; 3], fields: &[u8]) -> Jo
 /// Which fields a record has, by its map, and how many bytes a word has in it.
 #[derive(Clone, Copy)]
 struct Layout {
-    map: u8,
+    map: u16,
     word_bytes: usize,
 }
 
 impl Layout {
-    fn of(map: u8, w: u64, f: u64) -> Layout {
+    fn of(map: u16, w: u64, f: u64) -> Layout {
         Layout {
             map,
             word_bytes: word_bytes(w, f),
@@ -117,7 +137,7 @@ impl Layout {
     /// The bytes of the field of a map bit; none where the bit does not stand.
     fn field_bytes(self, bit: usize) -> usize {
         match (self.map >> bit & 1, bit) {
-            (0, _) => 0,
+            (0, _) | (_, SECOND) => 0,
             (_, MODE) => 1,
             (_, DROPPED) => 5,
             _ => 2 * self.word_bytes,
@@ -126,7 +146,7 @@ impl Layout {
 
     /// The bytes of all fields.
     fn bytes(self) -> usize {
-        (0..FIELDS).map(|bit| self.field_bytes(bit)).sum()
+        (0..MAP_BITS).map(|bit| self.field_bytes(bit)).sum()
     }
 }
 
@@ -145,7 +165,7 @@ impl<'a> Fields<'a> {
     }
 
     /// The two words of a field; both are 0 where its bit does not stand, which is the
-    /// default of every field of two words.
+    /// default of a mask and of the random words.
     fn take_words(&mut self, bit: usize) -> [u64; 2] {
         let field = self.take(bit);
         let (first, second) = field.split_at(field.len() / 2);
@@ -163,6 +183,13 @@ impl<'a> Fields<'a> {
             mask: Mask { care, value },
         }
     }
+
+    /// The bounds of a word, none where the bit does not stand.
+    fn take_bounds(&mut self, bit: usize) -> Option<Bounds> {
+        let is_stated = self.layout.map >> bit & 1 == 1;
+        let [low, high] = self.take_words(bit);
+        is_stated.then_some(Bounds { low, high })
+    }
 }
 
 fn low_byte_first(bytes: &[u8]) -> u64 {
@@ -172,21 +199,25 @@ fn low_byte_first(bytes: &[u8]) -> u64 {
         .fold(0, |word, &byte| word * 256 + u64::from(byte))
 }
 
-/// The map byte that announces exactly the fields that differ from their default. A g beside a mask
-/// that fixes nothing is no field.
-pub fn map_of(job: &Job) -> u8 {
+/// The map that announces exactly the fields that differ from their default, and a second byte
+/// exactly where bounds are stated. A g beside a mask that fixes nothing is no field.
+pub fn map_of(job: &Job) -> u16 {
     let [a, b, c, carries] = job.conditions.masks().map(|mask| mask != Mask::FREE);
     let mode = job.conditions.mode != 0;
     let words = job.words != [0, 0];
     let dropped = job.conditions.dropped.mask != Mask::FREE;
-    let stated = [a, b, c, carries, mode, words, dropped];
+    let [of_a, of_b, of_c] = job.conditions.bounds.map(|bounds| bounds.is_some());
+    let second = of_a || of_b || of_c;
+    let stated = [
+        a, b, c, carries, mode, words, dropped, second, of_a, of_b, of_c,
+    ];
     (0..stated.len())
-        .map(|bit| u8::from(stated[bit]) << bit)
+        .map(|bit| u16::from(stated[bit]) << bit)
         .sum()
 }
 
 /// Writes the record at the front of the buffer and returns its byte count. Refuses with 1 to 5,
-/// 14 to 17, 6, 11; a refusal leaves the buffer as it was.
+/// 14 to 17, 6, 18, 11; a refusal leaves the buffer as it was.
 pub fn write(job: &Job, buffer: &mut [u8]) -> Result<usize, Refusal> {
     let record = encode(job)?;
     let Some(place) = buffer.get_mut(..record.len()) else {
@@ -196,25 +227,35 @@ pub fn write(job: &Job, buffer: &mut [u8]) -> Result<usize, Refusal> {
     Ok(record.len())
 }
 
-/// The bytes of a job's record. Refuses with 1 to 5, 14 to 17, 6.
+/// The bytes of a job's record. Refuses with 1 to 5, 14 to 17, 6, 18.
 pub fn encode(job: &Job) -> Result<Vec<u8>, Refusal> {
     job.check()?;
     Ok(unchecked(map_of(job), job))
 }
 
-/// The bytes of a job, good or not, in a record with any map. What does not fit into the bytes of a
-/// number or a word is cut off; of a checked job nothing is.
-pub fn unchecked(map: u8, job: &Job) -> Vec<u8> {
+/// The bytes of a job, good or not, in a record with any map; one that announces no second byte has
+/// none. What does not fit into the bytes of a number or a word is cut off; of a checked job
+/// nothing is. Bounds that are announced and not stated are zeros.
+pub fn unchecked(map: u16, job: &Job) -> Vec<u8> {
+    let [first, second] = map.to_le_bytes();
+    let (map, mut record) = match first >> SECOND {
+        0 => (u16::from(first), vec![first]),
+        _ => (map, vec![first, second]),
+    };
     let c = &job.conditions;
     let [w, f, operation, mode] = [c.w, c.f, c.operation, c.mode].map(|number| number as u8);
     let layout = Layout::of(map, u64::from(w), u64::from(f));
-    let mut record = vec![map, w, f, operation];
+    record.extend([w, f, operation]);
     for (bit, mask) in c.masks().into_iter().enumerate() {
         put_words(&mut record, layout, bit, [mask.care, mask.value]);
     }
     put(&mut record, layout, MODE, &[mode]);
     put_words(&mut record, layout, WORDS, job.words);
     put(&mut record, layout, DROPPED, &dropped_bytes(&c.dropped));
+    for (place, bounds) in c.bounds.into_iter().enumerate() {
+        let words = bounds.map_or([0, 0], Bounds::words);
+        put_words(&mut record, layout, BOUNDS + place, words);
+    }
     record
 }
 

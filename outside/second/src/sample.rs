@@ -11,6 +11,7 @@ use crate::format::{
 use crate::mask::Mask;
 use crate::random::Random;
 use crate::whole::WholeJob;
+use crate::within;
 
 /// Formats with words of at most eight bits.
 pub const SMALL: [(u64, u64); 10] = [
@@ -183,7 +184,7 @@ pub fn all_but_few([w, f, _, _]: [u64; 4]) -> u64 {
 
 /// A job that no number but 7 refuses. Its masks take their values from a true case,
 /// and in one of two jobs one fixed bit is turned, so that both answers are frequent. In
-/// each of the masks of a and b about `care_a_b` of 64 bits are fixed.
+/// each of the masks of a and b about `care_a_b` of 64 bits are fixed. One of four states bounds.
 pub fn job(random: &mut Random, numbers: [u64; 4], care_a_b: u64) -> Job {
     let adder = adder(numbers);
     let (a, b) = pair(random, adder.format);
@@ -220,6 +221,15 @@ pub fn dropped_job(random: &mut Random, numbers: [u64; 4], care_a_b: u64) -> Job
     job_around(random, &adder, case, dropped, care_a_b)
 }
 
+/// One of these jobs that states bounds.
+pub fn bounded_job(random: &mut Random, numbers: [u64; 4], care_a_b: u64) -> Job {
+    let draw = [job, opposed_job, dropped_job][random.below(3) as usize];
+    let mut drawn = std::iter::repeat_with(|| draw(random, numbers, care_a_b));
+    drawn
+        .find(|job| job.conditions.bounds != [None; 3])
+        .expect("an endless supply")
+}
+
 fn adder([w, f, operation, mode]: [u64; 4]) -> Adder {
     Adder::new(w, f, operation, mode).expect("numbers within their limits")
 }
@@ -248,6 +258,7 @@ fn job_around(
         conditions.carries = mask_around(random, row, format.precision(), care_row);
     }
     conditions.dropped = dropped;
+    conditions.bounds = within::perhaps(random, format, [case.a, case.b, case.c]);
     if random.one_in(2) {
         turn(random, &mut conditions);
     }
@@ -259,7 +270,8 @@ fn job_around(
 }
 
 /// A job that no number but 7 refuses, whose masks are made around no case: each fixes about a
-/// quarter, a half or three quarters of its bits, at random. One in three asks for dropped bits.
+/// quarter, a half or three quarters of its bits, at random. One in three asks for dropped bits,
+/// and one in four states bounds.
 pub fn unrelated_job(random: &mut Random, numbers: [u64; 4]) -> Job {
     let [w, f, operation, mode] = numbers;
     let format = Format::new(w, f).expect("numbers within their limits");
@@ -275,6 +287,8 @@ pub fn unrelated_job(random: &mut Random, numbers: [u64; 4]) -> Job {
     conditions.c = any(width);
     conditions.carries = any(format.precision());
     conditions.dropped = perhaps_dropped(random, None);
+    let words = [0; 3].map(|_| word(random, format));
+    conditions.bounds = within::perhaps(random, format, words);
     let words = [random.bits(width), random.bits(width)];
     Job { conditions, words }
 }

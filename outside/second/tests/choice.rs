@@ -7,7 +7,7 @@ use second::fits::{confirm, Case, Computed};
 use second::format::{LARGEST_MODE, NO_CASE};
 use second::mask::Mask;
 use second::random::Random;
-use second::sample::{all_but_few, dropped_job, job, numbers};
+use second::sample::{all_but_few, bounded_job, dropped_job, job, numbers};
 use second::table::Table;
 use second::whole::{generate_whole, WholeCase, WholeJob};
 
@@ -17,7 +17,7 @@ fn all_fitting(job: &Job, adder: &Adder) -> Vec<Case> {
     (0..count)
         .flat_map(|a| (0..count).map(move |b| (a, b)))
         .map(|(a, b)| Computed::of(adder, a, b))
-        .filter(|computed| computed.meets(&job.conditions))
+        .filter(|computed| computed.meets(&job.conditions, adder.format))
         .map(|computed| computed.case)
         .collect()
 }
@@ -80,7 +80,7 @@ fn table_answers_like_the_generator() {
             for n in 0..200 {
                 let care = random.below(49);
                 let numbers = [3, 4, operation, mode];
-                let job = [job, dropped_job][n % 2](&mut random, numbers, care);
+                let job = [job, dropped_job, bounded_job][n % 3](&mut random, numbers, care);
                 assert_eq!(table.generate(&job), generate(&job));
             }
         }
@@ -123,7 +123,8 @@ fn wide_formats_with_few_free_bits() {
     let (mut found, mut doubles) = (0, 0);
     for n in 0..3000 {
         let numbers = numbers(&mut random);
-        let job = [job, dropped_job][n % 2](&mut random, numbers, all_but_few(numbers));
+        let draw = [job, dropped_job, bounded_job][n % 3];
+        let job = draw(&mut random, numbers, all_but_few(numbers));
         let adder = job.check().unwrap();
         if free_bits(&job.conditions, &adder) > 10 {
             continue;

@@ -131,7 +131,7 @@ fn with_one_bit((w, f): (u64, u64), place: usize, bit: u64) -> Option<Refusal> {
     let mut conditions = Conditions::free(w, f, 0, 0);
     let care = 1 << bit;
     *conditions.masks_mut()[place] = Mask { care, value: 0 };
-    conditions.check().err()
+    conditions.check(&[]).err()
 }
 
 /// Each mask is held against its own width: above that of the carries there are bits that a word
@@ -157,7 +157,7 @@ fn the_mask_of_the_dropped_bits_by_g() {
         let mut conditions = Conditions::free(3, 4, 0, 0);
         let mask = Mask { care, value };
         conditions.dropped = Dropped { g, mask };
-        conditions.check().err()
+        conditions.check(&[]).err()
     };
     for g in 0..=LARGEST_G {
         for bit in 0..64 {

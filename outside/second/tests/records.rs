@@ -1,5 +1,6 @@
 //! Records, files and the listing.
 
+use second::bounds::Bounds;
 use second::choice::{generate, Job};
 use second::dropped::Dropped;
 use second::fits::Conditions;
@@ -29,8 +30,9 @@ fn two_jobs() -> Vec<u8> {
 fn random_job(random: &mut Random) -> Job {
     let numbers = sample::numbers(random);
     let care = 8 * random.below(5);
-    match random.below(3) {
+    match random.below(4) {
         0 => sample::dropped_job(random, numbers, care),
+        1 => sample::bounded_job(random, numbers, care),
         _ => sample::job(random, numbers, care),
     }
 }
@@ -77,7 +79,8 @@ fn a_refusal_ends_the_listing() {
         listing(cut, generate),
         format!("{first}2 refused 8\nend 2\n")
     );
-    assert_eq!(listing(&[0x80], generate), "1 refused 9\nend 1\n");
+    assert_eq!(listing(&[0x80], generate), "1 refused 8\nend 1\n");
+    assert_eq!(listing(&[0x80, 8], generate), "1 refused 9\nend 1\n");
 }
 
 #[test]
@@ -89,11 +92,17 @@ fn every_cut_is_8_and_every_foreign_bit_is_9() {
             let cut = &record[..length];
             assert_eq!(read(cut), (Reply::Refused(CUT_SHORT), cut));
         }
+        // The second map, there already or not, has a bit too many.
         let mut other = record.clone();
-        other[0] |= 0x80;
+        if record[0] < 0x80 {
+            other[0] |= 0x80;
+            other.insert(1, 0);
+        }
+        other[1] |= 8 << random.below(5);
         let number = Reply::Refused(UNKNOWN_MAP_BIT);
         assert_eq!(read(&other), (number, &other[..]));
-        assert_eq!(read(&other[..1]), (number, &other[..1]));
+        assert_eq!(read(&other[..2]), (number, &other[..2]));
+        assert_eq!(read(&other[..1]).0, Reply::Refused(CUT_SHORT));
     }
     assert_eq!(read(&[]), (Reply::End, &[][..]));
 }
@@ -201,10 +210,14 @@ fn reading_gives_back_what_was_written() {
 fn writing_gives_back_what_was_read() {
     let mut random = Random::new(0x0B17);
     for (w, f) in [(8, 23), (11, 52)] {
-        // Without and with dropped bits.
-        let mut read_jobs = [0; 2];
-        for _ in 0..400_000 {
-            let mut file = vec![random.bits(7) as u8, w, f, random.bits(1) as u8];
+        // Without and with dropped bits, and the same with bounds.
+        let mut read_jobs = [0; 4];
+        for _ in 0..800_000 {
+            let mut file = vec![random.bits(8) as u8];
+            if file[0] >= 0x80 {
+                file.push(random.bits(3) as u8);
+            }
+            file.extend([w, f, random.bits(1) as u8]);
             let few = [0, 0, 0, 1, 3];
             file.extend((0..LONGEST_RECORD).map(|_| few[random.below(5) as usize]));
             let (reply, rest) = read(&file);
@@ -214,8 +227,14 @@ fn writing_gives_back_what_was_read() {
                 read_jobs[usize::from(file[0] >> 6)] += 1;
             }
         }
-        let [without, with] = read_jobs;
-        assert!(without > 10_000 && with > 500, "{read_jobs:?} read");
+        let enough = [10_000, 500, 1_000, 50];
+        assert!(
+            read_jobs
+                .iter()
+                .zip(enough)
+                .all(|(&count, least)| count > least),
+            "{read_jobs:?} read"
+        );
     }
 }
 
@@ -233,7 +252,8 @@ fn files_of_several_jobs() {
     }
 }
 
-/// A job that states everything, with the top and the lowest bit of each word.
+/// A job that states everything, with the top and the lowest bit of each word, and bounds from the
+/// next number below zero to zero, to the next one above it and the one after that.
 fn full_job(w: u64, f: u64) -> Job {
     let ends = |width: u64| Mask {
         care: ones(width as u32),
@@ -248,6 +268,8 @@ fn full_job(w: u64, f: u64) -> Job {
         g: 8,
         mask: ends(9),
     };
+    let low = 1 | 1 << (w + f);
+    conditions.bounds = [0, 1, 2].map(|high| Some(Bounds { low, high }));
     Job {
         conditions,
         words: [0, ones((w + f + 1) as u32)],
@@ -268,21 +290,30 @@ fn shortest_record() {
 #[test]
 fn longest_records() {
     let record = encode(&full_job(8, 23)).unwrap();
-    assert_eq!(record.len(), 50);
-    assert_eq!(record[..4], [0x7F, 8, 23, 1]);
-    assert_eq!(record[4..12], [0xFF, 0xFF, 0xFF, 0xFF, 1, 0, 0, 0x80]);
-    assert_eq!(record[28..37], [0xFF, 0xFF, 0xFF, 0, 1, 0, 0x80, 0, 3]);
-    assert_eq!(record[37..45], [0, 0, 0, 0, 0xFF, 0xFF, 0xFF, 0xFF]);
-    assert_eq!(record[45..], [8, 0xFF, 1, 1, 1]);
+    assert_eq!(record.len(), 75);
+    assert_eq!(record[..5], [0xFF, 7, 8, 23, 1]);
+    assert_eq!(record[5..13], [0xFF, 0xFF, 0xFF, 0xFF, 1, 0, 0, 0x80]);
+    assert_eq!(record[29..38], [0xFF, 0xFF, 0xFF, 0, 1, 0, 0x80, 0, 3]);
+    assert_eq!(record[38..46], [0, 0, 0, 0, 0xFF, 0xFF, 0xFF, 0xFF]);
+    assert_eq!(record[46..51], [8, 0xFF, 1, 1, 1]);
+    for high in [0, 1, 2] {
+        let field = &record[51 + 8 * usize::from(high)..][..8];
+        assert_eq!(field, [1, 0, 0, 0x80, high, 0, 0, 0]);
+    }
 
     let record = encode(&full_job(11, 52)).unwrap();
-    assert_eq!([record.len(), LONGEST_RECORD], [90; 2]);
-    assert_eq!(record[..4], [0x7F, 11, 52, 1]);
-    assert_eq!(record[4..12], [0xFF; 8]);
-    assert_eq!(record[12..20], [1, 0, 0, 0, 0, 0, 0, 0x80]);
-    assert_eq!(record[52..59], [0xFF, 0xFF, 0xFF, 0xFF, 0xFF, 0xFF, 0x1F]);
-    assert_eq!(record[59..69], [0, 1, 0, 0, 0, 0, 0, 0x10, 0, 3]);
-    assert_eq!(record[69..77], [0; 8]);
-    assert_eq!(record[77..85], [0xFF; 8]);
-    assert_eq!(record[85..], [8, 0xFF, 1, 1, 1]);
+    assert_eq!([record.len(), LONGEST_RECORD], [139; 2]);
+    assert_eq!(record[..5], [0xFF, 7, 11, 52, 1]);
+    assert_eq!(record[5..13], [0xFF; 8]);
+    assert_eq!(record[13..21], [1, 0, 0, 0, 0, 0, 0, 0x80]);
+    assert_eq!(record[53..60], [0xFF, 0xFF, 0xFF, 0xFF, 0xFF, 0xFF, 0x1F]);
+    assert_eq!(record[60..70], [0, 1, 0, 0, 0, 0, 0, 0x10, 0, 3]);
+    assert_eq!(record[70..78], [0; 8]);
+    assert_eq!(record[78..86], [0xFF; 8]);
+    assert_eq!(record[86..91], [8, 0xFF, 1, 1, 1]);
+    for high in [0, 1, 2] {
+        let field = &record[91 + 16 * usize::from(high)..][..16];
+        assert_eq!(field[..8], [1, 0, 0, 0, 0, 0, 0, 0x80]);
+        assert_eq!(field[8..], [high, 0, 0, 0, 0, 0, 0, 0]);
+    }
 }

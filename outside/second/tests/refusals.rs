@@ -1,8 +1,9 @@
 //! Refusals and their order: where several causes are present at once, the first one in the order
 //! of the function is the answer. Each mask is malformed in each of the two ways, and that of the
-//! dropped bits by its g too.
+//! dropped bits by its g too; bounds are wrong by a NaN at either end, or by their order.
 
 use second::arith::rounded;
+use second::bounds::Bounds;
 use second::choice::{generate, Job};
 use second::dropped::Dropped;
 use second::fits::{confirm, Conditions};
@@ -42,30 +43,66 @@ fn malformed([width, carries_width]: [u32; 2]) -> [[Mask; 4]; 2] {
     ]
 }
 
-/// What stands in a job of format 3/4 where a mask is malformed.
+/// What stands in a job of format 3/4 where a mask is malformed or bounds are wrong, which word has
+/// these, and whether it is another bound that is too wide, or a random or proposed word.
 struct Bad {
     masks: [Mask; 4],
     dropped: Dropped,
+    place: usize,
+    bounds: Bounds,
+    wide_bound: bool,
 }
 
 /// All masks by a value bit outside care; all by a bit just above the width; and that of the
-/// dropped bits by g alone, where nothing is fixed.
-fn bad() -> [Bad; 3] {
+/// dropped bits by g alone, where nothing is fixed. The low bound of a is a NaN, or the high one of
+/// b; or c's are the next numbers above and below zero.
+fn bad() -> Vec<Bad> {
     let [outside, above] = malformed([8, 5]);
     let dropped = |g, care, value| Dropped {
         g,
         mask: Mask { care, value },
     };
     [
-        (outside, dropped(2, 2, 3)),
-        (above, dropped(3, 1 << 4, 0)),
-        (outside, dropped(9, 0, 0)),
+        (outside, dropped(2, 2, 3), [0xF1, 0x70]),
+        (above, dropped(3, 1 << 4, 0), [0xF0, 0x7F]),
+        (outside, dropped(9, 0, 0), [0x01, 0x81]),
     ]
-    .map(|(masks, dropped)| Bad { masks, dropped })
+    .into_iter()
+    .enumerate()
+    .map(|(place, (masks, dropped, [low, high]))| Bad {
+        masks,
+        dropped,
+        place,
+        bounds: Bounds { low, high },
+        wide_bound: place > 0,
+    })
+    .collect()
 }
 
-/// A job of format 3/4 with exactly these of the causes that a job can have, and these masks where
-/// one is malformed.
+/// The bounds of a, b and c: the infinities, but wrong ones where 18 is a cause, and after them one
+/// that is too wide where 6 is and a bound is to be.
+fn bounds(causes: &[Refusal], bad: &Bad) -> [Bounds; 3] {
+    let (low, high) = (0xF0, 0x70);
+    let mut all = [Bounds { low, high }; 3];
+    all[bad.place] = pick(causes, 18, all[0], bad.bounds);
+    if bad.wide_bound {
+        all[(bad.place + 1) % 3].low |= pick(causes, 6, 0, TOO_WIDE);
+    }
+    all
+}
+
+/// A bit that a word of format 3/4 does not have, and a word of four bytes has.
+const TOO_WIDE: u64 = 1 << 31;
+
+/// A random or proposed word, too wide where 6 is a cause and no bound is to be.
+fn word(causes: &[Refusal], bad: &Bad, good: u64) -> u64 {
+    match bad.wide_bound {
+        true => good,
+        false => pick(causes, 6, good, TOO_WIDE),
+    }
+}
+
+/// A job of format 3/4 with exactly these of the causes that a job can have.
 fn job(causes: &[Refusal], bad: &Bad) -> Job {
     let mut conditions = Conditions::free(
         pick(causes, 1, 3, 12),
@@ -85,23 +122,24 @@ fn job(causes: &[Refusal], bad: &Bad) -> Job {
         mask: fixed(1, 0),
     };
     conditions.dropped = pick(causes, 17, exact, bad.dropped);
+    conditions.bounds = bounds(causes, bad).map(Some);
     Job {
         conditions,
-        words: [0x55, pick(causes, 6, 0x77, 1 << 40)],
+        words: [0x55, word(causes, bad, 0x77)],
     }
 }
 
 #[test]
 fn rounded_result_and_row() {
-    let [bad, ..] = bad();
+    let bad = &bad()[0];
     for set in subsets(&[1, 2, 3, 4, 6]) {
-        let c = job(&set, &bad).conditions;
+        let c = job(&set, bad).conditions;
         let b = pick(&set, 6, 0x77, 0x100_0000_0000);
         let answer = rounded(c.w, c.f, c.operation, c.mode, 0x30, b);
         assert_eq!(answer.err(), set.first().copied());
     }
     for set in subsets(&[1, 2, 3, 6]) {
-        let c = job(&set, &bad).conditions;
+        let c = job(&set, bad).conditions;
         let a = pick(&set, 6, 0x30, 0x100_0000_0000);
         let answer = carry_row(c.w, c.f, c.operation, a, 0x77);
         assert_eq!(answer.err(), set.first().copied());
@@ -135,7 +173,7 @@ fn ask(causes: &[Refusal], bad: &Bad) {
     assert_eq!(generate(&job).err(), first);
     for place in 0..3 {
         let mut words = [0x30, 0, 0x30];
-        words[place] |= pick(causes, 6, 0, 1 << 38);
+        words[place] = word(causes, bad, words[place]);
         let [a, b, c] = words;
         let answer = confirm(&job.conditions, a, b, c);
         assert_eq!(answer.err(), first.filter(|&number| number != NO_CASE));
@@ -144,7 +182,7 @@ fn ask(causes: &[Refusal], bad: &Bad) {
 
 #[test]
 fn generator_and_confirmation() {
-    for set in subsets(&[1, 2, 3, 4, 5, 14, 15, 16, 17, 6, 7]) {
+    for set in subsets(&[1, 2, 3, 4, 5, 14, 15, 16, 17, 6, 18, 7]) {
         for bad in bad() {
             ask(&set, &bad);
         }
@@ -205,34 +243,38 @@ fn whole_number_widths() {
 }
 
 /// The causes of refusal in reading, in their order.
-const READING: [Refusal; 13] = [9, 8, 1, 2, 3, 4, 5, 14, 15, 16, 17, 6, 10];
+const READING: [Refusal; 14] = [9, 8, 1, 2, 3, 4, 5, 14, 15, 16, 17, 6, 18, 10];
 
 /// A record that has every field, with these causes of refusal; `w` and `f` are out of their limits
 /// and stand where 1 and 2 are causes. Its words are as long as the header's w and f say, good or
-/// not. Where 10 is a cause, every field says its default but those that are bad.
+/// not. Where 10 is a cause, every field says its default but those that are bad and the bounds.
 fn record(causes: &[Refusal], w: u8, f: u8, bad: &Bad) -> Vec<u8> {
-    let map = pick(causes, 9, 0x7F, 0xFF);
+    let second_map = pick(causes, 9, 7, 0x0F << bad.place);
     let [w, f] = [pick(causes, 1, 3, w), pick(causes, 2, 4, f)];
     let word_bytes = match u32::from(w) + u32::from(f) + 1 {
         ..=32 => 4,
         _ => 8,
     };
-    let word = |word: u64| word.to_le_bytes()[..word_bytes].to_vec();
+    let bytes_of = |word: u64| word.to_le_bytes()[..word_bytes].to_vec();
     let good = pick(causes, 10, 1, 0);
     let fixed = Mask {
         care: good,
         value: 0,
     };
-    let mut bytes = vec![map, w, f, pick(causes, 3, 1, 2)];
+    let mut bytes = vec![0xFF, second_map, w, f, pick(causes, 3, 1, 2)];
     for (&bad, cause) in bad.masks.iter().zip([5, 14, 15, 16]) {
         let mask = pick(causes, cause, fixed, bad);
-        bytes.extend([mask.care, mask.value].map(word).concat());
+        bytes.extend([mask.care, mask.value].map(bytes_of).concat());
     }
     bytes.push(pick(causes, 4, good as u8, 200));
-    bytes.extend([0, pick(causes, 6, good, 0x8000_0000)].map(word).concat());
+    let words = [0, word(causes, bad, good)];
+    bytes.extend(words.map(bytes_of).concat());
     let stated = Dropped { g: 5, mask: fixed };
     let Dropped { g, mask } = pick(causes, 17, stated, bad.dropped);
     bytes.extend([g as u8, mask.care as u8, 0, mask.value as u8, 0]);
+    for bounds in bounds(causes, bad) {
+        bytes.extend(bounds.words().map(bytes_of).concat());
+    }
     if causes.contains(&8) {
         bytes.pop();
     }
@@ -289,7 +331,7 @@ fn write_with(causes: &[Refusal], bad: &Bad) {
 
 #[test]
 fn writing() {
-    for set in subsets(&[1, 2, 3, 4, 5, 14, 15, 16, 17, 6, 11]) {
+    for set in subsets(&[1, 2, 3, 4, 5, 14, 15, 16, 17, 6, 18, 11]) {
         for bad in bad() {
             write_with(&set, &bad);
         }

@@ -1,29 +1,29 @@
 -- `job::request_cause` meets its contract: the words are looked at only in a supported format, where no width wraps. Assumes nothing.
-use mathlib.Core.Path.{sym, ap₂, _∙_}
+use mathlib.Core.Path.{_≡_, sym, ap, ap₂, _∙_}
 use native.Mathlib.Omega.{arith}
 use Rattle.format.specs.Cause.{first}
 use Rattle.format.specs.Format.{wordBits, wordCause}
 use Rattle.format.proofs.Laws.{supported-of}
-use Rattle.job.proofs.Laws.{job-first}
-use Rattle.job.specs.Job.{requestCause}
+use Rattle.job.specs.Job.{causeWith, requestCause}
+use Rattle.job.proofs.Laws.{form-first}
 use borrow.Author.Needs.{needs}
 use Rattle.job.proofs.request_cause.Statement.{statement}
 use Rattle.job.proofs.request_cause.Tie as tie
 
-job-cause-requires : tie.Need-job-cause-requires
-job-cause-requires c κs = search needs
-
 format-cause-requires : tie.Need-format-cause-requires
 format-cause-requires c κs = search needs
+
+cause-with-requires : tie.Need-cause-with-requires
+cause-with-requires c κs = search needs
 
 returns : tie.Need-returns
 unfolding requestCause
 returns c =
-    let f = c .before in
-    let a = f .before .before .args in
+    let f = c .before .before in
+    let a = f .before .args in
     let width = wordBits (a .job .setting .format) in
     let words = first (wordCause width (a .r1)) (wordCause width (a .r2)) in
-    f .before .job-cause .ensures ∙ sym (job-first (a .job) words (λ e. c .if1 .taken (f .format-cause .ensures ∙ e)))
+    c .cause-with .ensures ∙ form-first (a .job) 0 words (λ e. c .before .if1 .taken (f .format-cause .ensures ∙ e))
 
 add-width : tie.Need-add-width
 add-width c =
@@ -46,29 +46,28 @@ word-cause-requires-2 c κs = search needs
 first-requires : tie.Need-first-requires
 first-requires c κs = search needs
 
-first-requires-2 : tie.Need-first-requires-2
-first-requires-2 c κs = search needs
+cause-with-requires-2 : tie.Need-cause-with-requires-2
+cause-with-requires-2 c κs = search needs
 
 returns-2 : tie.Need-returns-2
 unfolding requestCause
 returns-2 c =
     let f = c .before in
     let w = f .before .before in
-    let i = w .before .before in
-    c .first2 .ensures
-    ∙ ap₂ first (i .before .before .job-cause .ensures) (f .first .ensures ∙ ap₂ first (w .word-cause .ensures) (f .before .word-cause2 .ensures))
+    let a = w .before .before .before .before .args in
+    c .cause-with2 .ensures ∙ ap (causeWith (a .job)) (f .first .ensures ∙ ap₂ first (w .word-cause .ensures) (f .before .word-cause2 .ensures))
 
 pub request-cause-spec : {M : Type 1} → statement M
 request-cause-spec =
     tie.close
     (tie.spec
-    job-cause-requires
     format-cause-requires
+    cause-with-requires
     returns
     add-width
     add-width-2
     word-cause-requires
     word-cause-requires-2
     first-requires
-    first-requires-2
+    cause-with-requires-2
     returns-2)

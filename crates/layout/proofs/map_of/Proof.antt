@@ -1,24 +1,23 @@
 -- `layout::map_of` meets its contract. The loop goes down: the map has the bits of the numbers passed. Assumes nothing.
 use mathlib.Core.Path.{_≡_, sym, ap, ap₂, _∙_}
-use Prim.Native.Nat.{ℕ, _+_, _-_, _≤_, _<_}
-use native.Mathlib.Nat.{lt-of-lt-of-le}
+use Prim.Native.Nat.{ℕ, _+_, _-_, _^_, _≤_, _<_}
 use native.Mathlib.Omega.{arith}
 use mathlib.Core.List.{List}
-use lib.ListN.{length, getD, drop}
+use lib.ListN.{getD, drop}
 use lib.Bits.{bitOr}
 use Rattle.bits.proofs.Laws.{one-shl}
 use Rattle.layout.specs.Layout.{mapOf}
-use Rattle.layout.specs.Fields.{fieldCount, numberCount}
+use Rattle.layout.specs.Fields.{defaultFields, defaultNumbers, withDefault}
 use Rattle.layout.specs.declared.Slot.{Slot}
 use Rattle.numbers.proofs.BySizes.{drop-all}
-use Rattle.layout.proofs.ByMap.{mapBits, allBelow, field-below, map-same, map-set}
-use Rattle.layout.proofs.JobLayout.{layout-length, layout-bits}
+use Rattle.layout.proofs.ByMap.{field-below, map-same, map-set}
+use Rattle.layout.proofs.JobLayout.{default-length, default-bits, default-slot}
 use borrow.Author.Needs.{needs}
 use Rattle.layout.proofs.map_of.Statement.{statement}
 use Rattle.layout.proofs.map_of.Tie as tie
 
 abbrev Inv-loop : tie.InvT-loop
-Inv-loop word numbers slots map₀ i₀ map i = (i ≤ numberCount) × (map ≡ mapOf (drop i slots) (drop i numbers))
+Inv-loop word numbers slots map₀ i₀ map i = (i ≤ defaultNumbers) × (map ≡ mapOf (drop i (withDefault word)) (drop i numbers))
 
 abbrev μ-loop : tie.MeasureT-loop
 μ-loop word numbers slots map₀ i₀ map i = i
@@ -26,22 +25,24 @@ abbrev μ-loop : tie.MeasureT-loop
 layout-requires : tie.Need-layout-requires Inv-loop μ-loop
 layout-requires c κs = search needs
 
-rows : (c : tie.After-layout Inv-loop μ-loop) → length (c .layout .result) ≡ numberCount
-rows c = ap length (c .layout .ensures) ∙ layout-length (c .before .args .word)
+abbrev none : Slot
+none = record { bit = 0; size = 0 }
 
--- the map bit of a number lies in the map
-field-lt : (c : tie.After-layout Inv-loop μ-loop) (i : ℕ) → getD (c .layout .result) i (record { bit = 0; size = 0 }) .bit < 64
-field-lt c i =
-    lt-of-lt-of-le
-    (field-below fieldCount (c .layout .result) (record { bit = 0; size = 0 })
-    (ap (λ (ps : List Slot). allBelow fieldCount (mapBits ps)) (c .layout .ensures) ∙ layout-bits (c .before .args .word)) (omega arith) i)
-    (omega arith)
+-- the slot of a number of a field that has a default, and that its map bit lies in the map
+slot : (c : tie.After-layout Inv-loop μ-loop) (i : ℕ) → i < defaultNumbers → getD (c .layout .result) i none ≡ getD (withDefault (c .before .args .word)) i none
+slot c i h = ap (λ (ps : List Slot). getD ps i none) (c .layout .ensures) ∙ default-slot (c .before .args .word) i none h
+
+field-lt : (c : tie.After-layout Inv-loop μ-loop) (i : ℕ) → i < defaultNumbers → getD (c .layout .result) i none .bit < 64
+field-lt c i h =
+    let word : ℕ = c .before .args .word in
+    omega (arith, field-below defaultFields (withDefault word) none (default-bits word) (omega arith) i, ap (λ (p : Slot). p .bit) (slot c i h))
 
 loop-holds : tie.Need-loop-holds Inv-loop μ-loop
 unfolding mapOf
 loop-holds c =
-    let none = drop-all (c .layout .result) numberCount (omega (arith, rows c)) in
-    (omega arith, sym (ap (λ (ps : List Slot). mapOf ps (drop numberCount (c .before .args .t2))) none))
+    let word : ℕ = c .before .args .word in
+    let past = drop-all (withDefault word) defaultNumbers (omega (arith, default-length word)) in
+    (omega arith, sym (ap (λ (ps : List Slot). mapOf ps (drop defaultNumbers (c .before .args .t2))) past))
 
 sub-i : tie.Need-sub-i Inv-loop μ-loop
 sub-i c = omega arith
@@ -59,29 +60,30 @@ array-read-if1 : tie.Need-array-read-if1 Inv-loop μ-loop
 array-read-if1 c = omega arith
 
 shl-map : tie.Need-shl-map Inv-loop μ-loop
-shl-map c = field-lt (c .before .before .before .before .before) (c .before .before .before .before .loop .i - 1)
+shl-map c = let l = c .before .before .before .before in field-lt (l .before) (l .loop .i - 1) (omega arith)
 
 loop-less : tie.Need-loop-less Inv-loop μ-loop
 loop-less c = omega arith
 
 -- the number before those passed, whether it is 0 or not
 passed : (c : tie.In-loop Inv-loop μ-loop) → c .before .loop .map
-    ≡ mapOf (drop (c .before .loop .i - 1 + 1) (c .before .before .layout .result)) (drop (c .before .loop .i - 1 + 1) (c .before .before .before .args .t2))
+    ≡ mapOf (drop (c .before .loop .i - 1 + 1) (withDefault (c .before .before .before .args .word))) (drop (c .before .loop .i - 1 + 1) (c .before .before .before .args .t2))
 passed c =
     let l = c .before in
+    let a = l .before .before .args in
     let back : l .loop .i ≡ l .loop .i - 1 + 1 = omega arith in
-    l .loop .inv .1 ∙ ap (λ (i : ℕ). mapOf (drop i (l .before .layout .result)) (drop i (l .before .before .args .t2))) back
+    l .loop .inv .1 ∙ ap (λ (i : ℕ). mapOf (drop i (withDefault (a .word))) (drop i (a .t2))) back
 
 loop-again : tie.Need-loop-again Inv-loop μ-loop
 loop-again c =
     let n = c .before .before .before in
     let l = n .before in
-    let slots : List Slot = l .before .layout .result in
+    let a = l .before .before .args in
     let i : ℕ = l .loop .i - 1 in
-    let d : Slot = record { bit = 0; size = 0 } in (
+    let below : i < defaultNumbers = omega arith in (
       omega arith,
-      ap₂ bitOr (passed n) (one-shl (getD slots i d .bit) (field-lt (l .before) i))
-          ∙ map-set slots i d (omega (arith, rows (l .before))) (l .before .before .args .t2) (omega arith) (c .before .if1 .taken),
+      ap₂ bitOr (passed n) (one-shl (getD (l .before .layout .result) i none .bit) (field-lt (l .before) i below) ∙ ap (λ (p : Slot). 2 ^ p .bit) (slot (l .before) i below))
+          ∙ map-set (withDefault (a .word)) i none (omega (arith, default-length (a .word))) (a .t2) (omega arith) (c .before .if1 .taken),
     )
 
 loop-less-2 : tie.Need-loop-less-2 Inv-loop μ-loop
@@ -91,16 +93,15 @@ loop-again-2 : tie.Need-loop-again-2 Inv-loop μ-loop
 loop-again-2 c =
     let n = c .before .before in
     let l = n .before in
-    let slots : List Slot = l .before .layout .result in
-    let d : Slot = record { bit = 0; size = 0 } in
-    (omega arith, passed n ∙ map-same slots (l .loop .i - 1) d (omega (arith, rows (l .before))) (l .before .before .args .t2) (omega arith) (c .if1 .left))
+    let a = l .before .before .args in
+    (omega arith, passed n ∙ map-same (withDefault (a .word)) (l .loop .i - 1) none (omega (arith, default-length (a .word))) (a .t2) (omega arith) (c .if1 .left))
 
 returns : tie.Need-returns Inv-loop μ-loop
 returns c =
     let l = c .before in
+    let a = l .before .before .args in
     let done : l .loop .i ≡ 0 = omega arith in
-    l .loop .inv .1
-    ∙ ap₂ (λ (i : ℕ) (ps : List Slot). mapOf (drop i ps) (drop i (l .before .before .args .t2))) done (l .before .layout .ensures)
+    l .loop .inv .1 ∙ ap (λ (i : ℕ). mapOf (drop i (withDefault (a .word))) (drop i (a .t2))) done
 
 pub map-of-spec : {M : Type 1} → statement M
 map-of-spec =

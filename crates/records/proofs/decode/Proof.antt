@@ -46,7 +46,7 @@ returns c =
     let f = r .before .before .before in
     let a = f .before .before .before .args in
     c .entry-with .ensures
-    ∙ ap (entryWith (a .format) (a .operation)) (r .read-numbers .ensures ∙ ap (λ (ks : List ℕ). numbers ks (now (a .s))) (sizes-are f))
+    ∙ ap (entryWith (a .format) (a .operation) (a .map)) (r .read-numbers .ensures ∙ ap (λ (ks : List ℕ). numbers ks (now (a .s))) (sizes-are f))
 
 pub decode-spec : {M : Type 1} → statement M
 decode-spec =

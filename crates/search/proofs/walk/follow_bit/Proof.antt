@@ -35,8 +35,8 @@ fix-requires c κs = search needs
 with-word-mask-requires : tie.Need-with-word-mask-requires
 with-word-mask-requires c κs = search needs
 
-first-pair-requires : tie.Need-first-pair-requires
-first-pair-requires c κs = search needs
+first-left-requires : tie.Need-first-left-requires
+first-left-requires c κs = search needs
 
 power-requires : tie.Need-power-requires
 power-requires c κs = search needs
@@ -55,7 +55,7 @@ returns-2 c =
       omega (arith, st .pre .1),
       λ o.
           word-next (a .job) (a .role) (a .state) o (st .pre .1) (f .free .ensures) (not-false (f .free .result) (b .before .if1 .left)) (a .word) (b .bit-at .result) (b .bit-at .ensures)
-          (x .fix .result) (x .fix .ensures) (w .with-word-mask .result) (w .with-word-mask .ensures) (p .first-pair .result) (p .first-pair .ensures) (omega (arith, is, c .if2 .taken)),
+          (x .fix .result) (x .fix .ensures) (w .with-word-mask .result) (w .with-word-mask .ensures) (p .first-left .result) (p .first-left .ensures) (omega (arith, is, c .if2 .taken)),
     )
 
 sub-fix : tie.Need-sub-fix
@@ -81,11 +81,11 @@ returns-3 c =
       omega (arith, st .pre .1),
       λ o.
           other-next (a .job) (a .role) (a .state) o (st .pre .1) (f .free .ensures) (not-false (f .free .result) (b .before .if1 .left)) (a .word) (b .bit-at .result) (b .bit-at .ensures)
-          (x .fix .result) (x .fix .ensures) (w .with-word-mask .result) (w .with-word-mask .ensures) (p .first-pair .result) (p .first-pair .ensures) (omega (arith, is, c .before .if2 .left))
+          (x .fix .result) (x .fix .ensures) (w .with-word-mask .result) (w .with-word-mask .ensures) (p .first-left .result) (p .first-left .ensures) (omega (arith, is, c .before .if2 .left))
           (c .fix2 .result) (c .fix2 .ensures),
     )
 
 pub follow-bit-spec : {M : Type 1} → statement M
 follow-bit-spec =
     tie.close
-    (tie.spec sub-k free-requires returns bit-at-requires fix-requires with-word-mask-requires first-pair-requires power-requires returns-2 sub-fix fix-requires-2 returns-3)
+    (tie.spec sub-k free-requires returns bit-at-requires fix-requires with-word-mask-requires first-left-requires power-requires returns-2 sub-fix fix-requires-2 returns-3)

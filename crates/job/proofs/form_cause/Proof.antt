@@ -1,17 +1,17 @@
--- `job::job_cause` meets its contract: the masks are looked at only in a setting against which no cause stands. Assumes nothing.
+-- `job::form_cause` meets its contract: the masks are looked at only in a setting against which no cause stands. Assumes nothing.
 use mathlib.Core.Path.{sym, _∙_}
 use Rattle.format.proofs.Laws.{first-some}
-use Rattle.job.specs.Job.{settingCause, jobMasksCause, jobCause}
+use Rattle.job.specs.Job.{settingCause, jobMasksCause, formCause}
 use Rattle.job.proofs.Laws.{setting-none}
 use borrow.Author.Needs.{needs}
-use Rattle.job.proofs.job_cause.Statement.{statement}
-use Rattle.job.proofs.job_cause.Tie as tie
+use Rattle.job.proofs.form_cause.Statement.{statement}
+use Rattle.job.proofs.form_cause.Tie as tie
 
 setting-cause-requires : tie.Need-setting-cause-requires
 setting-cause-requires c κs = search needs
 
 returns : tie.Need-returns
-unfolding jobCause
+unfolding formCause
 returns c =
     let s = c .before in
     let job = s .before .before .args .job in
@@ -23,10 +23,10 @@ job-masks-cause-requires c κs =
     setting-none (s .before .before .args .job .setting) .0 (sym (s .setting-cause .ensures) ∙ c .if1 .left) .format
 
 returns-2 : tie.Need-returns-2
-unfolding jobCause
+unfolding formCause
 returns-2 c =
     let i = c .before in
     rw (sym (i .before .setting-cause .ensures) ∙ i .if1 .left) (c .job-masks-cause .ensures)
 
-pub job-cause-spec : {M : Type 1} → statement M
-job-cause-spec = tie.close (tie.spec setting-cause-requires returns job-masks-cause-requires returns-2)
+pub form-cause-spec : {M : Type 1} → statement M
+form-cause-spec = tie.close (tie.spec setting-cause-requires returns job-masks-cause-requires returns-2)

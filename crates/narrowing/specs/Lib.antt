@@ -1,0 +1,3 @@
+pub mod Range
+pub mod Fraction
+pub mod Narrowing
