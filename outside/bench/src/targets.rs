@@ -2,7 +2,7 @@
 
 use std::time::Duration;
 
-use crate::kinds::{Kind, MIXED, MIXED_BELOW, MIXED_BOUNDS};
+use crate::kinds::{Kind, MIXED, MIXED_BELOW};
 use crate::rows::{Row, DOUBLE};
 use crate::times::{plain, text};
 
