@@ -1,5 +1,7 @@
 // Cases 5 to 10 and 12 of document 01, with c and the row of case 1, those of document 02, W-201 and W-205, and vectors for IEEE 754
 // addition, through the rounded result and the carry row; the vectors in words of 32, 33 and 64 bits.
+#![tactic(auto)]
+
 mod ask;
 mod document;
 mod line;

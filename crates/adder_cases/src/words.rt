@@ -3,13 +3,13 @@ use format::Format;
 use std::num::{wrapping_add_u64, wrapping_sub_u64};
 
 // A format, and the hexadecimal digits of its words.
-#[derive(Drop)]
+#[derive(Clone, Copy)]
 pub struct Sized {
     pub format: Format,
     pub digits: usize,
 }
 
-#[derive(Drop)]
+#[derive(Clone, Copy)]
 pub struct Words {
     pub sized: Sized,
     // the sign bit alone, -0

@@ -8,7 +8,7 @@ use format::Format;
 use word::pack::word_of;
 
 // The precisions in which the language adds.
-#[derive(Drop)]
+#[derive(Clone, Copy)]
 pub enum Precision {
     Single,
     Double,
@@ -22,14 +22,14 @@ pub(crate) fn format_of(precision: Precision) -> Format {
 }
 
 // A sum of the language's own; the pattern of its NaN is not fixed.
-#[derive(Drop)]
+#[derive(Clone, Copy)]
 pub enum Sum {
     Word(u64),
     Nan,
 }
 
 // What a comparison found.
-#[derive(Drop)]
+#[derive(Clone, Copy)]
 pub enum Verdict {
     Equal,
     BothNan,

@@ -1,5 +1,7 @@
 // Compares addition in mode 0 with the language's own, in single and in double precision, on 131,072 pairs each from a fixed generator: 16,384
 // of each class.
+#![tactic(auto)]
+
 mod compare;
 mod pairs;
 
@@ -12,7 +14,7 @@ use libc::STDOUT_FILENO;
 const PAIRS: u64 = 16384;
 
 // How many pairs gave the same word, a NaN on both sides, and unlike answers.
-#[derive(Drop)]
+#[derive(Clone, Copy)]
 struct Tally {
     equal: u64,
     nan: u64,
@@ -20,7 +22,7 @@ struct Tally {
 }
 
 // What a run of one class leaves: the generator's state and the tally.
-#[derive(Drop)]
+#[derive(Clone, Copy)]
 struct Run {
     state: u64,
     tally: Tally,

@@ -4,14 +4,14 @@ use format::Format;
 use word::pack::{signed, word_of};
 
 // The words of a pair.
-#[derive(Drop)]
+#[derive(Clone, Copy)]
 pub struct Pair {
     pub a: u64,
     pub b: u64,
 }
 
 // Three numbers of the generator: one for the bits of each word, and the last, which is also its state, for what the words have in common.
-#[derive(Drop)]
+#[derive(Clone, Copy)]
 pub struct Draw {
     pub a: u64,
     pub b: u64,

@@ -21,7 +21,7 @@ use word::{Biased, Unit};
 const ASKED: u64 = 62;
 
 // Whether a class may admit a case, and its word.
-#[derive(Drop)]
+#[derive(Clone, Copy)]
 pub struct Known {
     pub possible: bool,
     pub refused: u64,

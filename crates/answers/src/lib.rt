@@ -1,4 +1,6 @@
 // Whether a pair of exponent fields admits a case, with the answers kept that pairs of one class share.
+#![tactic(auto)]
+
 use bits::{minus, power};
 use classes::{FAR_GAP, Fields, MOST_FIELD, class_of, fields_of};
 use format::{Format, format_cause};

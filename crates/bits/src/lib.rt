@@ -1,4 +1,6 @@
 // Single bits, low parts and quotients of a 64-bit word, for any position; and a difference that stops at 0.
+#![tactic(auto)]
+
 ghost use Rattle.std.specs.Prelude.{◌≡◌, ◌-◌, ◌/◌, ◌%◌, ◌^◌};
 ghost use Rattle.bits.specs.Bit.{bit};
 

@@ -1,4 +1,6 @@
 // Bounds on a word, compared as numbers.
+#![tactic(auto)]
+
 ghost use Rattle.std.specs.Prelude.{◌≡◌};
 ghost use Rattle.format.specs.Format.{Supported};
 ghost use Rattle.bounds.specs.declared.Bounds.TheVariants.{Between};
@@ -9,14 +11,14 @@ use format::{Format, cause, first, format_cause, unless, word_cause};
 use word::pack::infinity_word;
 
 // The ends of an interval of words, both included.
-#[derive(Drop)]
+#[derive(Clone, Copy)]
 pub struct Ends {
     pub low: u64,
     pub high: u64,
 }
 
 // What bounds a word has. No pair of ends says that there are none: even the two infinities shut NaNs out.
-#[derive(Drop)]
+#[derive(Clone, Copy)]
 pub enum Bounds {
     Unbounded,
     Between(Ends),

@@ -1,4 +1,6 @@
 // Two adders in a chain with a mask on every wire: x = l + t, or l - t, and z = x + constant + carry.
+#![tactic(auto)]
+
 use mask::Mask;
 
 mod walk;
@@ -8,7 +10,7 @@ ghost use Rattle.std.specs.Prelude.{◌≡◌, true, ◌↔◌, ◌<◌};
 ghost use Rattle.chain.specs.Chain.{Answered};
 ghost use Rattle.chain.specs.Walk.{served_of};
 
-#[derive(Drop)]
+#[derive(Clone, Copy)]
 pub struct Wires {
     pub subtract: bool,
     pub l: Mask,

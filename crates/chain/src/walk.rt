@@ -9,7 +9,7 @@ use crate::ways::{Places, Ways, adder};
 use mask::Mask;
 
 // A word for each state. A state is the first adder's carry plus twice the second's.
-#[derive(Drop)]
+#[derive(Clone, Copy)]
 pub struct States {
     pub s0: u64,
     pub s1: u64,
@@ -18,7 +18,7 @@ pub struct States {
 }
 
 // The columns that lead to each state, by the state before them.
-#[derive(Drop)]
+#[derive(Clone, Copy)]
 pub struct Table {
     pub to0: States,
     pub to1: States,

@@ -5,14 +5,14 @@ ghost use Rattle.chain.specs.Ways.{lets, may, way, turned_of, way_of};
 use mask::Mask;
 
 // The columns where a wire may be 0, and those where it may be 1.
-#[derive(Drop)]
+#[derive(Clone, Copy)]
 pub struct Places {
     pub zero: u64,
     pub one: u64,
 }
 
 // The places of the wire x of an adder, by the carry into the column and the carry out of it.
-#[derive(Drop)]
+#[derive(Clone, Copy)]
 pub struct Ways {
     pub c00: Places,
     pub c01: Places,

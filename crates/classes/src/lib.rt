@@ -1,4 +1,6 @@
 // Classes of pairs of exponent fields: pairs whose significands are aligned alike have one answer, and one of them stands for all.
+#![tactic(auto)]
+
 ghost use Rattle.std.specs.Prelude.{◌≡◌, ◌<◌, true, ◌↔◌};
 ghost use Rattle.format.specs.Format.{Supported, word_bits};
 ghost use Rattle.mask.specs.Mask.{WellFormed};
@@ -34,7 +36,7 @@ pub fn far_gap(job: Job) -> u64
 }
 
 // Two exponent fields by size; the order is 1 where b has the larger one, else 0.
-#[derive(Drop)]
+#[derive(Clone, Copy)]
 pub struct Fields {
     pub order: u64,
     pub larger: Biased,
@@ -42,7 +44,7 @@ pub struct Fields {
 }
 
 // A class of pairs: the order, and the smaller field of the pair that stands for it.
-#[derive(Drop)]
+#[derive(Clone, Copy)]
 pub struct Class {
     pub order: u64,
     pub low: Biased,

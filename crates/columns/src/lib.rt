@@ -1,5 +1,7 @@
 // Numbers that are read a column of bits at a time. What is here is laws, in specs/ and proofs/, and one test that every walk over
 // columns asks.
+#![tactic(auto)]
+
 ghost use Rattle.std.specs.Prelude.{◌≡◌};
 ghost use Rattle.columns.specs.Column.{allows};
 

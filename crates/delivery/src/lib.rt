@@ -1,4 +1,6 @@
 // What an exported function does with its answer: the answer by value, and its numbers put into a lent buffer, eight bytes each, low byte first.
+#![tactic(auto)]
+
 ghost use Rattle.std.specs.Prelude.{◌≡◌, ◌*◌, ◌≤◌, length, take};
 ghost use Rattle.numbers.specs.Number.{put};
 ghost use Rattle.delivery.specs.Answer.{numbers, bytes_of, content_of, Delivered};
@@ -7,7 +9,7 @@ use format::cause;
 use numbers::put_within;
 
 // The numbers of an answer, or the number of a refusal.
-#[derive(Drop)]
+#[derive(Clone, Copy)]
 pub enum Answer {
     One(u64),
     Two(u64, u64),

@@ -1,4 +1,6 @@
 // Whether a proposed case fits a job.
+#![tactic(auto)]
+
 ghost use Rattle.std.specs.Prelude.{◌≡◌, ◌^◌, ◌<◌, eqb};
 ghost use Rattle.format.specs.Format.{Supported, word_bits};
 ghost use Rattle.job.specs.Dropped.{ValidDropped};
@@ -15,7 +17,7 @@ use job::{Dropped, Job, Setting, Wanted, cause_with};
 use mask::{Mask, meets};
 
 // The answer about a proposed case: it fits, it does not, or the number of the refusal.
-#[derive(Drop)]
+#[derive(Clone, Copy)]
 pub enum Confirmed {
     Yes,
     No,

@@ -1,4 +1,6 @@
 // Number formats, the numbers of the refusals, and the checks of plain numbers.
+#![tactic(auto)]
+
 pub mod cause;
 pub mod limits;
 
@@ -8,7 +10,7 @@ ghost use Rattle.format.specs.Limits.{within};
 ghost use Rattle.format.specs.Format.{format_cause, operation_cause, mode_cause, word_cause};
 
 // A binary floating-point format: w exponent bits and f fraction bits.
-#[derive(Drop)]
+#[derive(Clone, Copy)]
 pub struct Format {
     pub w: u64,
     pub f: u64,

@@ -1,4 +1,6 @@
 // The case generator: of a job and two random words the chosen case with its row, or the number of the refusal.
+#![tactic(auto)]
+
 ghost use Rattle.std.specs.Prelude.{◌≡◌};
 ghost use Rattle.job.specs.Job.{Request};
 ghost use Rattle.adder.specs.Result.{result_of};
@@ -13,7 +15,7 @@ use job::{Job, request_cause};
 use search::{Choice, choose};
 
 // Operands, their rounded result and their carry row.
-#[derive(Drop)]
+#[derive(Clone, Copy)]
 pub struct Case {
     pub a: u64,
     pub b: u64,
@@ -22,7 +24,7 @@ pub struct Case {
 }
 
 // What is said of a job: its chosen case, or the number of the refusal.
-#[derive(Drop)]
+#[derive(Clone, Copy)]
 pub enum Reply {
     Found(Case),
     Refused(u64),
@@ -31,7 +33,7 @@ pub enum Reply {
 // The rounded result of a and b.
 fn result_of(job: Job, a: u64, b: u64) -> u64
     requires { Request job a b }
-    ensures* { λ r. ⌜ r ≡ result job.setting.format job.setting.operation job.setting.mode a b ⌝ }
+    ensures { result ≡ result_of job.setting.format job.setting.operation job.setting.mode a b }
 {
     match rounded_result(
         job.setting.format,
@@ -48,7 +50,7 @@ fn result_of(job: Job, a: u64, b: u64) -> u64
 // The carry row of a and b.
 fn row_of(job: Job, a: u64, b: u64) -> Row
     requires { Request job a b }
-    ensures* { λ r. ⌜ r ≡ row_of job.setting.format job.setting.operation a b ⌝ }
+    ensures { result ≡ row_of job.setting.format job.setting.operation a b }
 {
     match carry_row(job.setting.format, job.setting.operation, a, b) {
         RowReply::Row(row) => row,
@@ -59,7 +61,7 @@ fn row_of(job: Job, a: u64, b: u64) -> Row
 // The case whose operands are a and b.
 fn case_of(job: Job, a: u64, b: u64) -> Case
     requires { Request job a b }
-    ensures* { λ r. ⌜ r ≡ case_of job a b ⌝ }
+    ensures { result ≡ case_of job a b }
 {
     Case {
         a,
@@ -71,7 +73,7 @@ fn case_of(job: Job, a: u64, b: u64) -> Case
 
 // The reply to a job and two random words.
 pub fn generate(job: Job, r1: u64, r2: u64) -> Reply
-    ensures* { λ r. ⌜ Replied job r1 r2 r ⌝ }
+    ensures { Replied job r1 r2 result }
 {
     let refusal = request_cause(job, r1, r2);
     if refusal != 0 {

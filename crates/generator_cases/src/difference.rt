@@ -10,7 +10,7 @@ const SUBTRACT: u64 = 1;
 
 // A format, the greatest word of it, the words of 1, of the number before 1, of a quarter of a unit of 1's last place and of the number four
 // places before that quarter, and the borrows of 1 less such a number.
-#[derive(Drop)]
+#[derive(Clone, Copy)]
 struct Words {
     format: Format,
     all: u64,

@@ -1,5 +1,7 @@
 // Cases 1 to 4, 12 and 13 of document 01, a tie in double precision, borrows of equal exponents, dropped bits, bounds and one job for each
 // cause of bad input, through the case generator.
+#![tactic(auto)]
+
 mod bounded;
 mod difference;
 mod document;

@@ -7,7 +7,7 @@ use tally::Count;
 
 // A format, the greatest word of it, the mode that rounds away from zero, and the words of 1, of half a unit of 1's last place, of the number
 // four places before that half, and of the unit.
-#[derive(Drop)]
+#[derive(Clone, Copy)]
 struct Words {
     format: Format,
     all: u64,
@@ -19,7 +19,7 @@ struct Words {
 }
 
 // What is asked: a mode, and the bits of g dropped bits and the sticky bit.
-#[derive(Drop)]
+#[derive(Clone, Copy)]
 struct Question {
     mode: u64,
     g: u64,
@@ -27,7 +27,7 @@ struct Question {
 }
 
 // The bits that are asked for, the number that has them and how many places after 1 the sum is, where there is such a number.
-#[derive(Drop)]
+#[derive(Clone, Copy)]
 struct Sum {
     value: u64,
     b: u64,

@@ -1,4 +1,6 @@
 // Jobs: what a case must meet, and whether a job is well made.
+#![tactic(auto)]
+
 pub mod below;
 pub mod guards;
 pub mod words;
@@ -14,7 +16,7 @@ use format::{Format, first, format_cause, mode_cause, operation_cause, word_caus
 use mask::{Mask, masks_cause};
 
 // What decides the result of two operands.
-#[derive(Drop)]
+#[derive(Clone, Copy)]
 pub struct Setting {
     pub format: Format,
     pub operation: u64,
@@ -22,21 +24,21 @@ pub struct Setting {
 }
 
 // What is wanted of one word of a case.
-#[derive(Drop)]
+#[derive(Clone, Copy)]
 pub struct Wanted {
     pub mask: Mask,
     pub bounds: Bounds,
 }
 
 // What is wanted of the bits that rounding drops: of g of them, and below them the sticky bit, bit 0 of the mask.
-#[derive(Drop)]
+#[derive(Clone, Copy)]
 pub struct Dropped {
     pub g: u64,
     pub mask: Mask,
 }
 
 // A setting, and what is wanted of the operands a and b, of the result c, of the carry row and of the dropped bits.
-#[derive(Drop)]
+#[derive(Clone, Copy)]
 pub struct Job {
     pub setting: Setting,
     pub a: Wanted,
@@ -47,7 +49,7 @@ pub struct Job {
 }
 
 // The words of a case: two operands and their result.
-#[derive(Drop)]
+#[derive(Clone, Copy)]
 pub enum Role {
     A,
     B,

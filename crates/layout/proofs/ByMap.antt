@@ -184,6 +184,8 @@ map_absent ps ns i e = go (is_default i ps ns) (sym (map_bit i ps ns) ∙ e)
 pub fits_map : (m : ℕ) (ps : List Slot) (ns : List ℕ) → Fits (counts ps) ns → Absent m ps ns → Fits (sizes ps m) ns
 unfolding sizes
 fits_map m [] [] none absent = none
+fits_map m [] (n ∷ ns) fits absent = elim fits [ ]
+fits_map m (p ∷ ps) [] fits absent = elim fits [ ]
 fits_map m (p ∷ ps) (n ∷ ns) (more h f) absent =
     more {k = bit m p.bit * p.size} {n = n}
     (bit_case m p.bit

@@ -1,4 +1,6 @@
 // The layout of a job record: which numbers it has, in which order, and by its map.
+#![tactic(auto)]
+
 ghost use Rattle.std.specs.Prelude.{◌≡◌, ◌+◌, ◌*◌, ◌<◌};
 ghost use Rattle.bits.specs.Bit.{bit};
 ghost use Rattle.layout.specs.Layout.{map_of};
@@ -27,7 +29,7 @@ pub const NUMBERS: usize = 20;
 const WITH_DEFAULT: usize = 14;
 
 // A job with its two random words: the content of a record.
-#[derive(Drop)]
+#[derive(Clone, Copy)]
 pub struct Entry {
     pub job: Job,
     pub r1: u64,
@@ -35,7 +37,7 @@ pub struct Entry {
 }
 
 // A number of a record: the map bit of its field, and how many bytes it has where that bit stands.
-#[derive(Drop)]
+#[derive(Clone, Copy)]
 pub struct Slot {
     pub bit: u64,
     pub size: usize,

@@ -14,7 +14,7 @@ use narrowing::{Standing, narrowed, stands};
 use pass::{Exponents, first_pair};
 
 // The next step of settling a job: each mask stands inside its bounds, one stands outside, or a bit of one is tried, this value first.
-#[derive(Drop)]
+#[derive(Clone, Copy)]
 pub enum Step {
     Settled,
     Nothing,

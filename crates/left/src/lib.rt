@@ -1,5 +1,7 @@
 // Whether a case is left. Where a job states no bounds the first pair of exponent fields that admits a case tells; else its masks are narrowed
 // and halved until each stands inside its bounds or outside.
+#![tactic(auto)]
+
 mod halving;
 
 ghost use Rattle.std.specs.Prelude.{false, ◌≡◌};

@@ -1,4 +1,6 @@
 // The listing of a job file, line by line: what is printed for a file is what the steps say, one after the other.
+#![tactic(auto)]
+
 mod say;
 pub mod text;
 
@@ -20,7 +22,7 @@ pub const LONGEST: usize = 65536;
 const MOST_LINES: u64 = 65536;
 
 // Where a listing stands: the offset of the next record, the count of the lines before, and whether reading has stopped.
-#[derive(Drop)]
+#[derive(Clone, Copy)]
 pub struct Place {
     pub at: usize,
     pub lines: u64,
@@ -28,14 +30,14 @@ pub struct Place {
 }
 
 // What comes after a line.
-#[derive(Drop)]
+#[derive(Clone, Copy)]
 pub enum Then {
     On(Place),
     Done,
 }
 
 // A line, and what comes after it.
-#[derive(Drop)]
+#[derive(Clone, Copy)]
 pub struct Step {
     pub line: Line,
     pub then: Then,

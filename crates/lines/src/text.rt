@@ -6,7 +6,7 @@ use format::Format;
 use layout::word_bytes;
 
 // The first `len` of the bytes.
-#[derive(Drop)]
+#[derive(Clone, Copy)]
 pub struct Line {
     pub bytes: [u8; 128],
     pub len: usize,

@@ -1,4 +1,6 @@
 // Reads a job file on standard input and prints its listing.
+#![tactic(auto)]
+
 use libc::STDIN_FILENO;
 use print::print_listing;
 

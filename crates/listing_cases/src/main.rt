@@ -1,4 +1,6 @@
 // Listings of small files, one for each way in which a listing can go. Document 01's own file is the input of program `listing`.
+#![tactic(auto)]
+
 use libc::STDOUT_FILENO;
 use print::print_listing;
 

@@ -1,4 +1,6 @@
 // Whether two aligned significands make a number that meets a mask and, rounded off, another.
+#![tactic(auto)]
+
 use bits::minus;
 use mask::Mask;
 
@@ -10,7 +12,7 @@ ghost use Rattle.making.specs.Making.{most_digits, RoomFor};
 
 // The masks of two aligned significands and of their carries; like tells whether they are added, reversed whether the carries are those
 // of the smaller one less the larger, below how many bits stand below the larger one's last.
-#[derive(Drop)]
+#[derive(Clone, Copy)]
 pub struct Aligned {
     pub like: bool,
     pub reversed: bool,

@@ -1,4 +1,6 @@
 // Masks: which bits of a word are fixed, and to what.
+#![tactic(auto)]
+
 pub mod next;
 
 ghost use Rattle.std.specs.Prelude.{◌≡◌};
@@ -8,14 +10,14 @@ ghost use Rattle.mask.specs.Join.{agree, join};
 use format::{cause, first, unless, word_cause};
 
 // A bit of care fixes that bit to the bit of value.
-#[derive(Drop)]
+#[derive(Clone, Copy)]
 pub struct Mask {
     pub care: u64,
     pub value: u64,
 }
 
 // What joining two masks gives.
-#[derive(Drop)]
+#[derive(Clone, Copy)]
 pub enum Joined {
     Mask(Mask),
     Refused(u64),

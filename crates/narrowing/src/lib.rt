@@ -1,4 +1,6 @@
 // How the words that meet a mask stand to bounds, and masks narrowed to what bounds leave of them.
+#![tactic(auto)]
+
 ghost use Rattle.std.specs.Prelude.{◌≡◌, ◌-◌, ◌%◌, ◌^◌, ◌≤◌, ◌<◌, max, min};
 ghost use Rattle.std.specs.Int.Count.{count_leading_zeros};
 ghost use Rattle.format.specs.Format.{Supported, word_bits};
@@ -17,7 +19,7 @@ use mask::{Joined, Mask, free, join, low};
 use significand::greatest;
 
 // Of the words of one sign those whose other bits, read as a number, go from `low` on and stay below `past`.
-#[derive(Drop)]
+#[derive(Clone, Copy)]
 pub struct Range {
     pub low: u64,
     pub past: u64,
@@ -25,7 +27,7 @@ pub struct Range {
 
 // How the words that meet a mask stand to bounds: all of them lie within, none does, or a free bit of the mask is named, and the value of
 // it to be tried first.
-#[derive(Drop)]
+#[derive(Clone, Copy)]
 pub enum Standing {
     Inside,
     Outside,
@@ -34,7 +36,7 @@ pub enum Standing {
 
 // Of the words that meet a mask with a fixed sign, by their bits below it: which numbers lie within the bounds, and the least and the
 // greatest that meet the mask.
-#[derive(Drop)]
+#[derive(Clone, Copy)]
 pub struct Extent {
     pub within: Range,
     pub least: u64,

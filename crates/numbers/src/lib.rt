@@ -1,4 +1,6 @@
 // Numbers as bytes, low byte first, of any count up to the eight of a u64: read from bytes, and put into a buffer.
+#![tactic(auto)]
+
 ghost use Rattle.std.specs.Prelude.{◌≡◌, ◌+◌, ◌≤◌, length, take, drop};
 ghost use Rattle.numbers.specs.Number.{little_endian, number, number_within, put, put_within};
 

@@ -1,4 +1,6 @@
 // Whether two aligned significands make a word that meets a mask, with dropped bits that meet another.
+#![tactic(auto)]
+
 use digits::fits;
 use format::Format;
 use format::limits::MOST_DROPPED;
@@ -24,7 +26,7 @@ ghost use Rattle.making.specs.Making.{Made, Making, Room, Formed};
 ghost use Rattle.outcome.specs.Outcome.{Serves, Admits, InFormat};
 
 // What is wanted of the result: of its word, and of the bits that rounding drops.
-#[derive(Drop)]
+#[derive(Clone, Copy)]
 pub struct Target {
     pub c: Mask,
     pub dropped: Dropped,

@@ -11,7 +11,7 @@ use word::Biased;
 use word::pack::signed;
 
 // Fractions by a mask; none where they are not possible.
-#[derive(Drop)]
+#[derive(Clone, Copy)]
 pub struct Fractions {
     pub possible: bool,
     pub fraction: Mask,

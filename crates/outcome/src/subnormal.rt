@@ -19,7 +19,7 @@ use rounding::Direction;
 use word::{Biased, Unit};
 
 // What is known of the numbers that serve: one is made, or they have so many digits at least.
-#[derive(Drop)]
+#[derive(Clone, Copy)]
 pub enum Known {
     Found,
     AtLeast(u64),

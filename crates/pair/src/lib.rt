@@ -1,4 +1,6 @@
 // Whether a pair of exponent fields admits a case.
+#![tactic(auto)]
+
 use finite::{finite_fields, finite_pair};
 use job::Job;
 use mask::Mask;
@@ -14,7 +16,7 @@ ghost use Rattle.special.specs.Asked.{InRange, PairFits};
 
 // What is asked of an operand whose sign, in the effective addition, and exponent field are known: its fraction meets a mask.
 // The operand on the left-hand side is a.
-#[derive(Drop)]
+#[derive(Clone, Copy)]
 pub struct Side {
     pub lhs: bool,
     pub sign: u64,

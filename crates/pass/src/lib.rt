@@ -1,4 +1,6 @@
 // A pass over the exponent fields of two operands: the first pair of them that admits a case.
+#![tactic(auto)]
+
 mod field;
 mod pairs;
 mod span;
@@ -12,7 +14,7 @@ use pairs::first_from;
 use word::Biased;
 
 // The exponent fields of two operands. They are gone over by a's, and for each of a's by b's.
-#[derive(Drop)]
+#[derive(Clone, Copy)]
 pub struct Exponents {
     pub a: Biased,
     pub b: Biased,

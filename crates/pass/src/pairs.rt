@@ -18,7 +18,7 @@ use word::Biased;
 use word::masks::{exponent_mask, fraction_mask};
 
 // What a pass over the exponent fields asks of each of them, and is the same for all.
-#[derive(Drop)]
+#[derive(Clone, Copy)]
 pub struct Pass {
     pub a: Mask,
     pub b: Mask,

@@ -21,7 +21,7 @@ use mask::next::met_from;
 use word::Biased;
 
 // Exponent fields of b, from `from` on and below `end`.
-#[derive(Drop)]
+#[derive(Clone, Copy)]
 pub struct Span {
     pub from: Biased,
     pub end: Biased,

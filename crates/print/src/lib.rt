@@ -1,4 +1,6 @@
 // The listing of a job file on standard output.
+#![tactic(auto)]
+
 use libc::STDOUT_FILENO;
 use lines::{Then, first_place, next_line};
 

@@ -1,20 +1,22 @@
 // A reader of a job file that carries the lent bytes along, with the offset of the next record. `drawn_at` does the work on a plain slice;
 // `next` takes the reader apart and calls that one; `draw` stands above, has plain parameters, and makes a reader for one draw: whoever
 // goes on keeps the offset that it hands back.
+#![tactic(auto)]
+
 ghost use Rattle.std.specs.Prelude.{◌≡◌};
 ghost use Rattle.reader.specs.Drawn.{drawn_at};
 
 use records::{First, read};
 
 // The bytes of a job file, and the offset of the next record.
-#[derive(Drop)]
+#[derive(Clone, Copy)]
 pub struct Reader<'a> {
     pub file: &'a [u8],
     pub at: usize,
 }
 
 // What stands at an offset of a job file, and the offset after it.
-#[derive(Drop)]
+#[derive(Clone, Copy)]
 pub struct Drawn {
     pub first: First,
     pub next: usize,

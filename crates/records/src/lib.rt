@@ -1,4 +1,6 @@
 // Job records: what stands first in a file, the rest after it, and the writing of a record into a lent buffer.
+#![tactic(auto)]
+
 mod fields;
 
 ghost use Rattle.std.specs.Prelude.{◌≡◌, ◌≤◌, ◌<◌, ◌^◌, ◌++◌, eqb, length, get_or, drop};
@@ -24,7 +26,7 @@ const SETTING: usize = 3;
 const MAPS: u64 = 1 << MAP_WIDTH;
 
 // What stands first in bytes: their end, a job and the length of its record, or the number of a refusal.
-#[derive(Drop)]
+#[derive(Clone, Copy)]
 pub enum First {
     End,
     Job(Entry, usize),
@@ -32,7 +34,7 @@ pub enum First {
 }
 
 // What writing a record gives: the count of bytes written, or the number of a refusal.
-#[derive(Drop)]
+#[derive(Clone, Copy)]
 pub enum Writing {
     Written(usize),
     Refused(u64),

@@ -1,4 +1,6 @@
 // Job records: document 01's example file read, written back and cut at every place, and each refusal of reading and of writing.
+#![tactic(auto)]
+
 mod bounded;
 mod dropped;
 mod reading;

@@ -1,5 +1,7 @@
 // The records of pseudo-random jobs, each as a line of the whole buffer that it was written into: for a comparison of the writer outside
 // the proof.
+#![tactic(auto)]
+
 mod jobs;
 mod line;
 

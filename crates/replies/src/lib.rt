@@ -1,4 +1,6 @@
 // The answer of each reply, by value.
+#![tactic(auto)]
+
 ghost use Rattle.std.specs.Prelude.{◌≡◌};
 ghost use Rattle.generator.specs.declared.Reply.TheVariants.{Found};
 ghost use Rattle.delivery.specs.Answer.{numbers, content_of};

@@ -1,4 +1,6 @@
 // Rounding a magnitude to a format: directions, significands aligned with a sticky bit, and the rounded word.
+#![tactic(auto)]
+
 pub mod addend;
 pub mod alignment;
 pub mod mode;
@@ -6,7 +8,7 @@ pub mod round;
 pub mod width;
 
 // Which neighbour a magnitude is rounded to; the nearest two differ where both are as near.
-#[derive(Drop)]
+#[derive(Clone, Copy)]
 pub enum Direction {
     NearestEven,
     NearestAway,

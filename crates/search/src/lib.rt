@@ -1,4 +1,6 @@
 // The masked search: the operands of the case that two random words choose, where one is left.
+#![tactic(auto)]
+
 mod walk;
 
 ghost use Rattle.std.specs.Prelude.{◌≡◌};
@@ -16,14 +18,14 @@ use walk::follow;
 use word::Biased;
 
 // The operands of a case.
-#[derive(Drop)]
+#[derive(Clone, Copy)]
 pub struct Pair {
     pub a: u64,
     pub b: u64,
 }
 
 // What is chosen of a job: operands, or nothing where no case is left.
-#[derive(Drop)]
+#[derive(Clone, Copy)]
 pub enum Choice {
     Operands(Pair),
     Nothing,

@@ -12,7 +12,7 @@ use pass::Exponents;
 
 // What is handed on from one bit position to the next: the mask of the operand with the bits chosen so far, how many bits are open, and
 // the pair of exponent fields where the search stands: no case, bounds left out, has fields before it.
-#[derive(Drop)]
+#[derive(Clone, Copy)]
 pub struct State {
     pub mask: Mask,
     pub open_bits: u64,

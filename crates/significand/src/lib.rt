@@ -1,4 +1,6 @@
 // Masks on significands, and on their aligned forms.
+#![tactic(auto)]
+
 ghost use Rattle.std.specs.Prelude.{◌≡◌, ◌%◌, ◌^◌, ◌<◌, ◌≤◌, true};
 ghost use Rattle.mask.specs.Mask.{WellFormed};
 ghost use Rattle.rounding.specs.Width.{mask_bits};

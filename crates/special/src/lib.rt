@@ -1,5 +1,7 @@
 // The pairs of exponent fields where an operand is infinite or a NaN. Only the kinds of the operands count there, so of the words with an
 // exponent field four are tried.
+#![tactic(auto)]
+
 ghost use Rattle.std.specs.Prelude.{true, ◌↔◌, ◌≡◌, ◌^◌, ◌<◌};
 ghost use Rattle.format.specs.Format.{Supported, word_bits};
 ghost use Rattle.mask.specs.Mask.{WellFormed};

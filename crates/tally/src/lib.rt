@@ -1,4 +1,6 @@
 // The count of a program's cases, kept line by line.
+#![tactic(auto)]
+
 ghost use Rattle.std.specs.Prelude.{◌≡◌};
 ghost use Rattle.tally.specs.Count.{counted};
 
@@ -6,7 +8,7 @@ use libc::STDOUT_FILENO;
 use std::num::wrapping_add_u64;
 
 // How many lines were written, and how many of them say WRONG.
-#[derive(Drop)]
+#[derive(Clone, Copy)]
 pub struct Count {
     pub lines: u64,
     pub wrong: u64,

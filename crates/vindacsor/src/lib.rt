@@ -1,5 +1,7 @@
 // The functions for callers in C and Rust, on numbers and byte slices alone. Each returns the number of the refusal, 0 for none, and puts
 // the numbers of its answer into `out`, eight bytes each, low byte first. On a refusal nothing is written; 11 is a buffer too short.
+#![tactic(auto)]
+
 ghost use Rattle.std.specs.Prelude.{◌≡◌};
 ghost use Rattle.mask.specs.Join.{join};
 ghost use Rattle.adder.specs.Result.{result_reply};

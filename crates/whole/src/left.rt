@@ -14,14 +14,14 @@ use chain::ways::{Places, adder};
 use mask::Mask;
 
 // For each carry a word with a bit for each column.
-#[derive(Drop)]
+#[derive(Clone, Copy)]
 pub struct Carries {
     pub zero: u64,
     pub one: u64,
 }
 
 // The columns that lead to each carry, by the carry that goes in.
-#[derive(Drop)]
+#[derive(Clone, Copy)]
 pub struct Table {
     pub to0: Carries,
     pub to1: Carries,

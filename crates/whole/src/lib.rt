@@ -1,4 +1,6 @@
 // The whole-number generator: numbers x, y and z of a given length and the carries of x + y, each under a mask, chosen by random words.
+#![tactic(auto)]
+
 mod left;
 mod walk;
 
@@ -13,7 +15,7 @@ use format::{cause, first, limits, within, word_cause};
 use mask::{Mask, masks_cause};
 
 // The masks of the three numbers and of the carries.
-#[derive(Drop)]
+#[derive(Clone, Copy)]
 pub struct Masks {
     pub x: Mask,
     pub y: Mask,
@@ -22,14 +24,14 @@ pub struct Masks {
 }
 
 // The random words, one for each number.
-#[derive(Drop)]
+#[derive(Clone, Copy)]
 pub struct Words {
     pub x: u64,
     pub y: u64,
     pub z: u64,
 }
 
-#[derive(Drop)]
+#[derive(Clone, Copy)]
 pub struct Job {
     pub length: u64,
     pub masks: Masks,
@@ -37,7 +39,7 @@ pub struct Job {
 }
 
 // x + y + (carry in) = z + 2^length * (carry out); bit i of the carries goes into position i.
-#[derive(Drop)]
+#[derive(Clone, Copy)]
 pub struct Case {
     pub x: u64,
     pub y: u64,
@@ -45,14 +47,14 @@ pub struct Case {
     pub carries: u64,
 }
 
-#[derive(Drop)]
+#[derive(Clone, Copy)]
 pub enum Reply {
     Found(Case),
     Refused(u64),
 }
 
 // Which of the three numbers is chosen.
-#[derive(Drop)]
+#[derive(Clone, Copy)]
 pub enum Role {
     X,
     Y,

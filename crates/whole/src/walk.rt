@@ -50,7 +50,7 @@ fn with_mask(s: Masks, role: Role, m: Mask) -> Masks
 }
 
 // What is handed on from one bit position to the next: the mask of the number with the bits chosen so far, and how many bits are open.
-#[derive(Drop)]
+#[derive(Clone, Copy)]
 pub struct State {
     pub mask: Mask,
     pub open_bits: u64,

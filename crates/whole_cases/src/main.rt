@@ -1,4 +1,6 @@
 // The whole-number generator on document 01's case 11, on fixed jobs of the lengths 31 and 32, and on one job for each refusal.
+#![tactic(auto)]
+
 use libc::STDOUT_FILENO;
 use mask::Mask;
 use whole::{Case, Job, Masks, Reply, Words};

@@ -1,19 +1,21 @@
 // Words of a format: their fields, the operands that they stand for, and words put together from fields.
+#![tactic(auto)]
+
 pub mod exponent;
 pub mod masks;
 pub mod pack;
 pub mod unpack;
 
 // A biased exponent: the exponent field of a word.
-#[derive(Drop)]
+#[derive(Clone, Copy)]
 pub struct Biased(pub u64);
 
 // The exponent of a unit: a unit is 2 to this power smallest steps.
-#[derive(Drop)]
+#[derive(Clone, Copy)]
 pub struct Unit(pub u64);
 
 // A finite number: its magnitude is the significand in units.
-#[derive(Drop)]
+#[derive(Clone, Copy)]
 pub struct Finite {
     pub sign: u64,
     pub exponent: Biased,
@@ -21,7 +23,7 @@ pub struct Finite {
 }
 
 // An operand by its kind; Infinite holds the sign.
-#[derive(Drop)]
+#[derive(Clone, Copy)]
 pub enum Operand {
     Finite(Finite),
     Infinite(u64),
@@ -29,7 +31,7 @@ pub enum Operand {
 }
 
 // The operands of an effective addition.
-#[derive(Drop)]
+#[derive(Clone, Copy)]
 pub struct Operands {
     pub a: Operand,
     pub b: Operand,

@@ -1,0 +1,40 @@
+-- `generator::generate` meets its contract: what names a cause is refused with it; of the rest the search chooses the operands, or tells
+-- that no case is left, and the result and the row follow from the operands. Assumes nothing.
+use mathlib.Core.Path.{refl, sym, ◌∙◌, subst}
+use mathlib.Core.Logic.{inl, inr}
+use native.Mathlib.Nat.{pos_of_ne-zero}
+use Rattle.search.specs.Choice.{Chosen}
+use Rattle.generator.specs.Promise as promise
+use Rattle.job.proofs.Laws.{request_none}
+use Rattle.generator.proofs.Taken.{fits_request, case_chosen}
+use Rattle.generator.proofs.generate.Goals as goal
+
+pub returns-then-refusal-ne0 : goal.returns-then-refusal-ne0
+returns-then-refusal-ne0 c =
+    let e = c.request_cause-refusal.ensures in
+    inl (pos_of_ne-zero (λ z. c.if-refusal-ne0.true (e ∙ z)), e)
+
+pub case_of-requires : goal.case_of-requires
+case_of-requires c =
+    let a = c.args in
+    let taken = (request_none a.job a.r1 a.r2).0 (sym c.request_cause-refusal.ensures ∙ c.if-refusal-ne0.false) in
+    let m = (subst (Chosen a.job _ _) c.in-Operands.is (c.choose.ensures.chosen taken.valid)).1.member in
+    fits_request a.job c.in-Operands.pair.a c.in-Operands.pair.b m.0 a.r1 a.r2 taken m.1
+
+pub returns-in-Operands : goal.returns-in-Operands
+returns-in-Operands c =
+    let a = c.args in
+    let e = sym c.request_cause-refusal.ensures ∙ c.if-refusal-ne0.false in
+    let valid = ((request_none a.job a.r1 a.r2).0 e).valid in
+    let closest = (subst (Chosen a.job a.r1 a.r2) c.in-Operands.is (c.choose.ensures.chosen valid)).1 in (
+      e,
+      subst (promise.Chosen a.job a.r1 a.r2) (sym c.case_of.ensures) (case_chosen a.job a.r1 a.r2 c.in-Operands.pair.a c.in-Operands.pair.b closest),
+    )
+
+pub returns-in-Nothing : goal.returns-in-Nothing
+returns-in-Nothing c =
+    let a = c.args in
+    let e = sym c.request_cause-refusal.ensures ∙ c.if-refusal-ne0.false in
+    let valid = ((request_none a.job a.r1 a.r2).0 e).valid in
+    let none = subst (Chosen a.job a.r1 a.r2) c.in-Nothing.is (c.choose.ensures.chosen valid) in
+    inr (record { taken = e; none = λ x y z f. none (record { valid = valid; left = record { a = x; b = y; c = z; fits = f } }) }, refl)

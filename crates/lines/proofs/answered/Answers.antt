@@ -1,0 +1,15 @@
+-- `lines::answered` meets its contract. Assumes nothing.
+use mathlib.Core.Path.{ap}
+use mathlib.Core.Bool.{Bool}
+use Rattle.lines.specs.declared.Then.TheVariants.{On}
+use Rattle.lines.proofs.answered.Goals as goal
+
+pub returns : goal.returns
+returns c =
+    let a = c.args in
+    record {
+      c.before.before = c.generate-reply.result;
+      replied = c.generate-reply.ensures;
+      says = c.reply_line-line.ensures;
+      then = ap (λ (t : Bool). On (record { at = a.next; lines = a.n; stopped = t })) c.stops-stopped.ensures;
+    }

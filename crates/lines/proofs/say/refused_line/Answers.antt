@@ -1,0 +1,21 @@
+-- `lines::say::refused_line` meets its contract. Assumes nothing.
+use native.Mathlib.Omega.{arith}
+use Rattle.lines.specs.Text.{refused_line}
+use Rattle.lines.proofs.Texts.{grown_then, says_grown}
+use Rattle.lines.proofs.say.refused_line.Goals as goal
+
+pub returns : goal.returns
+unfolding refused_line
+returns c =
+    let all =
+    grown_then c.with_decimal-number.ensures.0 (grown_then c.with_text-refused.ensures (grown_then c.with_decimal.ensures.0 c.with_text.ensures)) in
+    says_grown c.empty.ensures all
+    (omega (
+      arith,
+      all.len,
+      c.empty.ensures.len,
+      c.with_decimal-number.ensures.1,
+      c.with_text-refused.ensures.len,
+      c.with_decimal.ensures.1,
+      c.with_text.ensures.len,
+    ))

@@ -1,0 +1,7 @@
+-- `lines::stops` meets its contract. Assumes nothing.
+use mathlib.Core.Path.{sym, ap}
+use Rattle.lines.specs.Listing as spec
+use Rattle.lines.proofs.stops.Goals as goal
+
+pub returns-in-Refused : goal.returns-in-Refused
+returns-in-Refused c = sym (ap spec.stops c.in-Refused.is)

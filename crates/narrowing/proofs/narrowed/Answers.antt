@@ -1,0 +1,18 @@
+-- `narrowing::narrowed` meets its contract. Assumes nothing.
+use mathlib.Core.Path.{sym, subst}
+use Rattle.bounds.specs.declared.Bounds as stated
+use Rattle.bounds.specs.Bounds.{ValidBounds}
+use Rattle.format.proofs.Laws.{supported_of}
+use Rattle.narrowing.specs.Narrowing.{Narrows}
+use Rattle.narrowing.proofs.narrowed.Goals as goal
+
+pub narrowed_between-requires : goal.narrowed_between-requires
+narrowed_between-requires c = supported_of c.format_cause.ensures c.if-format_cause-ne0.false
+
+pub returns-in-Between : goal.returns-in-Between
+returns-in-Between c =
+    let W = c.args.w in
+    let e = c.in-Between.is in
+    λ ok v.
+    subst (λ (B : stated.Bounds). Narrows c.args.format (record { mask = W.mask; bounds = B }) c.narrowed_between.result) (sym e)
+    (c.narrowed_between.ensures v.mask (subst (ValidBounds c.args.format) e v.bounds))

@@ -1,0 +1,109 @@
+-- `outcome::digits::some_way` meets its contract. The invariant: no way that was passed has an answer. The measure is how many are left.
+-- Assumes nothing.
+use mathlib.Core.Path.{◌≡◌, refl, sym, ◌∙◌, subst}
+use mathlib.Core.Bool.{true, false≢true}
+use mathlib.Core.Logic.{◌↔◌}
+use Prim.Native.Nat.{ℕ, ◌+◌, ◌-◌, ◌<◌}
+use native.Mathlib.Decide.{dec_lt}
+use native.Mathlib.Omega.{arith}
+use Rattle.format.specs.declared.Format.{Format}
+use Rattle.mask.specs.declared.Mask.{Mask}
+use Rattle.mask.specs.Mask.{Meets}
+use Rattle.job.specs.declared.Dropped.{Dropped}
+use Rattle.job.specs.Dropped.{ValidDropped}
+use Rattle.word.specs.declared.Unit as exponent
+use Rattle.making.specs.declared.Aligned as pair
+use Rattle.making.specs.Making.{Made, columns_of}
+use Rattle.making.proofs.Made.{made_lt, aligned_lt}
+use Rattle.outcome.specs.Question.{OnlyDigits}
+use Rattle.outcome.specs.Ways.{OfWay}
+use Rattle.outcome.proofs.Ways.{ways_at_of}
+use Rattle.outcome.proofs.Counted.{InOne, in_one_sized, sized_in_one}
+use Rattle.outcome.proofs.digits.some_way.Invariants.{Keeps}
+use Rattle.outcome.proofs.digits.some_way.Goals as goal
+
+-- below one more is below, or it
+more : (n k : ℕ) → n < k + 1 → (n < k → ⊥) → (n ≡ k → ⊥) → ⊥
+more n k h below same = go (dec_lt n k)
+  where
+    go : Dec (n < k) → ⊥
+    go (yes l) = below l
+    go (no l) = same (omega arith)
+
+-- the numbers of a way, by its mask
+by_mask : (F : Format) (u : exponent.Unit) (A : pair.Aligned) (D : Dropped) (valid : ValidDropped D) (count : ℕ) (some : 0 < count) (Q : ℕ → Type 0)
+    (t : ℕ) (x : Mask) → OfWay (columns_of F.f A) count D (count - (F.f + 1)) t x → (n : ℕ) → Made F.f A n
+    → InOne F A.below u D valid count some Q t n ↔ (Meets n x × Q n)
+by_mask F u A D valid count some Q t x of n made =
+    let g = of n (made_lt F.f A n made) in
+    ((λ p. (g.1 (p.digits, p.in_way), p.holds)), λ p. let w = g.0 p.0 in record { digits = w.0; in_way = w.1; holds = p.1 })
+
+pub ways_at-ways-requires : goal.ways_at-ways-requires
+ways_at-ways-requires c =
+    let a = c.args in
+    (aligned_lt a.format.f a.aligned c.requires.0, c.requires.8, c.requires.1, omega (arith, c.requires.3, c.requires.0.columns))
+
+pub loop-way-init : goal.loop-way-init
+loop-way-init c = λ t h formed valid some m. absurd (omega arith)
+
+pub numbers-x-requires : goal.numbers-x-requires
+numbers-x-requires c =
+    let a = c.args in
+    let n = c.columns-last.ensures c.requires.0 in (
+      rw n c.requires.0.columns,
+      omega (arith, aligned_lt a.format.f a.aligned c.requires.0),
+      c.requires.8,
+      rw n c.requires.3,
+      λ fixed. ways_at_of a.format a.aligned.below a.unit a.dropped a.count c.loop-way.way fixed (rw (← c.ways_at-ways.ensures) c.loop-way-test.true),
+    )
+
+pub rounds_to-requires : goal.rounds_to-requires
+rounds_to-requires c =
+    let a = c.args in
+    let n = c.columns-last in
+    (c.requires.0, c.requires.1, c.requires.2, c.requires.3, c.requires.4, c.requires.5, c.requires.6, c.requires.7, subst (λ (k : ℕ). OnlyDigits k a.count c.numbers-x.result) (n.ensures c.requires.0) c.numbers-x.ensures.only)
+
+pub returns-then-rounds_to : goal.returns-then-rounds_to
+returns-then-rounds_to c =
+    let a = c.args in
+    let n = c.columns-last in
+    let x = c.numbers-x in
+    let t = c.loop-way.way in
+    λ formed valid. (
+      (λ z.
+          let of : OfWay (columns_of a.format.f a.aligned) a.count a.dropped (a.count - (a.format.f + 1)) t x.result = subst (λ (k : ℕ). OfWay k a.count a.dropped (a.count - (a.format.f + 1)) t x.result) (n.ensures c.requires.0) (x.ensures.exact valid) in
+          let m = (c.rounds_to.ensures formed).0 c.if-rounds_to.true in
+          let p = (by_mask a.format a.unit a.aligned a.dropped valid a.count c.requires.2 (Keeps a.format a.direction a.unit a.aligned a.quotient a.fractions) t x.result of m.x m.made).1 (m.holds.0, (m.holds.1, m.holds.2, m.holds.3)) in
+          let q = in_one_sized a.format a.aligned.below a.unit a.dropped valid a.count c.requires.2 (Keeps a.format a.direction a.unit a.aligned a.quotient a.fractions) t m.x (rw (← c.ways_at-ways.ensures) c.loop-way-test.true) p in
+          record { x = m.x; made = m.made; holds = (q.0, q.1.0, q.1.1, q.1.2) }),
+      λ m. refl,
+    )
+
+pub overflow_add-way : goal.overflow_add-way
+overflow_add-way c = omega (arith, c.loop-way-test.true)
+
+pub loop-way-smaller : goal.loop-way-smaller
+loop-way-smaller c = omega (arith, c.loop-way-test.true)
+
+pub loop-way-preserved : goal.loop-way-preserved
+loop-way-preserved c =
+    let a = c.args in
+    let n = c.columns-last in
+    let x = c.numbers-x in
+    let w = c.loop-way.way in
+    λ t h formed valid some m. more t w h (λ below. c.loop-way.invariant t below formed valid some m)
+    (λ e.
+    let of : OfWay (columns_of a.format.f a.aligned) a.count a.dropped (a.count - (a.format.f + 1)) w x.result = subst (λ (k : ℕ). OfWay k a.count a.dropped (a.count - (a.format.f + 1)) w x.result) (n.ensures c.requires.0) (x.ensures.exact valid) in
+    let o = subst (λ (k : ℕ). InOne a.format a.aligned.below a.unit a.dropped valid a.count some (Keeps a.format a.direction a.unit a.aligned a.quotient a.fractions) k m.x) e m.holds in
+    let p = (by_mask a.format a.unit a.aligned a.dropped valid a.count some (Keeps a.format a.direction a.unit a.aligned a.quotient a.fractions) w x.result of m.x m.made).0 o in
+    false≢true (sym c.if-rounds_to.false ∙ (c.rounds_to.ensures formed).1 (record { x = m.x; made = m.made; holds = (p.0, p.1.0, p.1.1, p.1.2) })))
+
+pub returns : goal.returns
+returns c =
+    let a = c.args in
+    λ formed valid. (
+      (λ t. absurd (false≢true t)),
+      λ m.
+          let w = sized_in_one a.format a.aligned.below a.unit a.dropped valid a.count c.requires.2 (Keeps a.format a.direction a.unit a.aligned a.quotient a.fractions) m.x m.holds.0 (m.holds.1, m.holds.2, m.holds.3) in
+          absurd (c.loop-way.invariant w.0 (omega (arith, w.1, c.ways_at-ways.ensures, c.loop-way-test.false)) formed valid c.requires.2 (record { x = m.x; made = m.made; holds = w.2 })),
+    )

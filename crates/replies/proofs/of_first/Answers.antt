@@ -1,0 +1,10 @@
+-- `replies::of_first` meets its contract: each arm is what the reply says. Assumes nothing.
+use mathlib.Core.Path.{sym, ap}
+use Rattle.replies.specs.Replies.{of_first}
+use Rattle.replies.proofs.of_first.Goals as goal
+
+pub returns-in-Job : goal.returns-in-Job
+returns-in-Job c = ap of_first (sym c.in-Job.is)
+
+pub returns-in-Refused : goal.returns-in-Refused
+returns-in-Refused c = ap of_first (sym c.in-Refused.is)
