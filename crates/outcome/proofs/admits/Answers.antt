@@ -65,6 +65,6 @@ some_count-requires c =
 
 pub returns : goal.returns
 returns c = record {
-      in_format = (λ t. let passed = some-count-requires c.before tt in (passed.0, passed.1));
+      in_format = (λ t. let passed = some_count-requires c.before in (passed.0, passed.1));
       exact = λ given formed valid. c.some_count.ensures formed valid;
     }

@@ -30,7 +30,7 @@ finite_pair-requires c = c.finite_fields.ensures.0 c.if-finite_fields.true
 
 pub returns-then-finite_fields : goal.returns-then-finite_fields
 returns-then-finite_fields c =
-    let fin = finite-pair-requires c.before tt in record {
+    let fin = finite_pair-requires c.before in record {
       in_range = (λ e. record { supported = fin.supported; a_lt = omega (arith, fin.a_finite); b_lt = omega (arith, fin.b_finite) });
       exact = λ valid. c.finite_pair.ensures valid;
     }

@@ -15,6 +15,6 @@ some_signs-requires c = c.finite_fields.ensures.0 (not-false c.finite_fields.res
 
 pub returns : goal.returns
 returns c = record {
-      finite = (λ e. some-signs-requires c.before tt);
+      finite = (λ e. some_signs-requires c.before);
       exact = λ valid fin. c.some_signs.ensures valid;
     }

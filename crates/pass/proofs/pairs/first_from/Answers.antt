@@ -63,7 +63,7 @@ loop-eb-preserved c =
       λ valid.
           let is = c.pass_of-pass.ensures.1 valid in
           let may = asked-at valid in
-          let got = c.admits.ensures.1 may is.end (l.invariant.1 valid).0 in
+          let got = c.admits.ensures.exact may is.end (l.invariant.1 valid).0 in
           let never : PairFits a.job ea l.eb → ⊥ = λ P. false≢true (sym c.if-admits.false ∙ got.1.1 P) in
           let after = p.ensures.1 valid is got.0 in
           (got.0, after.0, partners_join a.job ea c.partner_from-eb.result l.eb p.result (l.invariant.1 valid).2 (partners_join a.job ea l.eb next.result p.result (next.ensures.1 valid may.b_exponent never) after.1)),
@@ -114,7 +114,7 @@ returns-then-admits c =
     (omega (arith, c.minus.ensures)) (c.partner_from-eb.ensures.1 valid is (c.pairs.invariant.0 valid)).1 (c.loop-eb.invariant.1 valid).2 in
     let l = c.loop-eb in
     λ valid none.
-    let got = c.admits.ensures.1 (asked-at valid) (c.pass_of-pass.ensures.1 valid).end (l.invariant.1 valid).0 in
+    let got = c.admits.ensures.exact (asked-at valid) (c.pass_of-pass.ensures.1 valid).end (l.invariant.1 valid).0 in
     record {
       none = before_at valid (c.pairs.invariant.1 valid none);
       admits = λ h. got.1.0 c.if-admits.true;

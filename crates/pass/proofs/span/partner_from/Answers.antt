@@ -30,26 +30,16 @@ loop-eb-init c = let a = c.args in (
 pub asked_from-next-requires : goal.asked_from-next-requires
 asked_from-next-requires c = c.requires
 
--- at any turn of the loop, none from n on was passed over that admits a case
-module _ (c : tie.At-loop invariant-loop decreases-loop) where
-  abbrev s : tie.Start invariant-loop decreases-loop
-  s = c.before.before
-
-  abbrev j : Job
-  j = s.args.job
-
-  found : (s.args.n.0 ≤ c.loop.eb.0)
-      × (Valid j → PassOf j s.args.pass → Kept j s.args.table.now → (c.loop.eb.0 < 2 ^ j.setting.format.w → Meets c.loop.eb.0 (exponent_mask j.setting.format j.b.mask)) × NoPartner j s.args.ea s.args.n c.loop.eb)
-  found =
-      let first = c.before.met-from in (
-        omega (arith, first.ensures.0, c.loop.invariant.1),
-        λ valid is kept.
-            let inv = c.loop.invariant.2 valid is kept in
-            (inv.0, partners_join j s.args.ea s.args.n (field_is first.result) c.loop.eb (partners_met j valid s.args.n.0 first.result (met_at j s.args.pass s.args.n.0 first.result valid is first.ensures.1) s.args.ea) inv.1),
-      )
-
+-- none from n on was passed over that admits a case
 pub returns-then-next-eb : goal.returns-then-next-eb
-returns-then-next-eb c = found c.before.before.before.before.before.before.before
+returns-then-next-eb c =
+    let j : Job = c.args.job in
+    let first = c.met_from in (
+      omega (arith, first.ensures.0, c.loop-eb.invariant.1),
+      λ valid is kept.
+          let inv = c.loop-eb.invariant.2 valid is kept in
+          (inv.0, partners_join j c.args.ea c.args.n (field_is first.result) c.loop-eb.eb (partners_met j valid c.args.n.0 first.result (met_at j c.args.pass c.args.n.0 first.result valid is first.ensures.1) c.args.ea) inv.1),
+    )
 
 pub loop-eb-smaller : goal.loop-eb-smaller
 loop-eb-smaller c = omega (arith, c.met_from-in-loop-eb.ensures.0, c.asked_from-next.ensures.0, c.if-next-eb.false, c.loop-eb-test.true)
@@ -68,4 +58,11 @@ loop-eb-preserved c = let a = c.args in
     )
 
 pub returns : goal.returns
-returns c = found c.before.before.before
+returns c =
+    let j : Job = c.args.job in
+    let first = c.met_from in (
+      omega (arith, first.ensures.0, c.loop-eb.invariant.1),
+      λ valid is kept.
+          let inv = c.loop-eb.invariant.2 valid is kept in
+          (inv.0, partners_join j c.args.ea c.args.n (field_is first.result) c.loop-eb.eb (partners_met j valid c.args.n.0 first.result (met_at j c.args.pass c.args.n.0 first.result valid is first.ensures.1) c.args.ea) inv.1),
+    )

@@ -26,26 +26,28 @@ overflow_add-far c =
     let most = pow_mono {i = c.args.job.setting.format.w} {j = 16} (exponent_room c.args.job.setting.format c.requires.0) in
     record { fits = omega (arith, c.requires.1, c.requires.2, c.far_gap.ensures.0) }
 
--- the first field of a has the answer for those that a's is far below
-module _ (c : tie.Else2) where
-  abbrev s : tie.Start
-  s = c.before.before.before.before.before.before
-
-  abbrev j : Job
-  j = s.args.job
-
-  abbrev ea : Biased
-  ea = s.args.ea
-
-  answered : Valid j → PassOf j s.args.pass → NoneBelow j ea → (d : Biased) → (d.0 < all_ones j.setting.format → ea.0 + far_gap (reach j) ≤ d.0) → PairFits j ea d → ⊥
-  answered valid is none d far P =
-      let first = s.args.pass.first in
-      let later = c.if2.false in
-      earlier_answered j valid first ea d (none first d (omega (arith, later))) is.first_some (omega (arith, later)) (is.first_meets (omega (arith, s.pre.1, s.pre.2, later)))
-      (only_far j valid ea d (omega (arith, s.pre.1, s.pre.2, c.before.before.before.if1.false)) (λ l. (omega (arith, later, is.first_some), λ near. omega (arith, far l))) P) P
-
 pub returns-then-far-ones : goal.returns-then-far-ones
-returns-then-far-ones c = let gap = c.far_gap.ensures.1 in (omega arith, λ valid is none d from P. answered c.before.before.before valid is none d (λ l. omega arith) P)
+returns-then-far-ones c =
+    let j : Job = c.args.job in
+    let ea : Biased = c.args.ea in
+    let gap = c.far_gap.ensures.1 in
+    let answered : Valid j → PassOf j c.args.pass → NoneBelow j ea → (d : Biased) → (d.0 < all_ones j.setting.format → ea.0 + far_gap (reach j) ≤ d.0) → PairFits j ea d → ⊥ =
+    λ valid is none d far P.
+    let first = c.args.pass.first in
+    let later = c.if-ea-pass.false in
+    earlier_answered j valid first ea d (none first d (omega (arith, later))) is.first_some (omega (arith, later)) (is.first_meets (omega (arith, c.requires.1, c.requires.2, later)))
+    (only_far j valid ea d (omega (arith, c.requires.1, c.requires.2, c.if-ea-ones.false)) (λ l. (omega (arith, later, is.first_some), λ near. omega (arith, far l))) P) P in
+    (omega arith, λ valid is none d from P. answered valid is none d (λ l. omega arith) P)
 
 pub returns-else-far-ones : goal.returns-else-far-ones
-returns-else-far-ones c = let gap = c.far_gap.ensures.1 in (omega arith, λ valid is none d from P. answered c.before.before.before valid is none d (λ l. absurd (omega (arith, c.requires.1))) P)
+returns-else-far-ones c =
+    let j : Job = c.args.job in
+    let ea : Biased = c.args.ea in
+    let gap = c.far_gap.ensures.1 in
+    let answered : Valid j → PassOf j c.args.pass → NoneBelow j ea → (d : Biased) → (d.0 < all_ones j.setting.format → ea.0 + far_gap (reach j) ≤ d.0) → PairFits j ea d → ⊥ =
+    λ valid is none d far P.
+    let first = c.args.pass.first in
+    let later = c.if-ea-pass.false in
+    earlier_answered j valid first ea d (none first d (omega (arith, later))) is.first_some (omega (arith, later)) (is.first_meets (omega (arith, c.requires.1, c.requires.2, later)))
+    (only_far j valid ea d (omega (arith, c.requires.1, c.requires.2, c.if-ea-ones.false)) (λ l. (omega (arith, later, is.first_some), λ near. omega (arith, far l))) P) P in
+    (omega arith, λ valid is none d from P. answered valid is none d (λ l. absurd (omega (arith, c.requires.1))) P)

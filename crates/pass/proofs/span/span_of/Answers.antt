@@ -47,30 +47,33 @@ returns-then-pass-ea c =
 pub sum_from-requires : goal.sum_from-requires
 sum_from-requires c = c.requires.0
 
--- from one of b's fields on, as far as those left go
-module _ (c : tie.Else2) where
-  abbrev s : tie.Start
-  s = c.before.before.before.before.before.before.before.before.before
-
-  abbrev j : Job
-  j = s.args.job
-
-  abbrev last : Biased
-  last = c.before.before.before.before.before.span-end.result
-
-  span_at : (from : Biased) → (Valid j → PassOf j s.args.pass → NoPartner j s.args.ea (field_is 0) from)
-      → (Valid j → PassOf j s.args.pass → SpanIn j s.args.ea (record { from = from; end = last })) × (Valid j → PassOf j s.args.pass → NoneBelow j s.args.ea → SpanOf j s.args.ea (record { from = from; end = last }))
-  span_at from low = (
-    λ valid is. record { within = omega (arith, c.before.before.before.before.before.span-end.ensures.0, s.pre.1); meets = λ l. met_at c.before.before.before.before.before.before is },
-    λ valid is none. record { low = low valid is; high = c.before.before.before.before.before.span-end.ensures.1 valid is none },
-  )
-
 pub returns-then-sum_from-ea : goal.returns-then-sum_from-ea
-returns-then-sum_from-ea c = span_at c.before.before.before.before (field_is 0) (λ valid is d from l. absurd (omega arith))
+returns-then-sum_from-ea c =
+    let met_at : PassOf c.args.job c.args.pass → Meets c.args.ea.0 (exponent_mask c.args.job.setting.format c.args.job.a.mask) =
+    λ is. (meets_tested c.args.ea.0 c.meets.ensures is.a).0 (not-false c.meets.result c.if-not-meets.false-raw) in
+    let j : Job = c.args.job in
+    let last : Biased = c.span_end-end.result in
+    let span_at : (from : Biased) → (Valid j → PassOf j c.args.pass → NoPartner j c.args.ea (field_is 0) from)
+        → (Valid j → PassOf j c.args.pass → SpanIn j c.args.ea (record { from = from; end = last })) × (Valid j → PassOf j c.args.pass → NoneBelow j c.args.ea → SpanOf j c.args.ea (record { from = from; end = last })) =
+    λ from low. (
+      (λ valid is. record { within = omega (arith, c.span_end-end.ensures.0, c.requires.1); meets = λ l. met_at is }),
+      (λ valid is none. record { low = low valid is; high = c.span_end-end.ensures.1 valid is none }),
+    ) in
+    span_at (field_is 0) (λ valid is d from l. absurd (omega arith))
 
 pub returns : goal.returns
 returns c =
     let a = c.args in
     let sum = c.sum_from in
-    span_at c.before.before.before.before.before (field_is c.minus.result)
+    let met_at : PassOf c.args.job c.args.pass → Meets c.args.ea.0 (exponent_mask c.args.job.setting.format c.args.job.a.mask) =
+    λ is. (meets_tested c.args.ea.0 c.meets.ensures is.a).0 (not-false c.meets.result c.if-not-meets.false-raw) in
+    let j : Job = c.args.job in
+    let last : Biased = c.span_end-end.result in
+    let span_at : (from : Biased) → (Valid j → PassOf j c.args.pass → NoPartner j c.args.ea (field_is 0) from)
+        → (Valid j → PassOf j c.args.pass → SpanIn j c.args.ea (record { from = from; end = last })) × (Valid j → PassOf j c.args.pass → NoneBelow j c.args.ea → SpanOf j c.args.ea (record { from = from; end = last })) =
+    λ from low. (
+      (λ valid is. record { within = omega (arith, c.span_end-end.ensures.0, c.requires.1); meets = λ l. met_at is }),
+      (λ valid is none. record { low = low valid is; high = c.span_end-end.ensures.1 valid is none }),
+    ) in
+    span_at (field_is c.minus.result)
     (λ valid is d from l. sum.ensures.1 valid is 0 a.ea d (omega arith) (omega (arith, sum.ensures.0, c.if-sum_from-ea.false)) (omega (arith, c.minus.ensures)))
