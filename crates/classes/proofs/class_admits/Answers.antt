@@ -36,7 +36,7 @@ returns-then-class-eq0 c = λ p wn.
     let a = c.args in
     let t = c.asking-asked in
     let n = c.wrapping_add_u64 in
-    let top = ap field_is (top_is a.job c.reach.result n.result c.reach.ensures n.ensures) in
+    let top = ap field_is (top_is a.job c.reach.result n.result c.reach.ensures n.ensures.value) in
     rw c.if-class-eq0.true
     (answered a.job t.result a.n (field_is n.result) a.class.low (top_field (reach a.job)) a.class.low c.finite_admits.result p.valid wn
     (t.ensures p.valid.setting.format p.valid.c.mask wn) top refl (omega (arith, p.wide)) (omega (arith, p.wide, p.class_in.low_le)) c.finite_admits.ensures.exact)
@@ -46,7 +46,7 @@ returns-else-class-eq0 c = λ p wn.
     let a = c.args in
     let t = c.asking-asked in
     let n = c.wrapping_add_u64 in
-    let top = ap field_is (top_is a.job c.reach.result n.result c.reach.ensures n.ensures) in
+    let top = ap field_is (top_is a.job c.reach.result n.result c.reach.ensures n.ensures.value) in
     let one : a.class.order ≡ 1 = omega (arith, c.if-class-eq0.false, p.class_in.order_lt) in
     rw one
     (answered a.job t.result a.n a.class.low (field_is n.result) a.class.low (top_field (reach a.job)) c.finite_admits-else-class-eq0.result p.valid wn

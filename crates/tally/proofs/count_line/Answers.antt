@@ -6,9 +6,9 @@ use Rattle.tally.proofs.count_line.Goals as goal
 pub returns-then-ok : goal.returns-then-ok
 returns-then-ok c =
     let a = c.args in
-    (λ i. record { lines = c.wrapping_add_u64-lines.ensures i; wrong = cond (sym c.if-ok.true i) a.count.wrong (one_more a.count.wrong) })
+    (λ i. record { lines = c.wrapping_add_u64-lines.ensures.value i; wrong = cond (sym c.if-ok.true i) a.count.wrong (one_more a.count.wrong) })
 
 pub returns-else-ok : goal.returns-else-ok
 returns-else-ok c =
     let a = c.args in
-    (λ i. record { lines = c.wrapping_add_u64-lines.ensures i; wrong = (c.wrapping_add_u64.ensures ∙ ap (λ (t : Bool). cond t a.count.wrong (one_more a.count.wrong)) (sym c.if-ok.false)) i })
+    (λ i. record { lines = c.wrapping_add_u64-lines.ensures.value i; wrong = (c.wrapping_add_u64.ensures.value ∙ ap (λ (t : Bool). cond t a.count.wrong (one_more a.count.wrong)) (sym c.if-ok.false)) i })
