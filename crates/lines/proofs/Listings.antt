@@ -13,7 +13,7 @@ use Rattle.format.specs.Cause as cause
 use Rattle.job.specs.declared.Job.{Job}
 use Rattle.job.specs.Job.{request_cause}
 use Rattle.records.specs.Record.{first_in, record_cause, record_length}
-use Rattle.records.specs.File.{file_bytes, normalised_entries, Reads, end as no_byte, next as record-first, Writable, none as no-entry, more as entry_IsFirst}
+use Rattle.records.specs.File.{file_bytes, normalised_entries, Reads, end as no_byte, next as record_first, Writable, none as no_entry, more as entry_first}
 use Rattle.layout.specs.declared.Entry.{Entry}
 use Rattle.records.specs.declared.First.TheVariants as found
 use Rattle.records.proofs.Causes.{first_job, first_none_left}
@@ -132,7 +132,7 @@ read_taken s e n q = let t = first_job s e n q in ap record_cause (sym t.entry) 
 reads_listed : (s u : List ℕ) (at n : ℕ) {es : List Entry} {t : List ℕ} → length s ≤ longest → n ≤ at → at ≤ length s → u ≡ drop at s → Reads u es → Lines n es t
     → Listed s (record { at = at; lines = n; stopped = false }) t
 reads_listed s u at n short few within is no_byte none = last (end short (inr (inr (first_none_left (drop at s) (ap length (sym is))))))
-reads_listed s u at n short few within is (record-first {e = e} {n = k} {es = es} q rest) (next {t = t} r replied lines) =
+reads_listed s u at n short few within is (record_first {e = e} {n = k} {es = es} q rest) (next {t = t} r replied lines) =
     let job : first_in (drop at s) ≡ found.Job e k = ap first_in (sym is) ∙ q in
     let w = job_within s at e k job in
     let going : stops r ≡ false = stops_none e.job e.r1 e.r2 r (read_taken u e k q) replied in
@@ -145,9 +145,9 @@ reads_listed s u at n short few within is (record-first {e = e} {n = k} {es = es
 -- entries have the lines of the same with g taken as 0 where no dropped bit is fixed, as they are read
 normalised_lines : {n : ℕ} {es : List Entry} {t : List ℕ} → Writable es → Lines n es t → Lines n (normalised_entries es) t
 unfolding normalised_entries
-normalised_lines no-entry none = none
-normalised_lines (entry_IsFirst {e = e} ok rest) (next r replied lines) =
-    next r ((normalised_replied e.job e.r1 e.r2 r ok).0 replied) (normalised_lines rest lines)
+normalised_lines {n = n} no_entry none = none
+normalised_lines {n = n} (entry_first {e = e} ok rest) (next r replied lines) =
+    next r ((normalised_replied e.job e.r1 e.r2 r ok).0 replied) (normalised_lines {n = n + 1} rest lines)
 
 -- entries that are written list as the replies to them
 pub file_listed : {es : List Entry} {t : List ℕ} → Writable es → length (file_bytes es) ≤ longest → Lines 0 es t → Listing (file_bytes es) t

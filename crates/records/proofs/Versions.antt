@@ -19,7 +19,7 @@ use Rattle.layout.proofs.Maps.{unbounded_absent}
 use Rattle.layout.proofs.Entries.{read_announces, dropped_absent}
 use Rattle.records.specs.Version.{Version, Takes, Extends, current, base, before_dropped, before_bounds}
 use Rattle.records.specs.Record.{record_cause, map_in, format_in, operation_in, numbers_in, entry_in, first_by, first_in}
-use Rattle.records.specs.File.{Reads, end as no_byte, next as record-first, ReadsBy, end, next}
+use Rattle.records.specs.File.{Reads, end as no_byte, next as record_first, ReadsBy, end, next}
 use Rattle.records.specs.declared.First.TheVariants as found
 use Rattle.records.proofs.Causes.{Taken, job_with, taken_job, first_job}
 use Rattle.records.proofs.RoundTrip.{fields_absent}
@@ -71,12 +71,12 @@ current_takes s e n q =
 current_reads : {s : List ℕ} {es : List Entry} → ReadsBy current s es → Reads s es
 unfolding first_in
 current_reads end = no_byte
-current_reads (next q takes rest) = record-first q (current_reads rest)
+current_reads (next q takes rest) = record_first q (current_reads rest)
 
 reads_current : {s : List ℕ} {es : List Entry} → Reads s es → ReadsBy current s es
 unfolding first_in
 reads_current no_byte = end
-reads_current (record-first {s = s} {e = e} {n = n} q rest) = next q (current_takes s e n q) (reads_current rest)
+reads_current (record_first {s = s} {e = e} {n = n} q rest) = next q (current_takes s e n q) (reads_current rest)
 
 -- so it accepts the files that are accepted
 pub current_file : {s : List ℕ} {es : List Entry} → ReadsBy current s es ↔ Reads s es

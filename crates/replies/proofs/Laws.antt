@@ -56,7 +56,7 @@ result_number zero n c e = absurd (let z : ◌≡◌ {A = ℕ} 0 1 = cc in omega
 result_number (suc k) n c e = let q : suc k ≡ n = cc in omega arith
 
 pub result_refusal : (F : Format) (operation mode a b n : ℕ) → sum.result_reply F operation mode a b ≡ result-is.Refused n → 0 < n
-result_refusal F operation mode a b n = result_number (sum.result_cause F operation mode a b) n (sum.result F operation mode a b)
+result_refusal F operation mode a b n = result_number (sum.result_cause F operation mode a b) n (sum.result_of F operation mode a b)
 
 row_number : (k n : ℕ) (r : row.Row) → carries.reply_for k r ≡ row-reply-is.Refused n → 0 < n
 row_number zero n r e = absurd (let z : ◌≡◌ {A = ℕ} 0 1 = cc in omega arith)

@@ -8,7 +8,7 @@ pub returns : goal.returns
 returns c =
     let a = c.args in
     record {
-      c.before.before = c.generate-reply.result;
+      reply = c.generate-reply.result;
       replied = c.generate-reply.ensures;
       says = c.reply_line-line.ensures;
       then = ap (λ (t : Bool). On (record { at = a.next; lines = a.n; stopped = t })) c.stops-stopped.ensures;
