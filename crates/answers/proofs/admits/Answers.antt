@@ -18,17 +18,17 @@ returns-then-not-may_admit c =
     let a = c.args in record {
       in_range = λ e. absurd (false≢true e);
       exact = λ asked end kept.
-      let m = c.may_admit.ensures asked.valid end kept in (
-        m.0,
-        (
-          λ e. absurd (false≢true e),
-          λ p. absurd (m.1 (not-true c.may_admit.result c.if-not-may_admit.true-raw) (subst (λ (q : Fields). InOrder (PairFits a.job) q.order q.larger q.smaller) (sym c.fields_of-fields.ensures) ((in_order a.ea a.eb (PairFits a.job)).1 p))),
-        ),
-      );
+          let m = c.may_admit.ensures asked.valid end kept in (
+            m.0,
+            (
+              λ e. absurd (false≢true e),
+              λ p. absurd (m.1 (not-true c.may_admit.result c.if-not-may_admit.true-raw) (subst (λ (q : Fields). InOrder (PairFits a.job) q.order q.larger q.smaller) (sym c.fields_of-fields.ensures) ((in_order a.ea a.eb (PairFits a.job)).1 p))),
+            ),
+          );
     }
 
 pub returns : goal.returns
 returns c = record {
-      in_range = λ e. c.pair_admits.ensures.in_range e;
-      exact = λ asked end kept. ((c.may_admit.ensures asked.valid end kept).0, c.pair_admits.ensures.exact asked.valid);
-    }
+  in_range = λ e. c.pair_admits.ensures.in_range e;
+  exact = λ asked end kept. ((c.may_admit.ensures asked.valid end kept).0, c.pair_admits.ensures.exact asked.valid);
+}

@@ -24,9 +24,9 @@ returns-then-format_cause-ne0 c =
 
 pub returns-then-sign-gt1 : goal.returns-then-sign-gt1
 returns-then-sign-gt1 c = record {
-      in_format = (λ t. absurd (false≢true t));
-      exact = λ given. absurd (omega (arith, c.if-sign-gt1.true, given.sign_lt));
-    }
+  in_format = (λ t. absurd (false≢true t));
+  exact = λ given. absurd (omega (arith, c.if-sign-gt1.true, given.sign_lt));
+}
 
 pub returns-then-power-unit : goal.returns-then-power-unit
 returns-then-power-unit c =
@@ -38,15 +38,15 @@ returns-then-power-unit c =
 
 pub returns-then-target-gt-MOST_DROPPED : goal.returns-then-target-gt-MOST_DROPPED
 returns-then-target-gt-MOST_DROPPED c = record {
-      in_format = (λ t. absurd (false≢true t));
-      exact = λ given formed valid. absurd (omega (arith, c.if-target-gt-MOST_DROPPED.true, valid.g_most));
-    }
+  in_format = (λ t. absurd (false≢true t));
+  exact = λ given formed valid. absurd (omega (arith, c.if-target-gt-MOST_DROPPED.true, valid.g_most));
+}
 
 pub returns-then-not-roomy : goal.returns-then-not-roomy
 returns-then-not-roomy c = record {
-      in_format = (λ t. absurd (false≢true t));
-      exact = λ given formed valid. absurd (false≢true (sym (not-true c.roomy.result c.if-not-roomy.true-raw) ∙ c.roomy.ensures.1 formed.room));
-    }
+  in_format = (λ t. absurd (false≢true t));
+  exact = λ given formed valid. absurd (false≢true (sym (not-true c.roomy.result c.if-not-roomy.true-raw) ∙ c.roomy.ensures.1 formed.room));
+}
 
 -- what has passed the checks
 pub some_count-requires : goal.some_count-requires
@@ -65,6 +65,6 @@ some_count-requires c =
 
 pub returns : goal.returns
 returns c = record {
-      in_format = (λ t. let passed = some_count-requires c.before in (passed.0, passed.1));
-      exact = λ given formed valid. c.some_count.ensures formed valid;
-    }
+  in_format = (λ t. let passed = some_count-requires c.before in (passed.0, passed.1));
+  exact = λ given formed valid. c.some_count.ensures formed valid;
+}

@@ -11,8 +11,7 @@ use Rattle.records.proofs.decode.Goals as goal
 
 pub read_numbers-requires : goal.read_numbers-requires
 read_numbers-requires c =
-    let sizes-are : c.field_sizes-sizes.result ≡ field_sizes (word_bytes c.args.format) c.args.map = c.field_sizes-sizes.ensures ∙ ap (λ (k : ℕ). field_sizes k c.args.map) c.word_bytes.ensures in
-    (
+    let sizes-are : c.field_sizes-sizes.result ≡ field_sizes (word_bytes c.args.format) c.args.map = c.field_sizes-sizes.ensures ∙ ap (λ (k : ℕ). field_sizes k c.args.map) c.word_bytes.ensures in (
       omega (arith, ap total (sizes-are), c.requires),
       sym (ap length (sizes-are) ∙ sizes_count (word_bytes c.args.format) c.args.map),
       λ i. omega (arith, size_most c.args.format c.args.map i, ap (λ (ks : List ℕ). get_or ks i 0) (sizes-are)),

@@ -14,9 +14,9 @@ use Rattle.search.proofs.choose.Goals as goal
 
 pub returns-then-format_cause-ne0 : goal.returns-then-format_cause-ne0
 returns-then-format_cause-ne0 c = record {
-      unsupported = λ n. refl;
-      chosen = λ valid. absurd (unsupported_of c.format_cause.ensures c.if-format_cause-ne0.true valid.setting.format);
-    }
+  unsupported = λ n. refl;
+  chosen = λ valid. absurd (unsupported_of c.format_cause.ensures c.if-format_cause-ne0.true valid.setting.format);
+}
 
 pub overflow_add-width : goal.overflow_add-width
 overflow_add-width c = let ok = supported_of c.format_cause.ensures c.if-format_cause-ne0.false in record { fits = omega (arith, word_room c.args.job.setting.format ok) }

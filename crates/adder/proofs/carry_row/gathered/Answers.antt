@@ -31,9 +31,9 @@ loop-i-preserved c =
     let more = gather_more i at c.carry_at.result c.carry_at.ensures in (
       search rules,
       elim c.if-carry_at.branch [
-        then-carry_at w ↦ w.row-is ∙ ap₂ ◌+◌ inv.1 (w.power-row.ensures ∙ power_exact i (omega (arith, c.requires.0)) ∙ sym (one-mul (2 ^ i)))
+        | then-carry_at w ↦ w.row-is ∙ ap₂ ◌+◌ inv.1 (w.power-row.ensures ∙ power_exact i (omega (arith, c.requires.0)) ∙ sym (one-mul (2 ^ i)))
             ∙ ap (λ (t : Bool). gather i at + cond t 1 0 * 2 ^ i) (sym w.if-carry_at.true) ∙ sym more
-      | else-carry_at w ↦ w.row-is ∙ inv.1 ∙ sym (ap (λ (n : ℕ). gather i at + n) (zero-mul (2 ^ i)) ∙ add-zero (gather i at))
+        | else-carry_at w ↦ w.row-is ∙ inv.1 ∙ sym (ap (λ (n : ℕ). gather i at + n) (zero-mul (2 ^ i)) ∙ add-zero (gather i at))
             ∙ ap (λ (t : Bool). gather i at + cond t 1 0 * 2 ^ i) (sym w.if-carry_at.false) ∙ sym more
       ],
     )

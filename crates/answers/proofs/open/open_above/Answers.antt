@@ -11,14 +11,13 @@ use Rattle.answers.proofs.Runs.{low_zero, run_over}
 use Rattle.answers.proofs.open.open_above.Goals as goal
 
 pub returns-then-bit_at-eq1 : goal.returns-then-bit_at-eq1
-returns-then-bit_at-eq1 c =
-    (
-      omega (arith, c.requires.2),
-      omega arith,
-      λ d from l.
-          let top : closed_bit c.args.reach 1 (low_field c.args.reach d c.args.ea).0 ≡ c.args.reach + 3 + 1 = omega (arith, low_zero c.args.reach (d.0 - 1 - (c.args.ea.0 - 1)) c.args.ea.0 c.if-ea-eq0.true) in
-          ap (bit c.args.closed) top ∙ sym c.bit_at.ensures ∙ c.if-bit_at-eq1.true,
-    )
+returns-then-bit_at-eq1 c = (
+  omega (arith, c.requires.2),
+  omega arith,
+  λ d from l.
+      let top : closed_bit c.args.reach 1 (low_field c.args.reach d c.args.ea).0 ≡ c.args.reach + 3 + 1 = omega (arith, low_zero c.args.reach (d.0 - 1 - (c.args.ea.0 - 1)) c.args.ea.0 c.if-ea-eq0.true) in
+      ap (bit c.args.closed) top ∙ sym c.bit_at.ensures ∙ c.if-bit_at-eq1.true,
+)
 
 pub returns-then-far-gap : goal.returns-then-far-gap
 returns-then-far-gap c =

@@ -39,8 +39,7 @@ returns c =
     → d.0 < c.args.eb.0 + c.minus.result + c.run_from-run.result
     → bit c.args.closed (closed_bit c.args.reach 0 (low_field c.args.reach c.args.ea d).0) ≡ 1 = λ pos d from to l. let is = c.minus.ensures in
     run_below c.args.reach c.args.closed c.args.ea.0 c.args.eb.0 d.0 c.run_from-run.result (omega (arith, c.requires.1)) (omega (arith, c.if-eb-eq0.false)) from to pos (omega (arith, is))
-    (λ k h. ap (λ (n : ℕ). bit c.args.closed (c.args.eb.0 + n - (c.args.ea.0 - (c.args.reach + 3)) + 1 + k)) (sym is) ∙ c.run_from-run.ensures.1 k h) in
-    (
+    (λ k h. ap (λ (n : ℕ). bit c.args.closed (c.args.eb.0 + n - (c.args.ea.0 - (c.args.reach + 3)) + 1 + k)) (sym is) ∙ c.run_from-run.ensures.1 k h) in (
       omega (arith, c.minus.ensures),
       λ d from l.
           let to : d.0 ≤ c.args.ea.0 = omega (arith, c.if-ea-from.false, c.minus.ensures, c.requires.3) in

@@ -14,8 +14,7 @@ returns-in-Mask c = λ x.
 
 pub returns-in-Refused : goal.returns-in-Refused
 returns-in-Refused c = λ x.
-    let a = c.args in
-    (
+    let a = c.args in (
       λ met. let e : ◌≡◌ {A = ℕ} 0 1 = sym (and_zero_r x) ∙ met in absurd (omega (arith, e)),
       λ p. absurd (join_refused a.m a.n x c.in-Refused.field-0 (sym c.join-joined.ensures ∙ c.in-Refused.is) p.0 p.1),
     )

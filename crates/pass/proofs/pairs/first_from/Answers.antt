@@ -84,8 +84,7 @@ pairs-preserved c =
     → c.span_of-span.result.end.0 ≤ c.loop-eb.eb.0 → NoneBelow c.args.job (field_is (c.pairs.ea.0 + 1)) = λ valid none over. let is = c.pass_of-pass.ensures.1 valid in
     none_over c.args.job c.pairs.ea c.pairs.eb c.span_of-span.result none
     (c.span_of-span.ensures.1 valid is (λ d e l. none d e (inl l))) (field_is (c.pairs.eb.0 + c.minus.result)) c.partner_from-eb.result c.loop-eb.eb
-    (omega (arith, c.minus.ensures)) (c.partner_from-eb.ensures.1 valid is (c.pairs.invariant.0 valid)).1 (c.loop-eb.invariant.1 valid).2 over in
-    (
+    (omega (arith, c.minus.ensures)) (c.partner_from-eb.ensures.1 valid is (c.pairs.invariant.0 valid)).1 (c.loop-eb.invariant.1 valid).2 over in (
       λ valid. (c.loop-eb.invariant.1 valid).0,
       λ valid none.
           let j = c.args.job in

@@ -54,7 +54,7 @@ returns-then-sum_from-ea c =
     let j : Job = c.args.job in
     let last : Biased = c.span_end-end.result in
     let span_at : (from : Biased) → (Valid j → PassOf j c.args.pass → NoPartner j c.args.ea (field_is 0) from)
-        → (Valid j → PassOf j c.args.pass → SpanIn j c.args.ea (record { from = from; end = last })) × (Valid j → PassOf j c.args.pass → NoneBelow j c.args.ea → SpanOf j c.args.ea (record { from = from; end = last })) =
+    → (Valid j → PassOf j c.args.pass → SpanIn j c.args.ea (record { from = from; end = last })) × (Valid j → PassOf j c.args.pass → NoneBelow j c.args.ea → SpanOf j c.args.ea (record { from = from; end = last })) =
     λ from low. (
       (λ valid is. record { within = omega (arith, c.span_end-end.ensures.0, c.requires.1); meets = λ l. met_at is }),
       (λ valid is none. record { low = low valid is; high = c.span_end-end.ensures.1 valid is none }),
@@ -70,7 +70,7 @@ returns c =
     let j : Job = c.args.job in
     let last : Biased = c.span_end-end.result in
     let span_at : (from : Biased) → (Valid j → PassOf j c.args.pass → NoPartner j c.args.ea (field_is 0) from)
-        → (Valid j → PassOf j c.args.pass → SpanIn j c.args.ea (record { from = from; end = last })) × (Valid j → PassOf j c.args.pass → NoneBelow j c.args.ea → SpanOf j c.args.ea (record { from = from; end = last })) =
+    → (Valid j → PassOf j c.args.pass → SpanIn j c.args.ea (record { from = from; end = last })) × (Valid j → PassOf j c.args.pass → NoneBelow j c.args.ea → SpanOf j c.args.ea (record { from = from; end = last })) =
     λ from low. (
       (λ valid is. record { within = omega (arith, c.span_end-end.ensures.0, c.requires.1); meets = λ l. met_at is }),
       (λ valid is none. record { low = low valid is; high = c.span_end-end.ensures.1 valid is none }),

@@ -21,11 +21,10 @@ overflow_sub-count t c =
     omega (arith, c.if-count-eq0.false)
 
 pub follow_bits-requires : goal.follow_bits-requires
-follow_bits-requires t c =
-    (
-      omega (arith, c.if-count-eq0.false),
-      (c.requires.0, omega (arith, c.requires.1, c.follow_bit-next.ensures.0)),
-    )
+follow_bits-requires t c = (
+  omega (arith, c.if-count-eq0.false),
+  (c.requires.0, omega (arith, c.requires.1, c.follow_bit-next.ensures.0)),
+)
 
 pub returns : goal.returns
 returns t c =

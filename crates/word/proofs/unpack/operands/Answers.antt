@@ -17,8 +17,7 @@ pub operand_of-requires-2 : goal.operand_of-requires-2
 operand_of-requires-2 c = supported_of c.format_cause.ensures c.if-format_cause-ne0.false
 
 pub returns : goal.returns
-returns c =
-    (
-      λ _. (c.operand_of.ensures, c.operand_of-2.ensures ∙ ap (operand_of c.args.format) c.effective-turned.ensures),
-      λ no. absurd (no (supported_of c.format_cause.ensures c.if-format_cause-ne0.false)),
-    )
+returns c = (
+  λ _. (c.operand_of.ensures, c.operand_of-2.ensures ∙ ap (operand_of c.args.format) c.effective-turned.ensures),
+  λ no. absurd (no (supported_of c.format_cause.ensures c.if-format_cause-ne0.false)),
+)
