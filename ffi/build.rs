@@ -1,5 +1,5 @@
-//! Links the static library that `rt staticlib vindacsor` writes, or the one whose whole path the
-//! variable `VINDACSOR_LIBRARY` holds.
+//! Links the static library that `ffi/build-library` builds, or the one whose whole path the variable
+//! `VINDACSOR_LIBRARY` holds.
 
 use std::path::{Path, PathBuf};
 
@@ -11,7 +11,7 @@ fn main() {
     let archive = Path::new(env!("CARGO_MANIFEST_DIR")).join(given);
     assert!(
         archive.is_file(),
-        "{} is missing: run `rt staticlib vindacsor` first",
+        "{} is missing: run `ffi/build-library` first",
         archive.display()
     );
     // The linker goes by the name, which another library need not have.

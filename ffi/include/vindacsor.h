@@ -1,7 +1,7 @@
 /* Vindacsor: a proved generator of test cases for floating-point adders.
  *
- * Link with libvindacsor.a, which `rt staticlib vindacsor` writes. Documents 01 and 02 name the
- * formats, operations, modes, masks, job records and refusals that stand here.
+ * Link with libvindacsor.a, which `ffi/build-library` puts into target/staticlib/. Documents 01
+ * and 02 name the formats, operations, modes, masks, job records and refusals that stand here.
  *
  * Every function returns the number of the refusal, 0 for none, and writes the numbers of its
  * answer to the front of out, which has out_length bytes, each number as eight bytes, low byte

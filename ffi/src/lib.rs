@@ -1,7 +1,7 @@
-//! Vindacsor for Rust: the proved functions of `libvindacsor.a`, which `rt staticlib vindacsor`
-//! writes, behind safe ones. Documents 01 and 02 name the formats, operations, modes, masks, job
-//! records and refusals. A [`Refusal`] says its number in words. [`buffer`] has the functions as
-//! the library has them.
+//! Vindacsor for Rust: the proved functions of `libvindacsor.a`, which `ffi/build-library` builds,
+//! behind safe ones. Documents 01 and 02 name the formats, operations, modes, masks, job records and
+//! refusals. A [`Refusal`] says its number in words. [`buffer`] has the functions as the library has
+//! them.
 //!
 //! w is 2 to 11 exponent bits and f is 2 to 52 fraction bits. Operation 0 adds and 1 subtracts.
 //! Mode 0 is nearest with ties to even, 1 toward zero, 2 up, 3 down, 4 nearest with ties away from

@@ -9,21 +9,26 @@ CRATES = ROOT / "crates"
 
 # `use PATH.{A, B as C}` or `use PATH as A`, of proofs and definitions and, with `ghost`, of code.
 USE = re.compile(r"^(?:ghost )?use (?P<path>[^\s;{]+?)(?:\.\{(?P<names>[^}]*)\})?(?: as (?P<alias>[^\s;]+))?;?$")
-# A module of a crate as another crate names it, or as the crate itself does: Rattle·mask.specs.Join, Rattle·mask·specs.specs.Join.
-MODULE = re.compile(r"Rattle·(?P<crate>[a-z0-9_]+)(?:·[a-z]+)?\.(?P<part>specs|proofs)\.(?P<path>[^\s;,(){}]+)")
+# A module of a crate, as that crate and any other name it: Rattle.mask.specs.Join.
+MODULE = re.compile(r"Rattle\.(?P<crate>[a-z0-9_]+)\.(?P<part>specs|proofs)\.(?P<path>[^\s;,(){}]+)")
 # A word of a definition or a contract: letters, digits and what names have beside them.
-WORD = re.compile(r"[^\s(){}\[\].;,⌜⌝]+")
+WORD = re.compile(r"[^\s(){}\[\].;,]+")
 
 
 def dependencies():
-    """The crates of crates.txt, each with those that it names."""
+    """The crates of crates.txt, each with those that it names; a kind may stand after a crate's name."""
     lines = (line.split("#")[0].strip() for line in (ROOT / "crates.txt").read_text().splitlines())
     pairs = (line.split(":") for line in lines if line)
-    return {name.strip(): deps.split() for name, deps in pairs}
+    return {name.split()[0]: deps.split() for name, deps in pairs}
+
+
+def is_made(path):
+    """Whether a build wrote a file: in a crate's out/, or in a target/."""
+    return not {"out", "target"}.isdisjoint(path.relative_to(ROOT).parts)
 
 
 def files(crate, pattern):
-    return sorted((CRATES / crate).glob(pattern))
+    return sorted(path for path in (CRATES / crate).glob(pattern) if not is_made(path))
 
 
 def shown(path):

@@ -281,10 +281,10 @@ const KINDS_MEAN: &str = "Operation and mode of a job are random, but case 13 is
     or narrow, and c's begin beyond all rounded results of these, by 2^f numbers of the format or \
     up to twice as many, or by one or two; without them there is a case.";
 
-/// What was linked: the library that the toolchain writes, or the file that a variable names.
+/// What was linked: the library that the toolchain builds, or the file that a variable names.
 fn library() -> String {
     match option_env!("VINDACSOR_LIBRARY") {
-        None => "`rt staticlib vindacsor`".to_string(),
+        None => "`ffi/build-library`".to_string(),
         Some(path) => {
             let name = Path::new(path).file_name().unwrap_or_default();
             format!("Another library, `{}`", name.to_string_lossy())

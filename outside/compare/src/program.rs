@@ -6,8 +6,11 @@ use std::sync::mpsc::channel;
 use std::thread;
 use std::time::Duration;
 
-/// The listing program, as `rt check listing` builds it.
-pub const LISTING: &str = concat!(env!("CARGO_MANIFEST_DIR"), "/../../target/bin/listing");
+/// The listing program, where `rt run` in its crate leaves it.
+pub const LISTING: &str = concat!(
+    env!("CARGO_MANIFEST_DIR"),
+    "/../../crates/listing/out/listing"
+);
 
 /// What the listing program prints for a file, which is text where it is as it should be.
 pub fn listed(file: &[u8]) -> String {
