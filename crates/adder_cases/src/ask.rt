@@ -6,6 +6,7 @@ use adder::carry_row::carry_row;
 use adder::result::rounded_result;
 use adder::{Reply, Row, RowReply};
 use format::Format;
+use std::io;
 use tally::{Count, count_line};
 
 const ADD: u64 = 0;
@@ -14,6 +15,7 @@ const SUBTRACT: u64 = 1;
 
 // A rounded result of a format whose words have `digits` hexadecimal digits.
 fn result(
+    rt: &impl Print,
     count: Count,
     format: Format,
     operation: u64,
@@ -22,14 +24,15 @@ fn result(
     b: u64,
     digits: usize,
     expected: Reply,
-) -> Count {
-    ask_result(format, operation, mode, a, b, digits);
+) -> io::Result<Count> {
+    ask_result(rt, format, operation, mode, a, b, digits)?;
     let reply = rounded_result(format, operation, mode, a, b);
-    put_reply(reply, digits);
-    count_line(count, same_reply(reply, expected))
+    put_reply(rt, reply, digits)?;
+    count_line(rt, count, same_reply(reply, expected))
 }
 
 fn row(
+    rt: &impl Print,
     count: Count,
     format: Format,
     operation: u64,
@@ -37,11 +40,11 @@ fn row(
     b: u64,
     digits: usize,
     expected: RowReply,
-) -> Count {
-    ask_row(format, operation, a, b, digits);
+) -> io::Result<Count> {
+    ask_row(rt, format, operation, a, b, digits)?;
     let reply = carry_row(format, operation, a, b);
-    put_row(reply, digits);
-    count_line(count, same_row(reply, expected))
+    put_row(rt, reply, digits)?;
+    count_line(rt, count, same_row(reply, expected))
 }
 
 // The eight-bit format of source document 000.
@@ -49,16 +52,37 @@ fn eight() -> Format {
     Format { w: 3, f: 4 }
 }
 
-pub(crate) fn eight_sum(count: Count, mode: u64, a: u64, b: u64, c: u64) -> Count {
-    result(count, eight(), ADD, mode, a, b, 2, Reply::Word(c))
+pub(crate) fn eight_sum(
+    rt: &impl Print,
+    count: Count,
+    mode: u64,
+    a: u64,
+    b: u64,
+    c: u64,
+) -> io::Result<Count> {
+    result(rt, count, eight(), ADD, mode, a, b, 2, Reply::Word(c))
 }
 
-pub(crate) fn eight_difference(count: Count, mode: u64, a: u64, b: u64, c: u64) -> Count {
-    result(count, eight(), SUBTRACT, mode, a, b, 2, Reply::Word(c))
+pub(crate) fn eight_difference(
+    rt: &impl Print,
+    count: Count,
+    mode: u64,
+    a: u64,
+    b: u64,
+    c: u64,
+) -> io::Result<Count> {
+    result(rt, count, eight(), SUBTRACT, mode, a, b, 2, Reply::Word(c))
 }
 
-pub(crate) fn eight_sum_row(count: Count, a: u64, b: u64, carries: u64) -> Count {
+pub(crate) fn eight_sum_row(
+    rt: &impl Print,
+    count: Count,
+    a: u64,
+    b: u64,
+    carries: u64,
+) -> io::Result<Count> {
     row(
+        rt,
         count,
         eight(),
         ADD,
@@ -69,8 +93,15 @@ pub(crate) fn eight_sum_row(count: Count, a: u64, b: u64, carries: u64) -> Count
     )
 }
 
-pub(crate) fn eight_difference_row(count: Count, a: u64, b: u64, carries: u64) -> Count {
+pub(crate) fn eight_difference_row(
+    rt: &impl Print,
+    count: Count,
+    a: u64,
+    b: u64,
+    carries: u64,
+) -> io::Result<Count> {
     row(
+        rt,
         count,
         eight(),
         SUBTRACT,
@@ -81,16 +112,57 @@ pub(crate) fn eight_difference_row(count: Count, a: u64, b: u64, carries: u64) -
     )
 }
 
-pub(crate) fn eight_difference_no_row(count: Count, a: u64, b: u64) -> Count {
-    row(count, eight(), SUBTRACT, a, b, 2, RowReply::Row(Row::NoRow))
+pub(crate) fn eight_difference_no_row(
+    rt: &impl Print,
+    count: Count,
+    a: u64,
+    b: u64,
+) -> io::Result<Count> {
+    row(
+        rt,
+        count,
+        eight(),
+        SUBTRACT,
+        a,
+        b,
+        2,
+        RowReply::Row(Row::NoRow),
+    )
 }
 
-pub(crate) fn sum(count: Count, z: Sized, mode: u64, a: u64, b: u64, c: u64) -> Count {
-    result(count, z.format, ADD, mode, a, b, z.digits, Reply::Word(c))
-}
-
-pub(crate) fn difference(count: Count, z: Sized, mode: u64, a: u64, b: u64, c: u64) -> Count {
+pub(crate) fn sum(
+    rt: &impl Print,
+    count: Count,
+    z: Sized,
+    mode: u64,
+    a: u64,
+    b: u64,
+    c: u64,
+) -> io::Result<Count> {
     result(
+        rt,
+        count,
+        z.format,
+        ADD,
+        mode,
+        a,
+        b,
+        z.digits,
+        Reply::Word(c),
+    )
+}
+
+pub(crate) fn difference(
+    rt: &impl Print,
+    count: Count,
+    z: Sized,
+    mode: u64,
+    a: u64,
+    b: u64,
+    c: u64,
+) -> io::Result<Count> {
+    result(
+        rt,
         count,
         z.format,
         SUBTRACT,
@@ -103,15 +175,30 @@ pub(crate) fn difference(count: Count, z: Sized, mode: u64, a: u64, b: u64, c: u
 }
 
 // 0 + 0 in a format of these widths: accepted.
-pub(crate) fn accepted(count: Count, w: u64, f: u64) -> Count {
+pub(crate) fn accepted(rt: &impl Print, count: Count, w: u64, f: u64) -> io::Result<Count> {
     let format = Format { w, f };
-    let one = result(count, format, ADD, 0, 0, 0, 8, Reply::Word(0));
-    row(one, format, ADD, 0, 0, 8, RowReply::Row(Row::Carries(0)))
+    let one = result(rt, count, format, ADD, 0, 0, 0, 8, Reply::Word(0))?;
+    row(
+        rt,
+        one,
+        format,
+        ADD,
+        0,
+        0,
+        8,
+        RowReply::Row(Row::Carries(0)),
+    )
 }
 
 // The same, refused with this number.
-pub(crate) fn refused(count: Count, w: u64, f: u64, number: u64) -> Count {
+pub(crate) fn refused(
+    rt: &impl Print,
+    count: Count,
+    w: u64,
+    f: u64,
+    number: u64,
+) -> io::Result<Count> {
     let format = Format { w, f };
-    let one = result(count, format, ADD, 0, 0, 0, 8, Reply::Refused(number));
-    row(one, format, ADD, 0, 0, 8, RowReply::Refused(number))
+    let one = result(rt, count, format, ADD, 0, 0, 0, 8, Reply::Refused(number))?;
+    row(rt, one, format, ADD, 0, 0, 8, RowReply::Refused(number))
 }

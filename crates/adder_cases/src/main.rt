@@ -10,18 +10,22 @@ mod vectors;
 mod words;
 
 use crate::words::Words;
+use std::io;
 use tally::Count;
 
 // The vectors in one format.
-fn vectors_of(count: Count, words: Words) -> Count {
-    vectors::built(vectors::published(count, words), words)
+fn vectors_of(rt: &impl Print, count: Count, words: Words) -> io::Result<Count> {
+    let published = vectors::published(rt, count, words)?;
+    vectors::built(rt, published, words)
 }
 
-fn main() {
+fn main(rt: HostRuntime) -> io::Result<()> {
     let none = Count { lines: 0, wrong: 0 };
-    let document = document::eight_bit_cases(none);
-    let limits = document::limits(document);
-    let single = vectors_of(vectors::eight_bit(limits), words::single());
-    let wider = vectors_of(single, words::wider());
-    tally::put_count(vectors_of(wider, words::double()));
+    let document = document::eight_bit_cases(&rt, none)?;
+    let limits = document::limits(&rt, document)?;
+    let eight = vectors::eight_bit(&rt, limits)?;
+    let single = vectors_of(&rt, eight, words::single())?;
+    let wider = vectors_of(&rt, single, words::wider())?;
+    let double = vectors_of(&rt, wider, words::double())?;
+    tally::put_count(&rt, double)
 }

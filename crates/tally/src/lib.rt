@@ -1,10 +1,10 @@
 // The count of a program's cases, kept line by line.
 #![tactic(auto)]
 
-ghost use Rattle.std.specs.Prelude.{◌≡◌};
+ghost use Rattle.std.specs.Prelude.{◌≡◌, IfOk};
 ghost use Rattle.tally.specs.Count.{counted};
 
-use libc::STDOUT_FILENO;
+use std::io;
 use std::num::wrapping_add_u64;
 
 // How many lines were written, and how many of them say WRONG.
@@ -15,28 +15,25 @@ pub struct Count {
 }
 
 // Ends the line, and counts it.
-pub fn count_line(count: Count, ok: bool) -> Count
-    ensures { result ≡ counted count ok }
+pub fn count_line(rt: &impl Print, count: Count, ok: bool) -> io::Result<Count>
+    ensures { IfOk result (λ r. r ≡ counted count ok) }
 {
     let lines = wrapping_add_u64(count.lines, 1);
     if ok {
-        io::write_all(STDOUT_FILENO, b" ok\n");
-        Count {
+        println!(rt; " ok")?;
+        Ok(Count {
             lines,
             wrong: count.wrong,
-        }
+        })
     } else {
-        io::write_all(STDOUT_FILENO, b" WRONG\n");
-        Count {
+        println!(rt; " WRONG")?;
+        Ok(Count {
             lines,
             wrong: wrapping_add_u64(count.wrong, 1),
-        }
+        })
     }
 }
 
-pub fn put_count(count: Count) {
-    io::print_decimal(STDOUT_FILENO, count.lines);
-    io::write_all(STDOUT_FILENO, b" cases, ");
-    io::print_decimal(STDOUT_FILENO, count.wrong);
-    io::write_all(STDOUT_FILENO, b" wrong\n");
+pub fn put_count(rt: &impl Print, count: Count) -> io::Result<()> {
+    println!(rt; "{} cases, {} wrong", count.lines, count.wrong)
 }
