@@ -86,20 +86,12 @@ pub(crate) fn eight_bit_cases(rt: &impl Print, count: Count) -> io::Result<Count
 
 // 12, as W-202 moves it. w = 2 and 11 accepted, 1 and 12 refused; f = 2 and 52 accepted, 1 and 53 refused.
 pub(crate) fn limits(rt: &impl Print, count: Count) -> io::Result<Count> {
-    let one = accepted(rt, accepted(rt, count, 2, 4)?, 11, 4)?;
-    let two = refused(
-        rt,
-        refused(rt, one, 1, 4, cause::EXPONENT_BITS)?,
-        12,
-        4,
-        cause::EXPONENT_BITS,
-    )?;
-    let three = accepted(rt, accepted(rt, two, 3, 2)?, 3, 52)?;
-    refused(
-        rt,
-        refused(rt, three, 3, 1, cause::FRACTION_BITS)?,
-        3,
-        53,
-        cause::FRACTION_BITS,
-    )
+    let one = accepted(rt, count, 2, 4)?;
+    let two = accepted(rt, one, 11, 4)?;
+    let three = refused(rt, two, 1, 4, cause::EXPONENT_BITS)?;
+    let four = refused(rt, three, 12, 4, cause::EXPONENT_BITS)?;
+    let five = accepted(rt, four, 3, 2)?;
+    let six = accepted(rt, five, 3, 52)?;
+    let seven = refused(rt, six, 3, 1, cause::FRACTION_BITS)?;
+    refused(rt, seven, 3, 53, cause::FRACTION_BITS)
 }

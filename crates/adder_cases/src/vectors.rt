@@ -120,7 +120,8 @@ pub(crate) fn built(rt: &impl Print, count: Count, n: Words) -> io::Result<Count
     let tied = ties(rt, far, z, n.unity, n.half)?;
     let next = carried(rt, tied, z, n.two, n.half)?;
     let out = overflowing(rt, next, z, n.infinity, n.half_of_largest)?;
-    binades(rt, smallest_step(rt, out, z, n.infinity)?, z, n.normal)
+    let stepped = smallest_step(rt, out, z, n.infinity)?;
+    binades(rt, stepped, z, n.normal)
 }
 
 // Of the eight-bit format: the sum that source document 000 prints; and built, 60 - 10, where rounding up does not give a.
