@@ -9,7 +9,7 @@ use crate::compare::{Precision, Verdict, compared, format_of};
 use crate::pairs::{Draw, Pair};
 use bits::minus;
 use format::Format;
-use libc::STDOUT_FILENO;
+use std::io;
 
 const PAIRS: u64 = 16384;
 
@@ -94,27 +94,28 @@ fn one_more(precision: Precision, class: u64, run: Run) -> Run {
     }
 }
 
-fn put_class(class: u64) {
+fn class_name(class: u64) -> &'static str {
     match class {
-        0 => io::write_all(STDOUT_FILENO, b"any words"),
-        1 => io::write_all(STDOUT_FILENO, b"exponents 0 to 7 apart"),
-        2 => io::write_all(STDOUT_FILENO, b"exponents p - 4 to p + 3 apart"),
-        3 => io::write_all(STDOUT_FILENO, b"ties and near ties"),
-        4 => io::write_all(STDOUT_FILENO, b"cancellations"),
-        5 => io::write_all(STDOUT_FILENO, b"subnormal and least normal"),
-        6 => io::write_all(STDOUT_FILENO, b"largest and overflowing"),
-        _ => io::write_all(STDOUT_FILENO, b"zeros, infinities and NaNs"),
-    };
+        0 => "any words",
+        1 => "exponents 0 to 7 apart",
+        2 => "exponents p - 4 to p + 3 apart",
+        3 => "ties and near ties",
+        4 => "cancellations",
+        5 => "subnormal and least normal",
+        6 => "largest and overflowing",
+        _ => "zeros, infinities and NaNs",
+    }
 }
 
-fn put_tally(tally: Tally) {
-    io::write_all(STDOUT_FILENO, b": ");
-    io::print_decimal(STDOUT_FILENO, tally.equal);
-    io::write_all(STDOUT_FILENO, b" equal, ");
-    io::print_decimal(STDOUT_FILENO, tally.nan);
-    io::write_all(STDOUT_FILENO, b" NaN, ");
-    io::print_decimal(STDOUT_FILENO, tally.unlike);
-    io::write_all(STDOUT_FILENO, b" unlike\n");
+fn put_class(rt: &impl Print, class: u64) -> io::Result<()> {
+    print!(rt; "{}", class_name(class))
+}
+
+fn put_tally(rt: &impl Print, tally: Tally) -> io::Result<()> {
+    println!(rt;
+        ": {} equal, {} NaN, {} unlike",
+        tally.equal, tally.nan, tally.unlike
+    )
 }
 
 fn summed(one: Tally, other: Tally) -> Tally {
@@ -126,36 +127,41 @@ fn summed(one: Tally, other: Tally) -> Tally {
 }
 
 // A line for a class, and the run so far with it.
-fn show_class(precision: Precision, class: u64, before: Run) -> Run {
+fn show_class(rt: &impl Print, precision: Precision, class: u64, before: Run) -> io::Result<Run> {
     let run = run_class(precision, class, before.state);
-    put_class(class);
-    put_tally(run.tally);
-    Run {
+    put_class(rt, class)?;
+    put_tally(rt, run.tally)?;
+    Ok(Run {
         state: run.state,
         tally: summed(before.tally, run.tally),
+    })
+}
+
+fn put_precision(rt: &impl Print, precision: Precision) -> io::Result<()> {
+    match precision {
+        Precision::Single => println!(rt; "single precision"),
+        Precision::Double => println!(rt; "double precision"),
     }
 }
 
-fn put_precision(precision: Precision) {
-    match precision {
-        Precision::Single => io::write_all(STDOUT_FILENO, b"single precision\n"),
-        Precision::Double => io::write_all(STDOUT_FILENO, b"double precision\n"),
-    };
-}
-
 // The lines of all classes and of their sum, and the generator's state after them.
-fn show(precision: Precision, state: u64) -> u64 {
-    put_precision(precision);
-    let near = show_class(precision, 1, show_class(precision, 0, start(state)));
-    let far = show_class(precision, 3, show_class(precision, 2, near));
-    let small = show_class(precision, 5, show_class(precision, 4, far));
-    let all = show_class(precision, 7, show_class(precision, 6, small));
-    io::write_all(STDOUT_FILENO, b"all pairs");
-    put_tally(all.tally);
-    all.state
+fn show(rt: &impl Print, precision: Precision, state: u64) -> io::Result<u64> {
+    put_precision(rt, precision)?;
+    let any = show_class(rt, precision, 0, start(state))?;
+    let near = show_class(rt, precision, 1, any)?;
+    let far = show_class(rt, precision, 2, near)?;
+    let tied = show_class(rt, precision, 3, far)?;
+    let cancelled = show_class(rt, precision, 4, tied)?;
+    let small = show_class(rt, precision, 5, cancelled)?;
+    let large = show_class(rt, precision, 6, small)?;
+    let all = show_class(rt, precision, 7, large)?;
+    print!(rt; "all pairs")?;
+    put_tally(rt, all.tally)?;
+    Ok(all.state)
 }
 
-fn main() {
-    let state = show(Precision::Single, 88172645463325252);
-    show(Precision::Double, state);
+fn main(rt: HostRuntime) -> io::Result<()> {
+    let state = show(&rt, Precision::Single, 88172645463325252)?;
+    show(&rt, Precision::Double, state)?;
+    Ok(())
 }
