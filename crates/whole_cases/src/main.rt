@@ -1,8 +1,8 @@
 // The whole-number generator on document 01's case 11, on fixed jobs of the lengths 31 and 32, and on one job for each refusal.
 #![tactic(auto)]
 
-use libc::STDOUT_FILENO;
 use mask::Mask;
+use std::io;
 use whole::{Case, Job, Masks, Reply, Words};
 
 fn free() -> Mask {
@@ -26,113 +26,126 @@ fn words(x: u64, y: u64, z: u64) -> Words {
     Words { x, y, z }
 }
 
-fn show_case(c: Case) {
-    io::write_all(STDOUT_FILENO, b"found ");
-    io::print_hex(STDOUT_FILENO, c.x, 8);
-    io::write_all(STDOUT_FILENO, b" ");
-    io::print_hex(STDOUT_FILENO, c.y, 8);
-    io::write_all(STDOUT_FILENO, b" ");
-    io::print_hex(STDOUT_FILENO, c.z, 8);
-    io::write_all(STDOUT_FILENO, b" ");
-    io::print_hex(STDOUT_FILENO, c.carries, 9);
-    io::write_all(STDOUT_FILENO, b"\n");
+fn show_case(rt: &impl Print, c: Case) -> io::Result<()> {
+    println!(rt;
+        "found {:08x} {:08x} {:08x} {:09x}",
+        c.x, c.y, c.z, c.carries
+    )
 }
 
-fn show(reply: Reply) {
-    match reply {
-        Reply::Found(c) => show_case(c),
-        Reply::Refused(k) => {
-            io::write_all(STDOUT_FILENO, b"refused ");
-            io::print_decimal(STDOUT_FILENO, k);
-            io::write_all(STDOUT_FILENO, b"\n");
-        }
+// A line for a job: the reply to it.
+fn show(rt: &impl Print, job: Job) -> io::Result<()> {
+    match whole::generate(job) {
+        Reply::Found(c) => show_case(rt, c),
+        Reply::Refused(k) => println!(rt; "refused {k}"),
     }
 }
 
 // Document 01, case 11.
-fn show_case_11() {
-    show(whole::generate(job(
-        2,
-        fixed(3, 3),
-        fixed(3, 1),
-        free(),
-        fixed(1, 0),
-        words(0, 0, 0),
-    )));
+fn show_case_11(rt: &impl Print) -> io::Result<()> {
+    show(
+        rt,
+        job(
+            2,
+            fixed(3, 3),
+            fixed(3, 1),
+            free(),
+            fixed(1, 0),
+            words(0, 0, 0),
+        ),
+    )
 }
 
-fn show_length_32() {
-    show(whole::generate(job(
-        32,
-        free(),
-        free(),
-        free(),
-        free(),
-        words(0xdead_beef, 0xcafe_babe, 0x1234_5678),
-    )));
-    show(whole::generate(job(
-        32,
-        fixed(0xffff_ffff, 0xffff_ffff),
-        fixed(0xffff_ffff, 1),
-        free(),
-        fixed(1, 0),
-        words(0, 0, 0),
-    )));
+fn show_length_32(rt: &impl Print) -> io::Result<()> {
+    show(
+        rt,
+        job(
+            32,
+            free(),
+            free(),
+            free(),
+            free(),
+            words(0xdead_beef, 0xcafe_babe, 0x1234_5678),
+        ),
+    )?;
+    show(
+        rt,
+        job(
+            32,
+            fixed(0xffff_ffff, 0xffff_ffff),
+            fixed(0xffff_ffff, 1),
+            free(),
+            fixed(1, 0),
+            words(0, 0, 0),
+        ),
+    )?;
     // A carry out of x = 0: only y all ones with a carry in.
-    show(whole::generate(job(
-        32,
-        fixed(0xffff_ffff, 0),
-        free(),
-        free(),
-        fixed(0x1_0000_0000, 0x1_0000_0000),
-        words(0, 0, 0),
-    )));
+    show(
+        rt,
+        job(
+            32,
+            fixed(0xffff_ffff, 0),
+            free(),
+            free(),
+            fixed(0x1_0000_0000, 0x1_0000_0000),
+            words(0, 0, 0),
+        ),
+    )
 }
 
-fn show_length_31() {
-    show(whole::generate(job(
-        31,
-        fixed(0x5555_5555, 0x5050_5050),
-        fixed(0x0f0f_0f0f, 0x0a05_0a05),
-        fixed(0x7000_0001, 0x2000_0001),
-        fixed(0x8000_8080, 0x8000_0080),
-        words(0x1234_5678, 0x0bad_f00d, 0x7fff_ffff),
-    )));
-    show(whole::generate(job(
-        31,
-        fixed(0x7fff_ffff, 0),
-        fixed(0x7fff_ffff, 0),
-        fixed(0x4000_0000, 0x4000_0000),
-        free(),
-        words(0, 0, 0),
-    )));
+fn show_length_31(rt: &impl Print) -> io::Result<()> {
+    show(
+        rt,
+        job(
+            31,
+            fixed(0x5555_5555, 0x5050_5050),
+            fixed(0x0f0f_0f0f, 0x0a05_0a05),
+            fixed(0x7000_0001, 0x2000_0001),
+            fixed(0x8000_8080, 0x8000_0080),
+            words(0x1234_5678, 0x0bad_f00d, 0x7fff_ffff),
+        ),
+    )?;
+    show(
+        rt,
+        job(
+            31,
+            fixed(0x7fff_ffff, 0),
+            fixed(0x7fff_ffff, 0),
+            fixed(0x4000_0000, 0x4000_0000),
+            free(),
+            words(0, 0, 0),
+        ),
+    )
 }
 
-fn show_refused() {
-    show(whole::generate(job(0, fixed(1, 3), free(), free(), free(), words(4, 0, 0))));
-    show(whole::generate(job(33, free(), free(), free(), free(), words(0, 0, 0))));
-    show(whole::generate(job(2, free(), free(), free(), free(), words(0, 0, 4))));
+fn show_refused(rt: &impl Print) -> io::Result<()> {
+    show(
+        rt,
+        job(0, fixed(1, 3), free(), free(), free(), words(4, 0, 0)),
+    )?;
+    show(rt, job(33, free(), free(), free(), free(), words(0, 0, 0)))?;
+    show(rt, job(2, free(), free(), free(), free(), words(0, 0, 4)))
 }
 
 // The reply for masks of a length of 2, with a word that is too long.
-fn show_masks(x: Mask, y: Mask, z: Mask, carries: Mask) {
-    show(whole::generate(job(2, x, y, z, carries, words(4, 0, 0))));
+fn show_masks(rt: &impl Print, x: Mask, y: Mask, z: Mask, carries: Mask) -> io::Result<()> {
+    show(rt, job(2, x, y, z, carries, words(4, 0, 0)))
 }
 
 // Of malformed masks the first is named, and the word where there is none.
-fn show_malformed() {
-    show_masks(fixed(4, 0), fixed(4, 0), fixed(4, 0), fixed(8, 0));
-    show_masks(free(), fixed(1, 3), fixed(1, 3), fixed(8, 0));
-    show_masks(free(), free(), fixed(4, 0), fixed(8, 0));
-    show_masks(free(), free(), free(), fixed(8, 0));
-    show_masks(free(), free(), free(), fixed(7, 7));
+fn show_malformed(rt: &impl Print) -> io::Result<()> {
+    show_masks(rt, fixed(4, 0), fixed(4, 0), fixed(4, 0), fixed(8, 0))?;
+    show_masks(rt, free(), fixed(1, 3), fixed(1, 3), fixed(8, 0))?;
+    show_masks(rt, free(), free(), fixed(4, 0), fixed(8, 0))?;
+    show_masks(rt, free(), free(), free(), fixed(8, 0))?;
+    show_masks(rt, free(), free(), free(), fixed(7, 7))
 }
 
-fn main() {
-    show_case_11();
-    show_length_32();
-    show_length_31();
-    show_refused();
-    show_malformed();
-    io::write_all(STDOUT_FILENO, b"end\n");
+fn main(rt: HostRuntime) -> io::Result<()> {
+    show_case_11(&rt)?;
+    show_length_32(&rt)?;
+    show_length_31(&rt)?;
+    show_refused(&rt)?;
+    show_malformed(&rt)?;
+    println!(rt; "end")
 }
