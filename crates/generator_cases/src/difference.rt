@@ -4,6 +4,7 @@
 use crate::jobs::{asked, dropping, found, free, mask, numbers};
 use format::Format;
 use job::words::masked_job;
+use std::io;
 use tally::Count;
 
 const SUBTRACT: u64 = 1;
@@ -22,29 +23,39 @@ struct Words {
 }
 
 // A line: c is 1 where the difference is rounded up, else the number before it.
-fn line(count: Count, words: Words, mode: u64, bits: u64, b: u64, up: bool) -> Count {
+fn line(
+    rt: &impl Print,
+    count: Count,
+    words: Words,
+    mode: u64,
+    bits: u64,
+    b: u64,
+    up: bool,
+) -> io::Result<Count> {
     let setting = numbers(words.format.w, words.format.f, SUBTRACT, mode);
     let one = mask(words.all, words.one);
     let near = mask(words.all / 4 * 4, b / 4 * 4);
     let job = masked_job(setting, one, near, free(), free());
     let c = if up { words.one } else { words.down };
     let expected = found(words.one, b, c, words.borrows);
-    asked(count, dropping(job, 8, 0x1FF, bits), 0, 0, expected)
+    asked(rt, count, dropping(job, 8, 0x1FF, bits), 0, 0, expected)
 }
 
 // The tie, the number after it and the one before it: 1 has the even significand of the two that a tie lies between.
-fn near(count: Count, words: Words, mode: u64) -> Count {
+fn near(rt: &impl Print, count: Count, words: Words, mode: u64) -> io::Result<Count> {
     let up = mode == 2;
     let nearest = (mode == 0) | (mode == 4);
-    let tie = line(count, words, mode, 0x100, words.quarter, up | nearest);
-    let less = line(tie, words, mode, 0x0FF, words.quarter | 1, up);
-    line(less, words, mode, 0x101, words.before, up | nearest)
+    let tie = line(rt, count, words, mode, 0x100, words.quarter, up | nearest)?;
+    let less = line(rt, tie, words, mode, 0x0FF, words.quarter | 1, up)?;
+    line(rt, less, words, mode, 0x101, words.before, up | nearest)
 }
 
-fn every_mode(count: Count, words: Words) -> Count {
-    let one = near(near(count, words, 0), words, 1);
-    let three = near(near(one, words, 2), words, 3);
-    near(three, words, 4)
+fn every_mode(rt: &impl Print, count: Count, words: Words) -> io::Result<Count> {
+    let one = near(rt, count, words, 0)?;
+    let two = near(rt, one, words, 1)?;
+    let three = near(rt, two, words, 2)?;
+    let four = near(rt, three, words, 3)?;
+    near(rt, four, words, 4)
 }
 
 fn single() -> Words {
@@ -71,6 +82,7 @@ fn double() -> Words {
     }
 }
 
-pub(crate) fn ties(count: Count) -> Count {
-    every_mode(every_mode(count, single()), double())
+pub(crate) fn ties(rt: &impl Print, count: Count) -> io::Result<Count> {
+    let one = every_mode(rt, count, single())?;
+    every_mode(rt, one, double())
 }

@@ -8,6 +8,7 @@ use generator::{Case, Reply};
 use job::words::{masked_job, wanted, with_wanted};
 use job::{Dropped, Job, Role, Setting, Wanted};
 use mask::Mask;
+use std::io;
 use tally::{Count, count_line};
 
 const ADD: u64 = 0;
@@ -86,14 +87,28 @@ pub(crate) fn none() -> Reply {
 }
 
 // A line: the generator is asked, and its reply held against the one expected.
-pub(crate) fn asked(count: Count, job: Job, r1: u64, r2: u64, expected: Reply) -> Count {
-    ask(job, r1, r2);
+pub(crate) fn asked(
+    rt: &impl Print,
+    count: Count,
+    job: Job,
+    r1: u64,
+    r2: u64,
+    expected: Reply,
+) -> io::Result<Count> {
+    ask(rt, job, r1, r2)?;
     let reply = generator::generate(job, r1, r2);
-    put_reply(reply);
-    count_line(count, same_reply(reply, expected))
+    put_reply(rt, reply)?;
+    count_line(rt, count, same_reply(reply, expected))
 }
 
 // Words 0, 0 and words 4D, 0.
-pub(crate) fn both_words(count: Count, job: Job, zeros: Reply, others: Reply) -> Count {
-    asked(asked(count, job, 0, 0, zeros), job, 0x4D, 0, others)
+pub(crate) fn both_words(
+    rt: &impl Print,
+    count: Count,
+    job: Job,
+    zeros: Reply,
+    others: Reply,
+) -> io::Result<Count> {
+    let one = asked(rt, count, job, 0, 0, zeros)?;
+    asked(rt, one, job, 0x4D, 0, others)
 }

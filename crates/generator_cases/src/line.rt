@@ -3,100 +3,73 @@ use adder::Row;
 use bounds::Bounds;
 use generator::{Case, Reply};
 use job::{Dropped, Job, Wanted};
-use libc::STDOUT_FILENO;
 use mask::Mask;
-
-// A space and a word, in the digits of the widest.
-fn put_word(word: u64) {
-    io::write_all(STDOUT_FILENO, b" ");
-    io::print_hex(STDOUT_FILENO, word, 16);
-}
+use std::io;
 
 // The care and the value of the mask of this name; nothing where both are 0.
-fn put_mask(name: &[u8], m: Mask) {
+fn put_mask(rt: &impl Print, name: &str, m: Mask) -> io::Result<()> {
     if (m.care == 0) & (m.value == 0) {
-        return;
+        return Ok(());
     }
-    io::write_all(STDOUT_FILENO, name);
-    put_word(m.care);
-    put_word(m.value);
+    print!(rt; " {name} {:016x} {:016x}", m.care, m.value)
 }
 
 // The bounds of the word of this name; nothing where none are stated.
-fn put_bounds(name: &[u8], w: Wanted) {
-    let bounds = w.bounds;
-    match bounds {
-        Bounds::Unbounded => {}
+fn put_bounds(rt: &impl Print, name: &str, w: Wanted) -> io::Result<()> {
+    match w.bounds {
+        Bounds::Unbounded => Ok(()),
         Bounds::Between(ends) => {
-            io::write_all(STDOUT_FILENO, name);
-            put_word(ends.low);
-            put_word(ends.high);
+            print!(rt; " {name} within {:016x} {:016x}", ends.low, ends.high)
         }
     }
 }
 
 // g, and the care and the value of its mask; nothing where all are 0.
-fn put_dropped(dropped: Dropped) {
-    if (dropped.g == 0) & (dropped.mask.care == 0) & (dropped.mask.value == 0) {
-        return;
+fn put_dropped(rt: &impl Print, dropped: Dropped) -> io::Result<()> {
+    let mask = dropped.mask;
+    if (dropped.g == 0) & (mask.care == 0) & (mask.value == 0) {
+        return Ok(());
     }
-    io::write_all(STDOUT_FILENO, b" dropped ");
-    io::print_decimal(STDOUT_FILENO, dropped.g);
-    put_word(dropped.mask.care);
-    put_word(dropped.mask.value);
+    print!(rt;
+        " dropped {} {:016x} {:016x}",
+        dropped.g, mask.care, mask.value
+    )
 }
 
-fn put_numbers(job: Job) {
-    io::write_all(STDOUT_FILENO, b"w ");
-    io::print_decimal(STDOUT_FILENO, job.setting.format.w);
-    io::write_all(STDOUT_FILENO, b" f ");
-    io::print_decimal(STDOUT_FILENO, job.setting.format.f);
-    io::write_all(STDOUT_FILENO, b" operation ");
-    io::print_decimal(STDOUT_FILENO, job.setting.operation);
-    io::write_all(STDOUT_FILENO, b" mode ");
-    io::print_decimal(STDOUT_FILENO, job.setting.mode);
+fn put_numbers(rt: &impl Print, job: Job) -> io::Result<()> {
+    let setting = job.setting;
+    print!(rt; "w {} f {}", setting.format.w, setting.format.f)?;
+    print!(rt; " operation {} mode {}", setting.operation, setting.mode)
 }
 
-pub(crate) fn ask(job: Job, r1: u64, r2: u64) {
-    put_numbers(job);
-    put_mask(b" a", job.a.mask);
-    put_mask(b" b", job.b.mask);
-    put_mask(b" c", job.c.mask);
-    put_mask(b" carries", job.carries);
-    put_dropped(job.dropped);
-    put_bounds(b" a within", job.a);
-    put_bounds(b" b within", job.b);
-    put_bounds(b" c within", job.c);
-    io::write_all(STDOUT_FILENO, b" words");
-    put_word(r1);
-    put_word(r2);
-    io::write_all(STDOUT_FILENO, b":");
+pub(crate) fn ask(rt: &impl Print, job: Job, r1: u64, r2: u64) -> io::Result<()> {
+    put_numbers(rt, job)?;
+    put_mask(rt, "a", job.a.mask)?;
+    put_mask(rt, "b", job.b.mask)?;
+    put_mask(rt, "c", job.c.mask)?;
+    put_mask(rt, "carries", job.carries)?;
+    put_dropped(rt, job.dropped)?;
+    put_bounds(rt, "a", job.a)?;
+    put_bounds(rt, "b", job.b)?;
+    put_bounds(rt, "c", job.c)?;
+    print!(rt; " words {r1:016x} {r2:016x}:")
 }
 
-fn put_row(row: Row) {
+fn put_row(rt: &impl Print, row: Row) -> io::Result<()> {
     match row {
-        Row::Carries(carries) => put_word(carries),
-        Row::NoRow => {
-            io::write_all(STDOUT_FILENO, b" -");
-        }
+        Row::Carries(carries) => print!(rt; " {carries:016x}"),
+        Row::NoRow => print!(rt; " -"),
     }
 }
 
-fn put_case(x: Case) {
-    io::write_all(STDOUT_FILENO, b" found");
-    put_word(x.a);
-    put_word(x.b);
-    put_word(x.c);
-    let row = x.row;
-    put_row(row);
+fn put_case(rt: &impl Print, x: Case) -> io::Result<()> {
+    print!(rt; " found {:016x} {:016x} {:016x}", x.a, x.b, x.c)?;
+    put_row(rt, x.row)
 }
 
-pub(crate) fn put_reply(reply: Reply) {
+pub(crate) fn put_reply(rt: &impl Print, reply: Reply) -> io::Result<()> {
     match reply {
-        Reply::Found(x) => put_case(x),
-        Reply::Refused(number) => {
-            io::write_all(STDOUT_FILENO, b" refused ");
-            io::print_decimal(STDOUT_FILENO, number);
-        }
+        Reply::Found(x) => put_case(rt, x),
+        Reply::Refused(number) => print!(rt; " refused {number}"),
     }
 }

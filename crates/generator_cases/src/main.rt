@@ -11,17 +11,23 @@ mod line;
 mod near;
 mod same;
 
+use std::io;
 use tally::Count;
 
-fn main() {
+fn main(rt: HostRuntime) -> io::Result<()> {
     let none = Count { lines: 0, wrong: 0 };
-    let masked = document::carry_fixed(document::masked_cases(none));
-    let limits = document::limits(masked);
-    let signs = document::impossible_signs(limits);
-    let double = document::double_tie(signs);
-    let borrows = document::borrows(double);
-    let ties = difference::ties(near::ties(borrows));
-    let stated = bounded::stated(dropped::stated(ties));
-    let refused = dropped::malformed(document::bad_input(stated));
-    tally::put_count(bounded::malformed(refused));
+    let masked = document::masked_cases(&rt, none)?;
+    let fixed = document::carry_fixed(&rt, masked)?;
+    let limits = document::limits(&rt, fixed)?;
+    let signs = document::impossible_signs(&rt, limits)?;
+    let double = document::double_tie(&rt, signs)?;
+    let borrows = document::borrows(&rt, double)?;
+    let near = near::ties(&rt, borrows)?;
+    let ties = difference::ties(&rt, near)?;
+    let dropped = dropped::stated(&rt, ties)?;
+    let stated = bounded::stated(&rt, dropped)?;
+    let refused = document::bad_input(&rt, stated)?;
+    let malformed = dropped::malformed(&rt, refused)?;
+    let all = bounded::malformed(&rt, malformed)?;
+    tally::put_count(&rt, all)
 }

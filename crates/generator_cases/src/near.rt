@@ -3,6 +3,7 @@
 use crate::jobs::{adding, asked, dropping, found, free, mask, none};
 use format::Format;
 use job::words::masked_job;
+use std::io;
 use tally::Count;
 
 // A format, the greatest word of it, the mode that rounds away from zero, and the words of 1, of half a unit of 1's last place, of the number
@@ -36,7 +37,13 @@ struct Sum {
 }
 
 // A line: b is the number, but for its last two bits.
-fn line(count: Count, words: Words, question: Question, sum: Sum) -> Count {
+fn line(
+    rt: &impl Print,
+    count: Count,
+    words: Words,
+    question: Question,
+    sum: Sum,
+) -> io::Result<Count> {
     let setting = adding(words.format.w, words.format.f, question.mode);
     let one = mask(words.all, words.one);
     let near = mask(words.all / 4 * 4, sum.b / 4 * 4);
@@ -47,7 +54,7 @@ fn line(count: Count, words: Words, question: Question, sum: Sum) -> Count {
         none()
     };
     let job = dropping(job, question.g, question.bits, sum.value);
-    asked(count, job, 0, 0, expected)
+    asked(rt, count, job, 0, 0, expected)
 }
 
 fn one_if(is: bool) -> u64 {
@@ -117,22 +124,29 @@ fn inexact(words: Words, mode: u64) -> Sum {
 }
 
 // The sticky bit alone.
-fn sticky(count: Count, words: Words, mode: u64) -> Count {
+fn sticky(rt: &impl Print, count: Count, words: Words, mode: u64) -> io::Result<Count> {
     let question = Question {
         mode,
         g: 0,
         bits: 1,
     };
-    let one = line(count, words, question, exact(words));
-    line(one, words, question, inexact(words, mode))
+    let one = line(rt, count, words, question, exact(words))?;
+    line(rt, one, words, question, inexact(words, mode))
 }
 
 // A tie, and the numbers next to it.
-fn near(count: Count, words: Words, mode: u64, g: u64, bits: u64) -> Count {
+fn near(
+    rt: &impl Print,
+    count: Count,
+    words: Words,
+    mode: u64,
+    g: u64,
+    bits: u64,
+) -> io::Result<Count> {
     let question = Question { mode, g, bits };
-    let one = line(count, words, question, tie(words, question));
-    let two = line(one, words, question, after_tie(words, question));
-    line(two, words, question, before_tie(words, question))
+    let one = line(rt, count, words, question, tie(words, question))?;
+    let two = line(rt, one, words, question, after_tie(words, question))?;
+    line(rt, two, words, question, before_tie(words, question))
 }
 
 // The same words with the sign -.
@@ -148,19 +162,25 @@ fn negative(words: Words) -> Words {
 }
 
 // Each g, the odd ones with the sign -.
-fn every_g(count: Count, words: Words, mode: u64) -> Count {
+fn every_g(rt: &impl Print, count: Count, words: Words, mode: u64) -> io::Result<Count> {
     let less = negative(words);
-    let none = sticky(count, words, mode);
-    let two = near(near(none, less, mode, 1, 0x3), words, mode, 2, 0x7);
-    let four = near(near(two, less, mode, 3, 0xF), words, mode, 4, 0x1F);
-    let six = near(near(four, less, mode, 5, 0x3F), words, mode, 6, 0x7F);
-    near(near(six, less, mode, 7, 0xFF), words, mode, 8, 0x1FF)
+    let none = sticky(rt, count, words, mode)?;
+    let one = near(rt, none, less, mode, 1, 0x3)?;
+    let two = near(rt, one, words, mode, 2, 0x7)?;
+    let three = near(rt, two, less, mode, 3, 0xF)?;
+    let four = near(rt, three, words, mode, 4, 0x1F)?;
+    let five = near(rt, four, less, mode, 5, 0x3F)?;
+    let six = near(rt, five, words, mode, 6, 0x7F)?;
+    let seven = near(rt, six, less, mode, 7, 0xFF)?;
+    near(rt, seven, words, mode, 8, 0x1FF)
 }
 
-fn every_mode(count: Count, words: Words) -> Count {
-    let one = every_g(every_g(count, words, 0), words, 1);
-    let three = every_g(every_g(one, words, 2), words, 3);
-    every_g(three, words, 4)
+fn every_mode(rt: &impl Print, count: Count, words: Words) -> io::Result<Count> {
+    let one = every_g(rt, count, words, 0)?;
+    let two = every_g(rt, one, words, 1)?;
+    let three = every_g(rt, two, words, 2)?;
+    let four = every_g(rt, three, words, 3)?;
+    every_g(rt, four, words, 4)
 }
 
 fn small() -> Words {
@@ -199,6 +219,8 @@ fn double() -> Words {
     }
 }
 
-pub(crate) fn ties(count: Count) -> Count {
-    every_mode(every_mode(every_mode(count, small()), single()), double())
+pub(crate) fn ties(rt: &impl Print, count: Count) -> io::Result<Count> {
+    let one = every_mode(rt, count, small())?;
+    let two = every_mode(rt, one, single())?;
+    every_mode(rt, two, double())
 }
