@@ -1,23 +1,26 @@
-// The listing of a job file on standard output.
+// The listing of a job file on a stream.
 #![tactic(auto)]
 
-use libc::STDOUT_FILENO;
+ghost use Rattle.std.specs.Prelude.{OnOk};
+ghost use Rattle.print.specs.Printed.{Prints};
+
 use lines::{Then, first_place, next_line};
+use std::io;
+use std::io::Write;
 
 // Writes the listing, line by line as the lines are found, and stops where a line cannot be written.
-pub fn print_listing(file: &[u8]) {
+pub fn print_listing<W: Write>(out: &mut W, file: &[u8]) -> io::Result<()>
+    ensures { OnOk result (Prints file.now (W.contents out.old) (W.contents out.new)) }
+{
     let mut place = first_place();
     loop {
         let step = next_line(file, place);
         let bytes = step.line.bytes;
         let n = step.line.len;
-        if !io::write_all(STDOUT_FILENO, &bytes[..n]) {
-            return;
-        }
-        let then = step.then;
-        match then {
+        out.write_all(&bytes[..n])?;
+        match step.then {
             Then::On(next) => place = next,
-            Then::Done => return,
+            Then::Done => return Ok(()),
         }
     }
 }

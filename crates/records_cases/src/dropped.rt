@@ -3,37 +3,45 @@ use crate::{reading, writing};
 use job::Dropped;
 use layout::Entry;
 use mask::Mask;
+use std::io;
 
 // Records of format 3/4 with map bit 6.
-pub(crate) fn read() {
+pub(crate) fn read(rt: &impl Print) -> io::Result<()> {
     // three dropped bits and the sticky bit fixed, then the most that there are, then the sticky bit alone
-    reading::show(b"\x40\x03\x04\x00\x03\x0f\x00\x09\x00");
-    reading::show(b"\x40\x03\x04\x00\x08\xff\x01\x01\x01");
-    reading::show(b"\x40\x03\x04\x00\x00\x01\x00\x00\x00");
+    reading::show(rt, b"\x40\x03\x04\x00\x03\x0f\x00\x09\x00")?;
+    reading::show(rt, b"\x40\x03\x04\x00\x08\xff\x01\x01\x01")?;
+    reading::show(rt, b"\x40\x03\x04\x00\x00\x01\x00\x00\x00")?;
     // cut short
-    reading::show(b"\x40\x03\x04\x00\x03\x0f\x00\x09");
+    reading::show(rt, b"\x40\x03\x04\x00\x03\x0f\x00\x09")?;
     // g above 8, also where no bit is fixed; a bit above the g + 1 bits; a value outside care, also where care is 0
-    reading::show(b"\x40\x03\x04\x00\x09\x01\x00\x00\x00");
-    reading::show(b"\x40\x03\x04\x00\x09\x00\x00\x00\x00");
-    reading::show(b"\x40\x03\x04\x00\x03\x10\x00\x00\x00");
-    reading::show(b"\x40\x03\x04\x00\x03\x01\x00\x02\x00");
-    reading::show(b"\x40\x03\x04\x00\x03\x00\x00\x01\x00");
+    reading::show(rt, b"\x40\x03\x04\x00\x09\x01\x00\x00\x00")?;
+    reading::show(rt, b"\x40\x03\x04\x00\x09\x00\x00\x00\x00")?;
+    reading::show(rt, b"\x40\x03\x04\x00\x03\x10\x00\x00\x00")?;
+    reading::show(rt, b"\x40\x03\x04\x00\x03\x01\x00\x02\x00")?;
+    reading::show(rt, b"\x40\x03\x04\x00\x03\x00\x00\x01\x00")?;
     // no bit fixed says the default, whatever g up to 8
-    reading::show(b"\x40\x03\x04\x00\x00\x00\x00\x00\x00");
-    reading::show(b"\x40\x03\x04\x00\x03\x00\x00\x00\x00");
-    reading::show(b"\x40\x03\x04\x00\x08\x00\x00\x00\x00");
+    reading::show(rt, b"\x40\x03\x04\x00\x00\x00\x00\x00\x00")?;
+    reading::show(rt, b"\x40\x03\x04\x00\x03\x00\x00\x00\x00")?;
+    reading::show(rt, b"\x40\x03\x04\x00\x08\x00\x00\x00\x00")
 }
 
 // 17 after 16, and before a random word that is too wide and a mode that says its default; 9 for a bit of the second map before all of
 // them.
-pub(crate) fn order() {
+pub(crate) fn order(rt: &impl Print) -> io::Result<()> {
     reading::show(
+        rt,
         b"\x78\x03\x04\x00\x00\x00\x00\x00\x01\x00\x00\x00\x00\x00\x01\x00\x00\x00\x00\x00\x00\x09\x00\x00\x00\x00",
-    );
-    reading::show(b"\x70\x03\x04\x00\x00\x00\x01\x00\x00\x00\x00\x00\x00\x09\x00\x00\x00\x00");
-    reading::show(b"\x70\x03\x04\x00\x00\x00\x01\x00\x00\x00\x00\x00\x00\x08\x00\x00\x00\x00");
-    reading::show(b"\x50\x03\x04\x00\x00\x08\x01\x00\x00\x00");
-    reading::show(b"\xc0\x08\x03\x04\x00\x09\x00\x00\x00\x00");
+    )?;
+    reading::show(
+        rt,
+        b"\x70\x03\x04\x00\x00\x00\x01\x00\x00\x00\x00\x00\x00\x09\x00\x00\x00\x00",
+    )?;
+    reading::show(
+        rt,
+        b"\x70\x03\x04\x00\x00\x00\x01\x00\x00\x00\x00\x00\x00\x08\x00\x00\x00\x00",
+    )?;
+    reading::show(rt, b"\x50\x03\x04\x00\x00\x08\x01\x00\x00\x00")?;
+    reading::show(rt, b"\xc0\x08\x03\x04\x00\x09\x00\x00\x00\x00")
 }
 
 // The entry with something wanted of the dropped bits.
@@ -57,31 +65,31 @@ pub(crate) fn longest(w: u64, f: u64) -> Entry {
 }
 
 // The same in writing: the longest records, in buffers that are long enough and a byte short; a g that is not written; the refusals.
-pub(crate) fn written() {
+pub(crate) fn written(rt: &impl Print) -> io::Result<()> {
     let narrow = longest(3, 4);
     let wide = longest(11, 52);
-    writing::show(narrow, 50);
-    writing::show(narrow, 49);
-    writing::show(wide, 90);
-    writing::show(wide, 89);
+    writing::show(rt, narrow, 50)?;
+    writing::show(rt, narrow, 49)?;
+    writing::show(rt, wide, 90)?;
+    writing::show(rt, wide, 89)?;
     let short = writing::shortest(0, 0);
-    writing::show(with(short, 0, 1, 1), 9);
-    writing::show(with(short, 3, 0, 0), 4);
-    writing::show(with(short, 3, 0, 0), 3);
+    writing::show(rt, with(short, 0, 1, 1), 9)?;
+    writing::show(rt, with(short, 3, 0, 0), 4)?;
+    writing::show(rt, with(short, 3, 0, 0), 3)?;
     // g above 8, also where no bit is fixed; a bit above the g + 1 bits; a value outside care; each with no room
-    writing::show(with(short, 9, 1, 1), 0);
-    writing::show(with(short, 9, 0, 0), 0);
-    writing::show(with(short, 0xffffffffffffffff, 0, 0), 0);
-    writing::show(with(short, 3, 0x10, 0), 0);
-    writing::show(with(short, 3, 1, 2), 0);
+    writing::show(rt, with(short, 9, 1, 1), 0)?;
+    writing::show(rt, with(short, 9, 0, 0), 0)?;
+    writing::show(rt, with(short, 0xffffffffffffffff, 0, 0), 0)?;
+    writing::show(rt, with(short, 3, 0x10, 0), 0)?;
+    writing::show(rt, with(short, 3, 1, 2), 0)?;
     // after 16, and before a random word that is too wide
-    writing::show(with(writing::shortest(0x20, 0x100), 9, 0, 0), 0);
-    writing::show(with(writing::shortest(0, 0x100), 9, 0, 0), 0);
-    writing::show(with(writing::shortest(0, 0x100), 8, 0, 0), 0);
+    writing::show(rt, with(writing::shortest(0x20, 0x100), 9, 0, 0), 0)?;
+    writing::show(rt, with(writing::shortest(0, 0x100), 9, 0, 0), 0)?;
+    writing::show(rt, with(writing::shortest(0, 0x100), 8, 0, 0), 0)
 }
 
 // What was read is written back.
-pub(crate) fn back() {
-    writing::back(b"\x40\x03\x04\x00\x03\x0f\x00\x09\x00");
-    writing::back(b"\x50\x03\x04\x00\x04\x08\xff\x01\x01\x01\xff");
+pub(crate) fn back(rt: &impl Print) -> io::Result<()> {
+    writing::back(rt, b"\x40\x03\x04\x00\x03\x0f\x00\x09\x00")?;
+    writing::back(rt, b"\x50\x03\x04\x00\x04\x08\xff\x01\x01\x01\xff")
 }

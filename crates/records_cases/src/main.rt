@@ -6,24 +6,26 @@ mod dropped;
 mod reading;
 mod writing;
 
-fn main() {
-    reading::example();
-    writing::example();
-    reading::refusals();
-    reading::malformed_masks();
-    reading::limits();
-    reading::word_sizes();
-    writing::lengths();
-    writing::refusals();
-    writing::malformed_masks();
-    dropped::read();
-    dropped::order();
-    dropped::written();
-    dropped::back();
-    bounded::read();
-    bounded::second_map();
-    bounded::order();
-    bounded::written();
-    bounded::back();
-    reading::truncations();
+use std::io;
+
+fn main(rt: HostRuntime) -> io::Result<()> {
+    reading::example(&rt)?;
+    writing::example(&rt)?;
+    reading::refusals(&rt)?;
+    reading::malformed_masks(&rt)?;
+    reading::limits(&rt)?;
+    reading::word_sizes(&rt)?;
+    writing::lengths(&rt)?;
+    writing::refusals(&rt)?;
+    writing::malformed_masks(&rt)?;
+    dropped::read(&rt)?;
+    dropped::order(&rt)?;
+    dropped::written(&rt)?;
+    dropped::back(&rt)?;
+    bounded::read(&rt)?;
+    bounded::second_map(&rt)?;
+    bounded::order(&rt)?;
+    bounded::written(&rt)?;
+    bounded::back(&rt)?;
+    reading::truncations(&rt)
 }

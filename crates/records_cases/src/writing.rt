@@ -4,24 +4,18 @@ use format::Format;
 use job::Setting;
 use job::words::masked_job;
 use layout::Entry;
-use libc::STDOUT_FILENO;
 use mask::Mask;
 use records::{First, Writing};
+use std::io;
 
 fn blank() -> [u8; 144] {
     [255u8; 144]
 }
 
-fn show_reply(reply: Writing) {
+fn show_reply(rt: &impl Print, reply: Writing) -> io::Result<()> {
     match reply {
-        Writing::Written(n) => {
-            io::write_all(STDOUT_FILENO, b"written ");
-            io::print_decimal(STDOUT_FILENO, n as u64);
-        }
-        Writing::Refused(k) => {
-            io::write_all(STDOUT_FILENO, b"refused ");
-            io::print_decimal(STDOUT_FILENO, k);
-        }
+        Writing::Written(n) => print!(rt; "written {n}"),
+        Writing::Refused(k) => print!(rt; "refused {k}"),
     }
 }
 
@@ -34,67 +28,70 @@ fn length(reply: Writing) -> usize {
 }
 
 // Whether the bytes from n on are as they were.
-fn kept(buffer: &[u8], n: usize) {
+fn kept(rt: &impl Print, buffer: &[u8], n: usize) -> io::Result<()> {
     let before = blank();
     if n <= buffer.len() {
         if n <= 144 {
-            io::write_all(STDOUT_FILENO, b", after it ");
-            reading::show_same(check::same(&buffer[n..], &before[n..]));
-            io::write_all(STDOUT_FILENO, b"\n");
+            print!(rt; ", after it ")?;
+            reading::show_same(rt, buffer[n..] == before[n..])?;
+            println!(rt)?;
         }
     }
+    Ok(())
 }
 
 // Writes the entry into the first bytes of the buffer.
-fn put(entry: Entry, buffer: &mut [u8], room: usize) {
+fn put(rt: &impl Print, entry: Entry, buffer: &mut [u8], room: usize) -> io::Result<()> {
     if room <= buffer.len() {
         let reply = records::write(entry, &mut buffer[..room]);
-        show_reply(reply);
-        kept(buffer, length(reply));
+        show_reply(rt, reply)?;
+        kept(rt, buffer, length(reply))?;
     }
+    Ok(())
 }
 
-pub(crate) fn show(entry: Entry, room: usize) {
+pub(crate) fn show(rt: &impl Print, entry: Entry, room: usize) -> io::Result<()> {
     let mut buffer = blank();
-    put(entry, &mut buffer, room);
+    put(rt, entry, &mut buffer, room)
 }
 
 // Whether the first n bytes are the same.
-fn compare(buffer: &[u8], s: &[u8], n: usize) {
+fn compare(rt: &impl Print, buffer: &[u8], s: &[u8], n: usize) -> io::Result<()> {
     if n <= buffer.len() {
         if n <= s.len() {
-            io::write_all(STDOUT_FILENO, b", record ");
-            reading::show_same(check::same(&buffer[..n], &s[..n]));
+            print!(rt; ", record ")?;
+            reading::show_same(rt, buffer[..n] == s[..n])?;
         }
     }
+    Ok(())
 }
 
 // Reads a record and writes its entry: the bytes that were read.
-pub(crate) fn back(s: &[u8]) {
+pub(crate) fn back(rt: &impl Print, s: &[u8]) -> io::Result<()> {
     let first = records::read(s);
     let First::Job(entry, n) = first else {
-        return;
+        return Ok(());
     };
     let mut buffer = blank();
     let reply = records::write(entry, &mut buffer);
-    show_reply(reply);
-    compare(&buffer, s, n);
-    kept(&buffer, n);
+    show_reply(rt, reply)?;
+    compare(rt, &buffer, s, n)?;
+    kept(rt, &buffer, n)
 }
 
 // Writes an entry, and reads and writes what then stands in the buffer.
-pub(crate) fn read_back(entry: Entry) {
+pub(crate) fn read_back(rt: &impl Print, entry: Entry) -> io::Result<()> {
     let mut buffer = blank();
-    show_reply(records::write(entry, &mut buffer));
-    io::write_all(STDOUT_FILENO, b"; ");
-    reading::show(&buffer);
-    back(&buffer);
+    show_reply(rt, records::write(entry, &mut buffer))?;
+    print!(rt; "; ")?;
+    reading::show(rt, &buffer)?;
+    back(rt, &buffer)
 }
 
-pub(crate) fn example() {
+pub(crate) fn example(rt: &impl Print) -> io::Result<()> {
     let bytes = reading::file();
-    back(&bytes);
-    back(records::rest(&bytes));
+    back(rt, &bytes)?;
+    back(rt, records::rest(&bytes))
 }
 
 // One mask for a, b and c, and another for the carries.
@@ -138,29 +135,29 @@ pub(crate) fn shortest(carries: u64, r1: u64) -> Entry {
 
 // The longest record of either word size that has no dropped bits, in a buffer that is long enough and in one that is a byte short; the
 // shortest alike.
-pub(crate) fn lengths() {
-    show(masked(3, 4), 45);
-    show(masked(3, 4), 44);
-    show(masked(11, 52), 85);
-    show(masked(11, 52), 84);
-    show(shortest(0, 0), 4);
-    show(shortest(0, 0), 3);
+pub(crate) fn lengths(rt: &impl Print) -> io::Result<()> {
+    show(rt, masked(3, 4), 45)?;
+    show(rt, masked(3, 4), 44)?;
+    show(rt, masked(11, 52), 85)?;
+    show(rt, masked(11, 52), 84)?;
+    show(rt, shortest(0, 0), 4)?;
+    show(rt, shortest(0, 0), 3)
 }
 
 // One entry for each of the refusals 1 to 6 and for 16, half of them with no room at all, since 11 comes last.
-pub(crate) fn refusals() {
-    show(entry(sized(1, 4), 0, 0, free(), free(), 0), 64);
-    show(entry(sized(3, 53), 0, 0, free(), free(), 0), 0);
-    show(entry(sized(3, 4), 2, 0, free(), free(), 0), 64);
-    show(entry(sized(3, 4), 0, 5, free(), free(), 0), 0);
-    show(entry(sized(3, 4), 0, 0, fixed(0x100, 0), free(), 0), 64);
-    show(entry(sized(3, 4), 0, 0, free(), fixed(0x20, 0), 0), 0);
-    show(entry(sized(3, 4), 0, 0, fixed(0, 1), free(), 0), 64);
-    show(entry(sized(3, 4), 0, 0, free(), free(), 0x100), 0);
+pub(crate) fn refusals(rt: &impl Print) -> io::Result<()> {
+    show(rt, entry(sized(1, 4), 0, 0, free(), free(), 0), 64)?;
+    show(rt, entry(sized(3, 53), 0, 0, free(), free(), 0), 0)?;
+    show(rt, entry(sized(3, 4), 2, 0, free(), free(), 0), 64)?;
+    show(rt, entry(sized(3, 4), 0, 5, free(), free(), 0), 0)?;
+    show(rt, entry(sized(3, 4), 0, 0, fixed(0x100, 0), free(), 0), 64)?;
+    show(rt, entry(sized(3, 4), 0, 0, free(), fixed(0x20, 0), 0), 0)?;
+    show(rt, entry(sized(3, 4), 0, 0, fixed(0, 1), free(), 0), 64)?;
+    show(rt, entry(sized(3, 4), 0, 0, free(), free(), 0x100), 0)
 }
 
 // Of these masks the first that is malformed is named, before the first random word, which is too wide, and with no room.
-fn show_masks(a: Mask, b: Mask, c: Mask, carries: Mask) {
+fn show_masks(rt: &impl Print, a: Mask, b: Mask, c: Mask, carries: Mask) -> io::Result<()> {
     let setting = Setting {
         format: sized(3, 4),
         operation: 0,
@@ -168,18 +165,19 @@ fn show_masks(a: Mask, b: Mask, c: Mask, carries: Mask) {
     };
     let job = masked_job(setting, a, b, c, carries);
     show(
+        rt,
         Entry {
             job,
             r1: 0x100,
             r2: 0,
         },
         0,
-    );
+    )
 }
 
-pub(crate) fn malformed_masks() {
-    show_masks(fixed(0, 1), fixed(0, 1), fixed(0, 1), fixed(0, 1));
-    show_masks(free(), fixed(0, 1), fixed(0, 1), fixed(0, 1));
-    show_masks(free(), free(), fixed(0, 1), fixed(0, 1));
-    show_masks(free(), free(), free(), fixed(0, 1));
+pub(crate) fn malformed_masks(rt: &impl Print) -> io::Result<()> {
+    show_masks(rt, fixed(0, 1), fixed(0, 1), fixed(0, 1), fixed(0, 1))?;
+    show_masks(rt, free(), fixed(0, 1), fixed(0, 1), fixed(0, 1))?;
+    show_masks(rt, free(), free(), fixed(0, 1), fixed(0, 1))?;
+    show_masks(rt, free(), free(), free(), fixed(0, 1))
 }

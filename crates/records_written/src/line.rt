@@ -1,46 +1,40 @@
 // A line: the reply, and all bytes of the buffer.
 use layout::Entry;
-use libc::STDOUT_FILENO;
 use records::Writing;
+use std::{fmt, io};
 
-// The count of bytes written, or the number of a refusal.
-fn put_reply(reply: Writing) {
-    match reply {
-        Writing::Written(n) => {
-            io::write_all(STDOUT_FILENO, b"written ");
-            io::print_decimal(STDOUT_FILENO, n as u64);
+// Bytes in two digits each.
+#[derive(Clone, Copy)]
+struct Digits<'a>(&'a [u8]);
+
+impl fmt::Display for Digits<'_> {
+    fn fmt<W: fmt::Write>(&self, f: &mut fmt::Formatter<W>) -> fmt::Result {
+        for byte in self.0 {
+            write!(f, "{byte:02x}")?;
         }
-        Writing::Refused(number) => {
-            io::write_all(STDOUT_FILENO, b"refused ");
-            io::print_decimal(STDOUT_FILENO, number);
-        }
+        Ok(())
     }
 }
 
-fn put_byte(byte: u8) {
-    io::print_hex(STDOUT_FILENO, byte as u64, 2);
-}
-
-fn put_bytes(buffer: &[u8]) {
-    let mut i = 0;
-    while i < buffer.len() {
-        put_byte(buffer[i]);
-        i += 1;
+// The count of bytes written, or the number of a refusal.
+fn put_reply(rt: &impl Print, reply: Writing) -> io::Result<()> {
+    match reply {
+        Writing::Written(n) => print!(rt; "written {n}"),
+        Writing::Refused(number) => print!(rt; "refused {number}"),
     }
 }
 
 // Writes the entry into the first bytes of the buffer, and the line of it.
-fn write(entry: Entry, buffer: &mut [u8], room: usize) {
+fn write(rt: &impl Print, entry: Entry, buffer: &mut [u8], room: usize) -> io::Result<()> {
     if room <= buffer.len() {
-        put_reply(records::write(entry, &mut buffer[..room]));
-        io::write_all(STDOUT_FILENO, b" ");
-        put_bytes(buffer);
-        io::write_all(STDOUT_FILENO, b"\n");
+        put_reply(rt, records::write(entry, &mut buffer[..room]))?;
+        println!(rt; " {}", Digits(buffer))?;
     }
+    Ok(())
 }
 
 // The buffer has 141 bytes, all 255 before.
-pub fn put(entry: Entry, room: usize) {
+pub fn put(rt: &impl Print, entry: Entry, room: usize) -> io::Result<()> {
     let mut buffer = [255u8; 141];
-    write(entry, &mut buffer, room);
+    write(rt, entry, &mut buffer, room)
 }

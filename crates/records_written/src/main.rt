@@ -5,17 +5,18 @@
 mod jobs;
 mod line;
 
+use std::io;
+
 // Every job, with the room that it is written into.
-fn lines(count: u64) {
+fn lines(rt: &impl Print, count: u64) -> io::Result<()> {
     let mut state = 1;
-    let mut i = 0;
-    while i < count {
+    for _ in 0..count {
         state = jobs::following(state);
-        line::put(jobs::entry(state), jobs::room(state));
-        i += 1;
+        line::put(rt, jobs::entry(state), jobs::room(state))?;
     }
+    Ok(())
 }
 
-fn main() {
-    lines(600);
+fn main(rt: HostRuntime) -> io::Result<()> {
+    lines(&rt, 600)
 }
