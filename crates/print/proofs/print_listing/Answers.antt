@@ -1,23 +1,31 @@
--- `print::print_listing` is safe and ends: every line brings the listing nearer to its end. Assumes nothing.
-use mathlib.Core.Path.{sym, subst}
-use mathlib.Core.List.{List}
-use Prim.Native.Nat.{ℕ}
-use lib.Seq.{length-take-le}
+-- `print::print_listing`: each line is appended to what is printed, and the listing goes on after it. Assumes nothing.
+use Rattle.std.proofs.Common.{ℕ, List, ◌++◌, sym, subst, append_assoc}
+use Rattle.std.proofs.KnownBytes.{Appends-trans}
 use Rattle.lines.specs.Text.{text}
-use Rattle.lines.specs.Listing.{Lists}
-use Rattle.lines.specs.declared.Then.{Then}
+use Rattle.lines.specs.Listing.{Lists, Listing, last, more}
+use Rattle.lines.specs.declared.Then.TheVariants.{On, Done}
 use Rattle.lines.proofs.Listings.{lists_less}
 use Rattle.print.proofs.print_listing.Goals as goal
 
-pub slice_bounds-bytes-end : goal.slice_bounds-bytes-end
-slice_bounds-bytes-end c = c.next_line-step.ensures.most
-
-pub slice_bounds-write_all-end : goal.slice_bounds-write_all-end
-slice_bounds-write_all-end c =
-    let line = c.next_line-step.result.line in
-    sym (length-take-le line.len line.bytes c.next_line-step.ensures.most)
-
-pub loop-step-smaller : goal.loop-step-smaller
-loop-step-smaller c =
+pub loop-next-smaller : goal.loop-next-smaller
+loop-next-smaller g c =
     let s : List ℕ = c.args.file.now in
-    lists_less {s = s} (subst (λ (x : Then). Lists s c.loop-step.place (text c.next_line-step.result.line) x) c.in-On.is c.next_line-step.ensures.lists)
+    let line = text c.next_line-step.result.line in
+    let lists : Lists s c.loop-next.place line (On c.in-On.next) = subst (Lists s c.loop-next.place line) c.in-On.is c.next_line-step.ensures.lists in
+    lists_less {s = s} lists
+
+pub loop-next-preserved : goal.loop-next-preserved
+loop-next-preserved g c =
+    let (t, printed, completes) = c.loop-next.invariant in
+    let s : List ℕ = c.args.file.now in
+    let line = text c.next_line-step.result.line in
+    let lists : Lists s c.loop-next.place line (On c.in-On.next) = subst (Lists s c.loop-next.place line) c.in-On.is c.next_line-step.ensures.lists in
+    (t ++ line, Appends-trans _ _ _ _ _ printed c.in_ok-write_all.ensures.bytes, (λ u rest. subst (Listing s) (sym (append_assoc t line u)) (completes (line ++ u) (more lists rest))))
+
+pub returns-in-Done : goal.returns-in-Done
+returns-in-Done g c =
+    let (t, printed, completes) = c.loop-next.invariant in
+    let s : List ℕ = c.args.file.now in
+    let line = text c.next_line-step.result.line in
+    let lists : Lists s c.loop-next.place line Done = subst (Lists s c.loop-next.place line) c.in-Done.is c.next_line-step.ensures.lists in
+    (t ++ line, completes line (last lists), Appends-trans _ _ _ _ _ printed c.in_ok-write_all.ensures.bytes)
