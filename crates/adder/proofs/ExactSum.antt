@@ -8,7 +8,6 @@ use borrow.Author.Tests.{lt-ltb, le-ltb, eq-eqb, ne_eqb}
 use Rattle.format.specs.declared.Format.{Format}
 use Rattle.format.specs.Format.{Supported}
 use Rattle.word.specs.declared.Finite as record_of
-use Rattle.word.specs.declared.Operand.TheVariants.{Finite}
 use Rattle.word.specs.Word.{biased, all_ones, effective}
 use Rattle.word.specs.Operand.{finite_of, magnitude}
 use Rattle.rounding.specs.Rounding.{rounded, cancelled_sign}

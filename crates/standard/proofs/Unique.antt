@@ -1,6 +1,6 @@
 -- What the standard asks of a rounded number leaves one answer, in every mode, and what it asks of the sum of two finite words leaves one
 -- word: so it is a definition. Assumes nothing.
-use mathlib.Core.Path.{◌≡◌, refl, sym, ap, ◌∙◌, subst, subst₂}
+use mathlib.Core.Path.{◌≡◌, sym, ap, ◌∙◌, subst, subst₂}
 use Prim.Native.Nat.{ℕ, zero, suc, ◌+◌, ◌*◌, ◌%◌, ◌^◌, ◌≤◌, ◌<◌}
 use native.Mathlib.Nat.{le_antisymm}
 use native.Mathlib.Decide.{dec_lt, ℕ_discrete}
@@ -14,7 +14,6 @@ use Rattle.format.specs.Limits.{most_mode}
 use Rattle.rounding.specs.declared.Direction.TheVariants.{TowardZero}
 use Rattle.word.specs.Word.{sign}
 use Rattle.word.specs.Operand.{finite_of, magnitude}
-use Rattle.rounding.specs.Rounding.{magnitude_word}
 use Rattle.adder.specs.Result.{result_of}
 use Rattle.adder.proofs.ResultLaws.{result_lt}
 use Rattle.standard.specs.Representable.{Representable, magnitude_of, EvenWord, largest, rounded_magnitude}

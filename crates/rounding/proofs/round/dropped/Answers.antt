@@ -1,6 +1,5 @@
 -- `rounding::round::dropped` meets its contract. Assumes nothing.
 use native.Mathlib.Omega.{arith}
-use lib.Ieee.{size}
 use lib.Ieee.Digits.{size-le}
 use Rattle.word.proofs.Bounds.{exponents_le}
 use Rattle.rounding.proofs.round.dropped.Goals as goal

@@ -3,7 +3,7 @@
 -- still to come. Assumes nothing.
 use mathlib.Core.Path.{◌≡◌, sym, ap, ap₂, ◌∙◌}
 use mathlib.Core.Bool.{Bool, ◌&&◌}
-use Prim.Native.Nat.{ℕ, suc, ◌+◌, ◌-◌, ◌<◌}
+use Prim.Native.Nat.{ℕ, suc, ◌+◌, ◌<◌}
 use native.Mathlib.Numerals.{add-one}
 use native.Mathlib.Omega.{arith}
 use borrow.Author.Rules.{rules}
@@ -14,7 +14,7 @@ use Rattle.chain.specs.Walk.{flag}
 use Rattle.whole.specs.declared.Masks.{Masks}
 use Rattle.whole.specs.declared.left.Carries.{Carries}
 use Rattle.whole.specs.declared.left.Table.{Table}
-use Rattle.whole.specs.Column.{at, step}
+use Rattle.whole.specs.Column.{step}
 use Rattle.whole.specs.Carries.{carry_word, ways_to, flags}
 use Rattle.whole.proofs.Exact.{left_exact}
 use Rattle.whole.proofs.Ways.{any_flag}

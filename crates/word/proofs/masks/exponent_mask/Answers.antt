@@ -1,7 +1,7 @@
 -- `word::masks::exponent_mask` meets its contract. Assumes nothing.
 use Rattle.std.proofs.Common.{ap, ◌∙◌}
 use Rattle.mask.specs.declared.Mask.{Mask}
-use Rattle.mask.specs.Mask.{low, high}
+use Rattle.mask.specs.Mask.{low}
 use Rattle.word.proofs.masks.exponent_mask.Goals as goal
 
 pub returns : goal.returns
