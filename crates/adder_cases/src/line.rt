@@ -44,17 +44,27 @@ pub(crate) fn ask_row(
     print!(rt; " row ")
 }
 
+fn put_refused(rt: &impl Print, number: u64) -> io::Result<()> {
+    print!(rt; "refused {number}")
+}
+
 pub(crate) fn put_reply(rt: &impl Print, reply: Reply, digits: usize) -> io::Result<()> {
     match reply {
         Reply::Word(c) => print!(rt; "{c:0digits$x}"),
-        Reply::Refused(number) => print!(rt; "refused {number}"),
+        Reply::Refused(number) => put_refused(rt, number),
+    }
+}
+
+fn put_carries(rt: &impl Print, row: Row, digits: usize) -> io::Result<()> {
+    match row {
+        Row::Carries(carries) => print!(rt; "{carries:0digits$x}"),
+        Row::NoRow => print!(rt; "-"),
     }
 }
 
 pub(crate) fn put_row(rt: &impl Print, reply: RowReply, digits: usize) -> io::Result<()> {
     match reply {
-        RowReply::Row(Row::Carries(carries)) => print!(rt; "{carries:0digits$x}"),
-        RowReply::Row(Row::NoRow) => print!(rt; "-"),
-        RowReply::Refused(number) => print!(rt; "refused {number}"),
+        RowReply::Row(row) => put_carries(rt, row, digits),
+        RowReply::Refused(number) => put_refused(rt, number),
     }
 }

@@ -6,12 +6,19 @@ use job::{Dropped, Job, Wanted};
 use mask::Mask;
 use std::io;
 
+// A space and a word, in the digits of the widest.
+fn put_word(rt: &impl Print, word: u64) -> io::Result<()> {
+    print!(rt; " {word:016x}")
+}
+
 // The care and the value of the mask of this name; nothing where both are 0.
 fn put_mask(rt: &impl Print, name: &str, m: Mask) -> io::Result<()> {
     if (m.care == 0) & (m.value == 0) {
         return Ok(());
     }
-    print!(rt; " {name} {:016x} {:016x}", m.care, m.value)
+    print!(rt; " {name}")?;
+    put_word(rt, m.care)?;
+    put_word(rt, m.value)
 }
 
 // The bounds of the word of this name; nothing where none are stated.
@@ -19,7 +26,9 @@ fn put_bounds(rt: &impl Print, name: &str, w: Wanted) -> io::Result<()> {
     match w.bounds {
         Bounds::Unbounded => Ok(()),
         Bounds::Between(ends) => {
-            print!(rt; " {name} within {:016x} {:016x}", ends.low, ends.high)
+            print!(rt; " {name} within")?;
+            put_word(rt, ends.low)?;
+            put_word(rt, ends.high)
         }
     }
 }
@@ -30,10 +39,9 @@ fn put_dropped(rt: &impl Print, dropped: Dropped) -> io::Result<()> {
     if (dropped.g == 0) & (mask.care == 0) & (mask.value == 0) {
         return Ok(());
     }
-    print!(rt;
-        " dropped {} {:016x} {:016x}",
-        dropped.g, mask.care, mask.value
-    )
+    print!(rt; " dropped {}", dropped.g)?;
+    put_word(rt, mask.care)?;
+    put_word(rt, mask.value)
 }
 
 fn put_numbers(rt: &impl Print, job: Job) -> io::Result<()> {
@@ -52,18 +60,24 @@ pub(crate) fn ask(rt: &impl Print, job: Job, r1: u64, r2: u64) -> io::Result<()>
     put_bounds(rt, "a", job.a)?;
     put_bounds(rt, "b", job.b)?;
     put_bounds(rt, "c", job.c)?;
-    print!(rt; " words {r1:016x} {r2:016x}:")
+    print!(rt; " words")?;
+    put_word(rt, r1)?;
+    put_word(rt, r2)?;
+    print!(rt; ":")
 }
 
 fn put_row(rt: &impl Print, row: Row) -> io::Result<()> {
     match row {
-        Row::Carries(carries) => print!(rt; " {carries:016x}"),
+        Row::Carries(carries) => put_word(rt, carries),
         Row::NoRow => print!(rt; " -"),
     }
 }
 
 fn put_case(rt: &impl Print, x: Case) -> io::Result<()> {
-    print!(rt; " found {:016x} {:016x} {:016x}", x.a, x.b, x.c)?;
+    print!(rt; " found")?;
+    put_word(rt, x.a)?;
+    put_word(rt, x.b)?;
+    put_word(rt, x.c)?;
     put_row(rt, x.row)
 }
 

@@ -10,7 +10,7 @@ struct Digits<'a>(&'a [u8]);
 impl fmt::Display for Digits<'_> {
     fn fmt<W: fmt::Write>(&self, f: &mut fmt::Formatter<W>) -> fmt::Result {
         for byte in self.0 {
-            write!(f, "{byte:02x}")?;
+            put_byte(f, *byte)?;
         }
         Ok(())
     }
@@ -24,11 +24,21 @@ fn put_reply(rt: &impl Print, reply: Writing) -> io::Result<()> {
     }
 }
 
+fn put_byte<W: fmt::Write>(f: &mut fmt::Formatter<W>, byte: u8) -> fmt::Result {
+    write!(f, "{byte:02x}")
+}
+
+fn put_bytes(rt: &impl Print, buffer: &[u8]) -> io::Result<()> {
+    print!(rt; "{}", Digits(buffer))
+}
+
 // Writes the entry into the first bytes of the buffer, and the line of it.
 fn write(rt: &impl Print, entry: Entry, buffer: &mut [u8], room: usize) -> io::Result<()> {
     if room <= buffer.len() {
         put_reply(rt, records::write(entry, &mut buffer[..room]))?;
-        println!(rt; " {}", Digits(buffer))?;
+        print!(rt; " ")?;
+        put_bytes(rt, buffer)?;
+        println!(rt)?;
     }
     Ok(())
 }
