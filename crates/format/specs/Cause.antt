@@ -1,73 +1,45 @@
 -- The numbers of document 01's table "Causes and replies" and those that document 02 adds, and how causes are tested in order.
--- A cause is one of these numbers, or 0 where nothing is wrong. Assumes nothing.
-use Rattle.std.specs.Prelude.{Bool, true, false, ℕ, zero, suc}
+-- A check finds nothing wrong, `clear`, or names the cause that it finds. Assumes nothing.
+use Rattle.std.specs.Prelude.{Bool, true, false, ℕ, Result, Ok, Err}
+use Rattle.format.specs.declared.cause.Cause.{Cause}
+use Rattle.format.specs.declared.cause.Cause.TheVariants as cause
 
-abbrev pub exponent_bits : ℕ
-exponent_bits = 1
+-- the number of a cause; W-203: 5 is for a's mask malformed, or x's, or either in joining, 14 for b's or y's, 15 for c's or z's, 16 for the
+-- carry mask; W-206: 17 is for a g above 8, or the mask of the dropped bits malformed; W-207: 18 is for a bound that is a NaN, or low
+-- exceeds high
+unfoldable pub number : Cause → ℕ
+number cause.ExponentBits = 1
+number cause.FractionBits = 2
+number cause.Operation = 3
+number cause.Mode = 4
+number cause.Mask = 5
+number cause.Word = 6
+number cause.NoCase = 7
+number cause.Cut = 8
+number cause.MapBits = 9
+number cause.DefaultField = 10
+number cause.Buffer = 11
+number cause.WholeLength = 12
+number cause.Clash = 13
+number cause.SecondMask = 14
+number cause.ThirdMask = 15
+number cause.CarryMask = 16
+number cause.DroppedMask = 17
+number cause.Bounds = 18
 
-abbrev pub fraction_bits : ℕ
-fraction_bits = 2
+-- what a check says: nothing is wrong, or the cause that it finds
+abbrev pub Check : Type 0
+Check = Result (Unit {0}) Cause
 
-abbrev pub operation : ℕ
-operation = 3
+abbrev pub clear : Check
+clear = Ok tt
 
-abbrev pub mode : ℕ
-mode = 4
+-- clear where the test holds, else the cause
+abbrev pub unless : Bool → Cause → Check
+unless true c = clear
+unless false c = Err c
 
--- W-203: a's mask malformed, or x's, or either in joining
-abbrev pub mask : ℕ
-mask = 5
-
-abbrev pub word : ℕ
-word = 6
-
-abbrev pub no_case : ℕ
-no_case = 7
-
-abbrev pub cut : ℕ
-cut = 8
-
-abbrev pub map_bits : ℕ
-map_bits = 9
-
-abbrev pub default_field : ℕ
-default_field = 10
-
-abbrev pub buffer : ℕ
-buffer = 11
-
-abbrev pub whole_length : ℕ
-whole_length = 12
-
-abbrev pub clash : ℕ
-clash = 13
-
--- W-203: b's mask malformed, or y's
-abbrev pub second_mask : ℕ
-second_mask = 14
-
--- W-203: c's mask malformed, or z's
-abbrev pub third_mask : ℕ
-third_mask = 15
-
--- W-203: the carry mask malformed
-abbrev pub carry_mask : ℕ
-carry_mask = 16
-
--- W-206: g above 8, or the mask of the dropped bits malformed
-abbrev pub dropped_mask : ℕ
-dropped_mask = 17
-
--- W-207: a bound is a NaN, or low exceeds high
-abbrev pub bounds : ℕ
-bounds = 18
-
--- no cause where the test holds, else the number
-abbrev pub unless : Bool → ℕ → ℕ
-unless true n = 0
-unless false n = n
-
--- "Order": the first of two causes
-abbrev pub first : ℕ → ℕ → ℕ
-first zero n = n
-first (suc m) n = suc m
+-- "Order": the first of two causes; and what is replied where a check finds none
+abbrev pub first : {T : Type 0} → Check → Result T Cause → Result T Cause
+first (Ok u) r = r
+first (Err c) r = Err c

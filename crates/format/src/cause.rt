@@ -1,38 +1,60 @@
-// The numbers of document 01's table "Causes and replies" and those that document 02 adds. 0 stands for no cause.
+// The refusals of document 01's table "Causes and replies" and those that document 02 adds, each with its number.
+ghost use Rattle.std.specs.Prelude.{◌≡◌};
+ghost use Rattle.format.specs.Cause.{number};
 
-// w below 2 or above 11
-pub const EXPONENT_BITS: u64 = 1;
-// f below 2 or above 52
-pub const FRACTION_BITS: u64 = 2;
-// operation above 1
-pub const OPERATION: u64 = 3;
-// mode above 4
-pub const MODE: u64 = 4;
-// a's mask malformed, or x's, or either in joining: a bit above its width, or a value bit outside care
-pub const MASK: u64 = 5;
-// operand, proposed or random word, or a bound, above its width
-pub const WORD: u64 = 6;
-// no case fits
-pub const NO_CASE: u64 = 7;
-// record cut short
-pub const CUT: u64 = 8;
-// a bit of the second map that stands for no field
-pub const MAP_BITS: u64 = 9;
-// field that says its default, or an empty second map
-pub const DEFAULT_FIELD: u64 = 10;
-// buffer too short for the record
-pub const BUFFER: u64 = 11;
-// N outside 1 to 32
-pub const WHOLE_LENGTH: u64 = 12;
-// two masks fix one bit unlike
-pub const CLASH: u64 = 13;
-// b's mask malformed, or y's
-pub const SECOND_MASK: u64 = 14;
-// c's mask malformed, or z's
-pub const THIRD_MASK: u64 = 15;
-// the carry mask malformed
-pub const CARRY_MASK: u64 = 16;
-// g above 8, or the mask of the dropped bits malformed
-pub const DROPPED_MASK: u64 = 17;
-// a bound is a NaN, or the low one exceeds the high one
-pub const BOUNDS: u64 = 18;
+use std::fmt;
+
+#[derive(Clone, Copy, Debug, PartialEq, Eq)]
+pub enum Cause {
+    // w below 2 or above 11
+    ExponentBits = 1,
+    // f below 2 or above 52
+    FractionBits = 2,
+    // operation above 1
+    Operation = 3,
+    // mode above 4
+    Mode = 4,
+    // a's mask malformed, or x's, or either in joining: a bit above its width, or a value bit outside care
+    Mask = 5,
+    // operand, proposed or random word, or a bound, above its width
+    Word = 6,
+    // no case fits
+    NoCase = 7,
+    // record cut short
+    Cut = 8,
+    // a bit of the second map that stands for no field
+    MapBits = 9,
+    // field that says its default, or an empty second map
+    DefaultField = 10,
+    // buffer too short for the record
+    Buffer = 11,
+    // N outside 1 to 32
+    WholeLength = 12,
+    // two masks fix one bit unlike
+    Clash = 13,
+    // b's mask malformed, or y's
+    SecondMask = 14,
+    // c's mask malformed, or z's
+    ThirdMask = 15,
+    // the carry mask malformed
+    CarryMask = 16,
+    // g above 8, or the mask of the dropped bits malformed
+    DroppedMask = 17,
+    // a bound is a NaN, or the low one exceeds the high one
+    Bounds = 18,
+}
+
+impl Cause {
+    // Its number in the table.
+    pub fn number(self) -> u64
+        ensures { result ≡ number self }
+    {
+        self as u64
+    }
+}
+
+impl fmt::Display for Cause {
+    fn fmt<W: fmt::Write>(&self, f: &mut fmt::Formatter<W>) -> fmt::Result {
+        write!(f, "{}", self.number())
+    }
+}

@@ -4,23 +4,18 @@
 pub mod cause;
 pub mod limits;
 
-ghost use Rattle.std.specs.Prelude.{◌≡◌};
-ghost use Rattle.format.specs.Cause.{first, unless};
+pub use cause::Cause;
+
+ghost use Rattle.std.specs.Prelude.{◌≡◌, ◌↔◌, true};
+ghost use Rattle.format.specs.Cause.{unless};
 ghost use Rattle.format.specs.Limits.{within};
-ghost use Rattle.format.specs.Format.{format_cause, operation_cause, mode_cause, word_cause};
+ghost use Rattle.format.specs.Format.{Supported, format_cause, operation_cause, mode_cause, word_cause};
 
 // A binary floating-point format: w exponent bits and f fraction bits.
 #[derive(Clone, Copy)]
 pub struct Format {
     pub w: u64,
     pub f: u64,
-}
-
-// The first of two causes; 0 stands for none.
-pub fn first(one: u64, other: u64) -> u64
-    ensures { result ≡ first one other }
-{
-    if one == 0 { other } else { one }
 }
 
 // n lies between two limits, both included.
@@ -30,15 +25,15 @@ pub fn within(least: u64, most: u64, n: u64) -> bool
     (least <= n) & (n <= most)
 }
 
-// The number of a cause, or 0 where the test holds.
-pub fn unless(ok: bool, number: u64) -> u64
-    ensures { result ≡ unless ok number }
+// Nothing where the test holds, else the cause.
+pub fn unless(ok: bool, cause: Cause) -> Result<(), Cause>
+    ensures { result ≡ unless ok cause }
 {
-    if ok { 0 } else { number }
+    if ok { Ok(()) } else { Err(cause) }
 }
 
-// 1 or 2 where a width lies outside its limits, else 0.
-pub fn format_cause(format: Format) -> u64
+// 1 or 2 where a width lies outside its limits.
+pub fn format_cause(format: Format) -> Result<(), Cause>
     ensures { result ≡ format_cause format }
 {
     let w_fits = within(
@@ -51,32 +46,37 @@ pub fn format_cause(format: Format) -> u64
         limits::MOST_FRACTION_BITS,
         format.f,
     );
-    first(
-        unless(w_fits, cause::EXPONENT_BITS),
-        unless(f_fits, cause::FRACTION_BITS),
-    )
+    unless(w_fits, Cause::ExponentBits)?;
+    unless(f_fits, Cause::FractionBits)
+}
+
+// Whether a format is not refused.
+pub fn supported(format: Format) -> bool
+    ensures { (result ≡ true) ↔ Supported format }
+{
+    format_cause(format).is_ok()
 }
 
 // 3 where the operation is neither 0, add, nor 1, subtract.
-pub fn operation_cause(operation: u64) -> u64
+pub fn operation_cause(operation: u64) -> Result<(), Cause>
     ensures { result ≡ operation_cause operation }
 {
-    unless(operation <= limits::MOST_OPERATION, cause::OPERATION)
+    unless(operation <= limits::MOST_OPERATION, Cause::Operation)
 }
 
 // 4 where the mode is above 4.
-pub fn mode_cause(mode: u64) -> u64
+pub fn mode_cause(mode: u64) -> Result<(), Cause>
     ensures { result ≡ mode_cause mode }
 {
-    unless(mode <= limits::MOST_MODE, cause::MODE)
+    unless(mode <= limits::MOST_MODE, Cause::Mode)
 }
 
 // 6 where x has a bit at position `width` or above. No u64 has one at 64 or above.
-pub fn word_cause(width: u64, x: u64) -> u64
+pub fn word_cause(width: u64, x: u64) -> Result<(), Cause>
     ensures { result ≡ word_cause width x }
 {
     if 64 <= width {
-        return 0;
+        return Ok(());
     }
-    unless(x >> width == 0, cause::WORD)
+    unless(x >> width == 0, Cause::Word)
 }

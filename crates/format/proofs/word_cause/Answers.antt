@@ -8,7 +8,7 @@ use native.Mathlib.Omega.{arith}
 use borrow.Author.Tests.{lt-ltb, le-ltb, eq-eqb, ne_eqb}
 use lib.Dec.{eqb, ltb}
 use lib.Pow.{pow_pos, pow_mono}
-use Rattle.format.specs.Cause as cause
+use Rattle.format.specs.declared.cause.Cause.TheVariants as cause
 use Rattle.format.specs.Cause.{unless}
 use Rattle.format.specs.Format.{word_cause}
 use Rattle.format.proofs.word_cause.Goals as goal
@@ -33,4 +33,4 @@ pub returns : goal.returns
 unfolding word_cause
 returns c =
     let a = c.args in
-    c.unless.ensures ∙ ap (λ (t : Bool). unless t cause.word) (quotient a.x a.width)
+    c.unless.ensures ∙ ap (λ (t : Bool). unless t cause.Word) (quotient a.x a.width)
