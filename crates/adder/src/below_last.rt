@@ -12,7 +12,7 @@ use crate::Below;
 use crate::sum::smaller;
 use bits::{high, low};
 use format::limits::MOST_DROPPED;
-use format::{Format, format_cause};
+use format::{Format, supported};
 use rounding::alignment::{aligned, sticky};
 use word::exponent::unit_of;
 use word::unpack::operands;
@@ -98,7 +98,7 @@ fn kind_below(format: Format, g: u64, operands: Operands) -> Below
 pub fn below_last(format: Format, operation: u64, g: u64, a: u64, b: u64) -> Below
     ensures { ((Supported format × (g ≤ most_dropped)) → result ≡ below_of format operation g a b) × (((Supported format × (g ≤ most_dropped)) → ⊥) → result ≡ NoBits) }
 {
-    if format_cause(format) != 0 {
+    if !supported(format) {
         return Below::NoBits;
     }
     if MOST_DROPPED < g {

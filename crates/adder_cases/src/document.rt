@@ -3,7 +3,7 @@ use crate::ask::{
     accepted, eight_difference, eight_difference_no_row, eight_difference_row, eight_sum,
     eight_sum_row, refused,
 };
-use format::cause;
+use format::Cause;
 use std::io;
 use tally::Count;
 
@@ -88,10 +88,10 @@ pub(crate) fn eight_bit_cases(rt: &impl Print, count: Count) -> io::Result<Count
 pub(crate) fn limits(rt: &impl Print, count: Count) -> io::Result<Count> {
     let one = accepted(rt, count, 2, 4)?;
     let two = accepted(rt, one, 11, 4)?;
-    let three = refused(rt, two, 1, 4, cause::EXPONENT_BITS)?;
-    let four = refused(rt, three, 12, 4, cause::EXPONENT_BITS)?;
+    let three = refused(rt, two, 1, 4, Cause::ExponentBits)?;
+    let four = refused(rt, three, 12, 4, Cause::ExponentBits)?;
     let five = accepted(rt, four, 3, 2)?;
     let six = accepted(rt, five, 3, 52)?;
-    let seven = refused(rt, six, 3, 1, cause::FRACTION_BITS)?;
-    refused(rt, seven, 3, 53, cause::FRACTION_BITS)
+    let seven = refused(rt, six, 3, 1, Cause::FractionBits)?;
+    refused(rt, seven, 3, 53, Cause::FractionBits)
 }

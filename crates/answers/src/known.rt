@@ -10,7 +10,7 @@ ghost use Rattle.answers.specs.Kept.{place_of, Never, bit_of, Refuses, Closed, c
 use crate::PLACES;
 use bits::{bit_at, minus, power};
 use classes::{Class, FAR_GAP, MOST_FIELD, TOP_FIELD, class_admits};
-use format::{Format, format_cause};
+use format::{Format, supported};
 use job::Job;
 use job::guards::reach;
 use mask::{Mask, meets};
@@ -175,7 +175,7 @@ fn closed_bit(reach: u64, class: Class) -> u64
 fn askable(format: Format, unit: Unit) -> bool
     ensures { (result ≡ true) ↔ (Supported format × (unit.0 < 2 ^ 16)) }
 {
-    if format_cause(format) != 0 {
+    if !supported(format) {
         return false;
     }
     unit.0 < 65536

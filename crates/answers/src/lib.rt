@@ -3,7 +3,7 @@
 
 use bits::{minus, power};
 use classes::{FAR_GAP, Fields, MOST_FIELD, class_of, fields_of};
-use format::{Format, format_cause};
+use format::{Format, supported};
 use job::Job;
 use job::guards::reach;
 use known::class_may;
@@ -83,7 +83,7 @@ pub fn class_end(job: Job) -> Biased
     ensures { (Valid job → ClassEnd job result) × ((Supported job.setting.format → ⊥) → result.0 ≡ 0) }
 {
     let format = job.setting.format;
-    if format_cause(format) != 0 {
+    if !supported(format) {
         return Biased(0);
     }
     let ones = power(format.w) - 1;

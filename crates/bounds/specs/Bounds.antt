@@ -3,7 +3,7 @@
 -- is within comes twice: with a capital, which laws read, and as a Bool, which a check computes. Assumes nothing.
 use Rattle.std.specs.Prelude.{◌≡◌, Bool, true, false, not, cond, ◌&&◌, ℕ, ◌+◌, ◌-◌, ◌%◌, ◌^◌, ◌≤◌, ◌<◌, eqb, leb, ltb}
 use Rattle.format.specs.declared.Format.{Format}
-use Rattle.format.specs.Cause as cause
+use Rattle.format.specs.declared.cause.Cause.TheVariants as cause
 use Rattle.format.specs.Cause.{unless, first}
 use Rattle.format.specs.Format.{word_bits, word_cause}
 use Rattle.word.specs.Word.{sign, infinity_word}
@@ -56,7 +56,7 @@ ordered_ends F e = not (is_nan F e.low) && (not (is_nan F e.high) && leb (rank F
 -- "18, a bound is a NaN or low exceeds high"
 unfoldable pub bounds_cause : Format → stated.Bounds → ℕ
 bounds_cause F Unbounded = 0
-bounds_cause F (Between e) = unless (ordered_ends F e) cause.bounds
+bounds_cause F (Between e) = unless (ordered_ends F e) cause.Bounds
 
 -- neither 6 nor 18 stands against them
 pub record ValidEnds (F : Format) (e : Ends) : Type 0 where

@@ -7,7 +7,7 @@ ghost use Rattle.bounds.specs.declared.Bounds.TheVariants.{Between};
 ghost use Rattle.bounds.specs.Bounds.{is_nan, rank, within, ordered_ends, ends_cause, bounds_cause};
 
 use bits::{bit_at, low, power};
-use format::{Format, cause, first, format_cause, unless, word_cause};
+use format::{Format, Cause, first, supported, unless, word_cause};
 use word::pack::infinity_word;
 
 // The ends of an interval of words, both included.
@@ -28,7 +28,7 @@ pub enum Bounds {
 pub fn rank(format: Format, x: u64) -> u64
     ensures { (Supported format → result ≡ rank format x) × ((Supported format → ⊥) → result ≡ 0) }
 {
-    if format_cause(format) != 0 {
+    if !supported(format) {
         return 0;
     }
     let place = format.w + format.f;
@@ -60,7 +60,7 @@ fn lies_between(format: Format, ends: Ends, x: u64) -> bool
 pub fn within(format: Format, bounds: Bounds, x: u64) -> bool
     ensures { Supported format → result ≡ within format x bounds }
 {
-    if format_cause(format) != 0 {
+    if !supported(format) {
         return false;
     }
     match bounds {
@@ -73,7 +73,7 @@ pub fn within(format: Format, bounds: Bounds, x: u64) -> bool
 pub fn ends_cause(format: Format, bounds: Bounds) -> u64
     ensures { Supported format → result ≡ ends_cause format bounds }
 {
-    if format_cause(format) != 0 {
+    if !supported(format) {
         return 0;
     }
     let width = format.w + format.f + 1;
@@ -96,11 +96,11 @@ fn ordered_ends(format: Format, ends: Ends) -> bool
 pub fn bounds_cause(format: Format, bounds: Bounds) -> u64
     ensures { Supported format → result ≡ bounds_cause format bounds }
 {
-    if format_cause(format) != 0 {
+    if !supported(format) {
         return 0;
     }
     match bounds {
         Bounds::Unbounded => 0,
-        Bounds::Between(ends) => unless(ordered_ends(format, ends), cause::BOUNDS),
+        Bounds::Between(ends) => unless(ordered_ends(format, ends), Cause::Bounds),
     }
 }

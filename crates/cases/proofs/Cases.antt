@@ -39,7 +39,7 @@ use Rattle.adder.specs.Exact.{exact_magnitude}
 use Rattle.adder.specs.Result.{finite_sum, infinite_sum, kind_sum, result_of, result_cause, result_reply}
 use Rattle.adder.specs.Row.{gather, finite_row, kind_row, row_of, row_cause, row_reply}
 use Rattle.adder.specs.Below.{finite_below, kind_below, below_of}
-use Rattle.format.specs.Cause as cause
+use Rattle.format.specs.declared.cause.Cause.TheVariants as cause
 use Rattle.fit.specs.Fit.{Fits, satisfies, fits, case_cause}
 use Rattle.whole.specs.declared.Reply.TheVariants.{Found}
 use Rattle.whole.specs.Sum.{addends}
@@ -96,7 +96,7 @@ passes (below F operation g a b bits) = is_below (below_of F operation g a b) bi
 passes (exactly j fitting) = eqb (job_cause j) 0 && (all_fit j fitting && each_case j (listed fitting))
 passes (found j r1 r2 a b c carries) =
     eqb (request_cause j r1 r2) 0 && ((is_case j a b c && is_row carries (row_of j.setting.format j.setting.operation a b)) && each_case j (λ x y z. not_closer r1 r2 a b x y))
-passes (refused j k) = (ltb 0 k && eqb k (job_cause j)) || (eqb (job_cause j) 0 && (eqb k cause.no_case && each_case j (λ x y z. false)))
+passes (refused j k) = (ltb 0 k && eqb k (job_cause j)) || (eqb (job_cause j) 0 && (eqb k cause.NoCase && each_case j (λ x y z. false)))
 passes (whole_sum n x y carry_in z carries) = is_whole n x y carry_in z carries
 
 every : List Claim → Bool
@@ -220,25 +220,25 @@ caused_is j k e r1 r2 h1 h2 =
     let named = taken_words j (first (word_cause width r1) (word_cause width r2)) words in
     inl (subst (λ (n : ℕ). 0 < n) (is ∙ sym named) positive, is ∙ sym named)
 
-no_case_is : (j : Job) (k : ℕ) → (eqb (job_cause j) 0 && (eqb k cause.no_case && each_case j (λ x y z. false))) ≡ true → Holds (refused j k)
+no_case_is : (j : Job) (k : ℕ) → (eqb (job_cause j) 0 && (eqb k cause.NoCase && each_case j (λ x y z. false))) ≡ true → Holds (refused j k)
 no_case_is j k e r1 r2 h1 h2 =
     let test : ℕ → ℕ → ℕ → Bool = λ x y z. false in
-    let p = (and-eq-true_iff (eqb (job_cause j) 0) (eqb k cause.no_case && each_case j test)).0 e in
-    let q = (and-eq-true_iff (eqb k cause.no_case) (each_case j test)).0 p.1 in
+    let p = (and-eq-true_iff (eqb (job_cause j) 0) (eqb k cause.NoCase && each_case j test)).0 e in
+    let q = (and-eq-true_iff (eqb k cause.NoCase) (each_case j test)).0 p.1 in
     let valid = (job_none j).0 (eqb-true (job_cause j) 0 p.0) in
     inr (
       record {
         taken = (request_none j r1 r2).1 (record { valid = valid; first_word = h1; second_word = h2 });
         none = λ a b c f. false≢true (every_case j test valid q.1 a b c f);
       },
-      eqb-true k cause.no_case q.0,
+      eqb-true k cause.NoCase q.0,
     )
 
 refused_is : (j : Job) (k : ℕ) → passes (refused j k) ≡ true → Holds (refused j k)
 unfolding passes
 refused_is j k e =
     ⊎_elim (caused_is j k) (no_case_is j k)
-    (or_cases (ltb 0 k && eqb k (job_cause j)) (eqb (job_cause j) 0 && (eqb k cause.no_case && each_case j (λ x y z. false))) e)
+    (or_cases (ltb 0 k && eqb k (job_cause j)) (eqb (job_cause j) 0 && (eqb k cause.NoCase && each_case j (λ x y z. false))) e)
 
 passes_holds : (x : Claim) → passes x ≡ true → Holds x
 unfolding passes

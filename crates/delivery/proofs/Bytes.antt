@@ -11,7 +11,7 @@ use Rattle.numbers.proofs.Numbers.{length_number, length_put, put_put, put_room}
 use borrow.Author.Tests.{le-leb, lt-leb}
 use lib.Dec.{leb}
 use mathlib.Core.Bool.{true, false}
-use Rattle.format.specs.Cause as cause
+use Rattle.format.specs.declared.cause.Cause.TheVariants as cause
 use Rattle.delivery.specs.Answer.{Content, numbers, bytes_of, Delivered}
 
 pub bytes_append : (ns ms : List ℕ) → bytes_of (ns ++ ms) ≡ bytes_of ns ++ bytes_of ms
@@ -58,7 +58,7 @@ put_front s bs = ap (λ (n : ℕ). bs ++ drop n s) (zero-add (length bs))
 
 -- numbers that find no room are not delivered, and others are
 module _ (ns s : List ℕ) where
-  pub delivered_none : length s < length (bytes_of ns) → Delivered (numbers ns) s s cause.buffer
+  pub delivered_none : length s < length (bytes_of ns) → Delivered (numbers ns) s s cause.Buffer
   delivered_none h =
       let test : leb (length (bytes_of ns)) (length s) ≡ false = lt-leb (length (bytes_of ns)) (length s) h in
       record { number = rw test; buffer = rw test }

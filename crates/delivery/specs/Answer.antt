@@ -2,7 +2,7 @@
 -- puts the answer's numbers into a lent buffer, each as eight bytes, low byte first. Too short a buffer is 11, which comes last, as in
 -- writing a record. Assumes nothing.
 use Rattle.std.specs.Prelude.{◌≡◌, ℕ, List, [], ◌∷◌, ◌++◌, length, leb}
-use Rattle.format.specs.Cause as cause
+use Rattle.format.specs.declared.cause.Cause.TheVariants as cause
 use Rattle.format.specs.Cause.{unless}
 use Rattle.numbers.specs.Number.{little_endian, buffer_after}
 use Rattle.delivery.specs.declared.Answer.{Answer}
@@ -28,7 +28,7 @@ bytes_of (n ∷ ns) = little_endian 8 n ++ bytes_of ns
 
 -- 11 where n bytes have no room for these bytes
 abbrev pub room_cause : List ℕ → ℕ → ℕ
-room_cause bs n = unless (leb (length bs) n) cause.buffer
+room_cause bs n = unless (leb (length bs) n) cause.Buffer
 
 -- the number that is returned
 abbrev pub status : Content → List ℕ → ℕ

@@ -5,7 +5,7 @@ ghost use Rattle.std.specs.Prelude.{◌≡◌, ◌*◌, ◌≤◌, length, take}
 ghost use Rattle.numbers.specs.Number.{put};
 ghost use Rattle.delivery.specs.Answer.{numbers, bytes_of, content_of, Delivered};
 
-use format::cause;
+use format::Cause;
 use numbers::put_within;
 
 // The numbers of an answer, or the number of a refusal.
@@ -39,7 +39,7 @@ fn deliver_numbers(out: &mut [u8], given: [u64; 5], count: usize) -> u64
     ensures { Delivered (numbers (take count given)) out.old out.new result }
 {
     if out.len() < SIZE * count {
-        return cause::BUFFER;
+        return Cause::Buffer;
     }
     put_numbers(out, given, count);
     0

@@ -12,7 +12,7 @@ use adder::carry_row::carry_row;
 use adder::result::rounded_result;
 use adder::{Below, Reply, Row, RowReply};
 use bounds::within;
-use format::{Format, first, format_cause, word_cause};
+use format::{Format, first, supported, word_cause};
 use job::{Dropped, Job, Setting, Wanted, cause_with};
 use mask::{Mask, meets};
 
@@ -29,7 +29,7 @@ pub enum Confirmed {
 pub fn case_cause(job: Job, a: u64, b: u64, c: u64) -> u64
     ensures { result ≡ case_cause job a b c }
 {
-    if format_cause(job.setting.format) != 0 {
+    if !supported(job.setting.format) {
         return cause_with(job, 0);
     }
     let width = job.setting.format.w + job.setting.format.f + 1;

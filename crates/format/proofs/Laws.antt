@@ -60,13 +60,13 @@ format_none F =
       λ s. law.1 (w.1 (s.w_least, s.w_most), f.1 (s.f_least, s.f_most)),
     )
 
--- what a caller learns from the check that it made
-module _ {F : Format} {r : Check} (e : r ≡ format_cause F) where
-  pub supported_of : r ≡ clear → Supported F
-  supported_of z = (format_none F).0 (sym e ∙ z)
+-- what a caller learns from the test whether a format is supported
+module _ {F : Format} {t : Bool} (tells : (t ≡ true) ↔ Supported F) where
+  pub supported_of : t ≡ true → Supported F
+  supported_of = tells.0
 
-  pub unsupported_of : (r ≡ clear → ⊥) → Supported F → ⊥
-  unsupported_of ne ok = ne (e ∙ (format_none F).1 ok)
+  pub unsupported_of : t ≡ false → Supported F → ⊥
+  unsupported_of z ok = mathlib.Core.Bool.false≢true (sym z ∙ tells.1 ok)
 
 pub operation_none : (op : ℕ) → operation_cause op ≡ clear ↔ (op ≤ most_operation)
 unfolding operation_cause

@@ -4,12 +4,12 @@
 pub mod cause;
 pub mod limits;
 
-pub use cause::Cause;
-
 ghost use Rattle.std.specs.Prelude.{◌≡◌, ◌↔◌, true};
 ghost use Rattle.format.specs.Cause.{unless};
 ghost use Rattle.format.specs.Limits.{within};
 ghost use Rattle.format.specs.Format.{Supported, format_cause, operation_cause, mode_cause, word_cause};
+
+pub use cause::Cause;
 
 // A binary floating-point format: w exponent bits and f fraction bits.
 #[derive(Clone, Copy)]
@@ -33,6 +33,7 @@ pub fn unless(ok: bool, cause: Cause) -> Result<(), Cause>
 }
 
 // 1 or 2 where a width lies outside its limits.
+#[tactic(auto, unfolding(crate::specs::Format::format_cause))]
 pub fn format_cause(format: Format) -> Result<(), Cause>
     ensures { result ≡ format_cause format }
 {
@@ -58,6 +59,7 @@ pub fn supported(format: Format) -> bool
 }
 
 // 3 where the operation is neither 0, add, nor 1, subtract.
+#[tactic(auto, unfolding(crate::specs::Format::operation_cause))]
 pub fn operation_cause(operation: u64) -> Result<(), Cause>
     ensures { result ≡ operation_cause operation }
 {
@@ -65,6 +67,7 @@ pub fn operation_cause(operation: u64) -> Result<(), Cause>
 }
 
 // 4 where the mode is above 4.
+#[tactic(auto, unfolding(crate::specs::Format::mode_cause))]
 pub fn mode_cause(mode: u64) -> Result<(), Cause>
     ensures { result ≡ mode_cause mode }
 {

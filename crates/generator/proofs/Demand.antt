@@ -4,7 +4,7 @@ use mathlib.Core.Logic.{◌⊎◌, inl, inr}
 use Prim.Native.Nat.{ℕ, ◌<◌}
 use native.Mathlib.Omega.{arith}
 use lib.Bits.{bit_xor}
-use Rattle.format.specs.Cause as cause
+use Rattle.format.specs.declared.cause.Cause.TheVariants as cause
 use Rattle.choice.specs.Choice.{Farther}
 use Rattle.job.specs.declared.Job.{Job}
 use Rattle.job.specs.Job.{request_cause, Request}
@@ -52,7 +52,7 @@ demand_3 j r1 r2 h p q = record {
     taken : request_cause j r1 r2 ≡ 0
     taken = (request_none j r1 r2).1 h
 
-    said : (p : Reply) → Replied j r1 r2 p → (p ≡ Refused cause.no_case) ⊎ ((x : Case) × (p ≡ Found x) × Best j r1 r2 x)
+    said : (p : Reply) → Replied j r1 r2 p → (p ≡ Refused cause.NoCase) ⊎ ((x : Case) × (p ≡ Found x) × Best j r1 r2 x)
     said (Found x) q = inr (x, refl, chosen_best j r1 r2 x q.1)
     said (Refused k) (inl q) = absurd (omega (arith, q.0, taken))
     said (Refused k) (inr q) = inl (ap Refused q.1)

@@ -6,7 +6,7 @@ use mathlib.Core.Logic.{◌⊎◌, inl, inr, ◌↔◌}
 use Prim.Native.Nat.{ℕ, zero, suc, ◌^◌, ◌<◌}
 use native.Mathlib.Decide.{dec_lt}
 use native.Mathlib.Omega.{arith}
-use Rattle.format.specs.Cause as cause
+use Rattle.format.specs.declared.cause.Cause.TheVariants as cause
 use Rattle.format.specs.Format.{Supported, word_bits}
 use Rattle.choice.specs.Choice.{ClosestPair}
 use Rattle.choice.proofs.Existence.{pair_or_none}
@@ -48,7 +48,7 @@ reply_exists j r1 r2 = go (request_cause j r1 r2) refl
         → ((a : ℕ) × (b : ℕ) × ClosestPair (Fitting j) r1 r2 a b) ⊎ ((a b : ℕ) → Fitting j a b → ⊥)
         → (p : Reply) × Replied j r1 r2 p
     taken h e (inl w) = (Found (case_of j w.0 w.1), (e, case_chosen j r1 r2 w.0 w.1 w.2))
-    taken h e (inr none) = (Refused cause.no_case, inr (record { taken = e; none = λ a b c f. none a b (c, f) }, refl))
+    taken h e (inr none) = (Refused cause.NoCase, inr (record { taken = e; none = λ a b c f. none a b (c, f) }, refl))
 
     go : (k : ℕ) → request_cause j r1 r2 ≡ k → (p : Reply) × Replied j r1 r2 p
     go zero e =

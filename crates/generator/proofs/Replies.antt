@@ -4,7 +4,7 @@ use mathlib.Core.Path.{◌≡◌, refl, sym, ap, ap₂, ◌∙◌}
 use mathlib.Core.Logic.{inl, inr, ◌↔◌}
 use Prim.Native.Nat.{ℕ}
 use native.Mathlib.Omega.{arith}
-use Rattle.format.specs.Cause as cause
+use Rattle.format.specs.declared.cause.Cause.TheVariants as cause
 use Rattle.choice.proofs.Pair.{pair_unique, pair_self}
 use Rattle.job.specs.declared.Job.{Job}
 use Rattle.job.specs.Job.{job_cause, request_cause}
@@ -36,7 +36,7 @@ reply_unique j r1 r2 (Refused k) (Refused l) (inr p) (inr q) = ap Refused (p.1 �
 
 -- of a job that is taken, "none" is the reply exactly where no three words fit
 pub none_exactly : (j : Job) (r1 r2 : ℕ) (p : Reply) → request_cause j r1 r2 ≡ 0 → Replied j r1 r2 p
-    → (p ≡ Refused cause.no_case) ↔ ((a b c : ℕ) → Fits j a b c → ⊥)
+    → (p ≡ Refused cause.NoCase) ↔ ((a b c : ℕ) → Fits j a b c → ⊥)
 none_exactly j r1 r2 (Found x) e p = (
   λ q. absurd (let z : ◌≡◌ {A = ℕ} 0 1 = cc in omega arith),
   λ none. absurd (none x.a x.b x.c p.1.fits),

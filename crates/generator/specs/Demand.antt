@@ -3,7 +3,7 @@
 -- 8 at most, bounds that are numbers in order (W-207) or none, and words no wider than the format. Assumes nothing.
 use Rattle.std.specs.Prelude.{◌≡◌, ◌⊎◌, ◌↔◌, ℕ, ◌<◌}
 use Rattle.std.specs.Int.Bits.{bit_xor}
-use Rattle.format.specs.Cause as cause
+use Rattle.format.specs.declared.cause.Cause.TheVariants as cause
 use Rattle.job.specs.declared.Job.{Job}
 use Rattle.job.specs.Job.{Request}
 use Rattle.fit.specs.Fit.{Fits}
@@ -36,8 +36,8 @@ pub record Reachable (j : Job) (a b c : ℕ) : Type 0 where
 pub record Demand3 (j : Job) (r1 r2 : ℕ) (p : Reply) : Type 0 where
   -- "'no case' is said exactly when no three words of the format .. fit": W-206, "when c is the rounded result and the case meets everything
   -- that its job states"
-  pub nothing_fits : (p ≡ Refused cause.no_case) ↔ ((a b c : ℕ) → Fits j a b c → ⊥)
+  pub nothing_fits : (p ≡ Refused cause.NoCase) ↔ ((a b c : ℕ) → Fits j a b c → ⊥)
   -- "Otherwise the reply is a case that fits, and every other .."
-  pub otherwise : (p ≡ Refused cause.no_case) ⊎ ((x : Case) × (p ≡ Found x) × Best j r1 r2 x)
+  pub otherwise : (p ≡ Refused cause.NoCase) ⊎ ((x : Case) × (p ≡ Found x) × Best j r1 r2 x)
   -- "each case that fits is the reply to some pair of them"
   pub every_case : (a b c : ℕ) → Fits j a b c → Reachable j a b c

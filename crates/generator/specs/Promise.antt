@@ -1,7 +1,7 @@
 -- The promise of the case generator: the reply to a job and two random words, by cases (document 01, "Masks and choice", "Causes and
 -- replies"). `Fits` tells a fitting case by sums, and no search stands in it. Assumes nothing.
 use Rattle.std.specs.Prelude.{◌≡◌, ◌⊎◌, ℕ, ◌<◌}
-use Rattle.format.specs.Cause as cause
+use Rattle.format.specs.declared.cause.Cause.TheVariants as cause
 use Rattle.choice.specs.Choice.{ClosestPair}
 use Rattle.job.specs.declared.Job.{Job}
 use Rattle.job.specs.Job.{request_cause}
@@ -29,4 +29,4 @@ pub record None (j : Job) (r1 r2 : ℕ) : Type 0 where
 -- a found case is the chosen one of a job that is taken; a number is that of the first cause, or 7 where no case fits
 abbrev pub Replied : Job → ℕ → ℕ → Reply → Type 0
 Replied j r1 r2 (Found x) = (request_cause j r1 r2 ≡ 0) × Chosen j r1 r2 x
-Replied j r1 r2 (Refused k) = ((0 < request_cause j r1 r2) × (k ≡ request_cause j r1 r2)) ⊎ (None j r1 r2 × (k ≡ cause.no_case))
+Replied j r1 r2 (Refused k) = ((0 < request_cause j r1 r2) × (k ≡ request_cause j r1 r2)) ⊎ (None j r1 r2 × (k ≡ cause.NoCase))

@@ -10,7 +10,7 @@ ghost use Rattle.generator.specs.Promise.{case_of, Replied};
 use adder::carry_row::carry_row;
 use adder::result::rounded_result;
 use adder::{Row, RowReply};
-use format::cause;
+use format::Cause;
 use job::{Job, request_cause};
 use search::{Choice, choose};
 
@@ -81,6 +81,6 @@ pub fn generate(job: Job, r1: u64, r2: u64) -> Reply
     }
     match choose(job, r1, r2) {
         Choice::Operands(pair) => Reply::Found(case_of(job, pair.a, pair.b)),
-        Choice::Nothing => Reply::Refused(cause::NO_CASE),
+        Choice::Nothing => Reply::Refused(Cause::NoCase),
     }
 }

@@ -1,6 +1,6 @@
 // W-207: jobs that state bounds, impossible ones among them, and their refusals.
 use crate::jobs::{adding, asked, both_words, bounding, eight, found, free, none, open};
-use format::cause;
+use format::Cause;
 use generator::Reply;
 use job::{Job, Role};
 use std::io;
@@ -85,9 +85,9 @@ pub(crate) fn stated(rt: &impl Print, count: Count) -> io::Result<Count> {
 pub(crate) fn malformed(rt: &impl Print, count: Count) -> io::Result<Count> {
     let job = open(adding(3, 4, 0));
     let nan = bounding(job, Role::A, 0x00, 0x78);
-    let one = asked(rt, count, nan, 0, 0, Reply::Refused(cause::BOUNDS))?;
+    let one = asked(rt, count, nan, 0, 0, Reply::Refused(Cause::Bounds))?;
     let turned = bounding(job, Role::C, 0x31, 0x30);
-    let two = asked(rt, one, turned, 0, 0, Reply::Refused(cause::BOUNDS))?;
+    let two = asked(rt, one, turned, 0, 0, Reply::Refused(Cause::Bounds))?;
     let wide = bounding(turned, Role::B, 0x00, 0x100);
-    asked(rt, two, wide, 0, 0, Reply::Refused(cause::WORD))
+    asked(rt, two, wide, 0, 0, Reply::Refused(Cause::Word))
 }

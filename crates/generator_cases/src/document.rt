@@ -3,7 +3,7 @@
 use crate::jobs::{
     adding, asked, both_words, dropping, eight, found, free, mask, none, numbers, open,
 };
-use format::cause;
+use format::Cause;
 use generator::Reply;
 use job::Setting;
 use job::words::masked_job;
@@ -45,12 +45,12 @@ fn refused(rt: &impl Print, count: Count, w: u64, f: u64, number: u64) -> io::Re
 pub(crate) fn limits(rt: &impl Print, count: Count) -> io::Result<Count> {
     let one = accepted(rt, count, 2, 4)?;
     let two = accepted(rt, one, 11, 4)?;
-    let three = refused(rt, two, 1, 4, cause::EXPONENT_BITS)?;
-    let four = refused(rt, three, 12, 4, cause::EXPONENT_BITS)?;
+    let three = refused(rt, two, 1, 4, Cause::ExponentBits)?;
+    let four = refused(rt, three, 12, 4, Cause::ExponentBits)?;
     let five = accepted(rt, four, 3, 2)?;
     let six = accepted(rt, five, 3, 52)?;
-    let seven = refused(rt, six, 3, 1, cause::FRACTION_BITS)?;
-    refused(rt, seven, 3, 53, cause::FRACTION_BITS)
+    let seven = refused(rt, six, 3, 1, Cause::FractionBits)?;
+    refused(rt, seven, 3, 53, Cause::FractionBits)
 }
 
 // Two positive operands and a negative sum, in the format whose words have this sign bit.
@@ -166,20 +166,20 @@ fn wide(
 
 // Of the causes 1 to 4 each line has one fewer: the first is named. Masks and words have a bit above every width.
 fn first_cause(rt: &impl Print, count: Count) -> io::Result<Count> {
-    let one = wide(rt, count, numbers(1, 1, 2, 5), 0, cause::EXPONENT_BITS)?;
-    let two = wide(rt, one, numbers(3, 1, 2, 5), 0, cause::FRACTION_BITS)?;
-    let three = wide(rt, two, numbers(3, 4, 2, 5), 0, cause::OPERATION)?;
-    wide(rt, three, numbers(3, 4, 0, 5), 0, cause::MODE)
+    let one = wide(rt, count, numbers(1, 1, 2, 5), 0, Cause::ExponentBits)?;
+    let two = wide(rt, one, numbers(3, 1, 2, 5), 0, Cause::FractionBits)?;
+    let three = wide(rt, two, numbers(3, 4, 2, 5), 0, Cause::Operation)?;
+    wide(rt, three, numbers(3, 4, 0, 5), 0, Cause::Mode)
 }
 
 // The same of malformed masks, with the words after them.
 fn first_mask(rt: &impl Print, count: Count) -> io::Result<Count> {
-    let one = wide(rt, count, adding(3, 4, 0), 0, cause::MASK)?;
-    let two = wide(rt, one, adding(3, 4, 0), 1, cause::SECOND_MASK)?;
-    let three = wide(rt, two, adding(3, 4, 0), 2, cause::THIRD_MASK)?;
-    let four = wide(rt, three, adding(3, 4, 0), 3, cause::CARRY_MASK)?;
-    let five = wide(rt, four, adding(3, 4, 0), 4, cause::DROPPED_MASK)?;
-    wide(rt, five, adding(3, 4, 0), 5, cause::WORD)
+    let one = wide(rt, count, adding(3, 4, 0), 0, Cause::Mask)?;
+    let two = wide(rt, one, adding(3, 4, 0), 1, Cause::SecondMask)?;
+    let three = wide(rt, two, adding(3, 4, 0), 2, Cause::ThirdMask)?;
+    let four = wide(rt, three, adding(3, 4, 0), 3, Cause::CarryMask)?;
+    let five = wide(rt, four, adding(3, 4, 0), 4, Cause::DroppedMask)?;
+    wide(rt, five, adding(3, 4, 0), 5, Cause::Word)
 }
 
 // Words alone too wide.
@@ -190,16 +190,16 @@ fn words(rt: &impl Print, count: Count, r1: u64, r2: u64) -> io::Result<Count> {
         open(adding(3, 4, 0)),
         r1,
         r2,
-        Reply::Refused(cause::WORD),
+        Reply::Refused(Cause::Word),
     )
 }
 
 // A value outside care, and a carry above the precision.
 fn masks(rt: &impl Print, count: Count) -> io::Result<Count> {
     let outside = masked_job(adding(3, 4, 0), free(), mask(1, 3), free(), free());
-    let one = asked(rt, count, outside, 0, 0, Reply::Refused(cause::SECOND_MASK))?;
+    let one = asked(rt, count, outside, 0, 0, Reply::Refused(Cause::SecondMask))?;
     let carry = masked_job(adding(3, 4, 0), free(), free(), free(), mask(0x20, 0x20));
-    asked(rt, one, carry, 0, 0, Reply::Refused(cause::CARRY_MASK))
+    asked(rt, one, carry, 0, 0, Reply::Refused(Cause::CarryMask))
 }
 
 pub(crate) fn bad_input(rt: &impl Print, count: Count) -> io::Result<Count> {

@@ -2,7 +2,7 @@
 use crate::jobs::{
     adding, asked, both_words, dropping, eight, found, free, mask, none, numbers, open,
 };
-use format::cause;
+use format::Cause;
 use generator::Reply;
 use job::Job;
 use job::words::masked_job;
@@ -110,7 +110,7 @@ pub(crate) fn stated(rt: &impl Print, count: Count) -> io::Result<Count> {
 // A line for nothing fixed but these.
 fn refused(rt: &impl Print, count: Count, g: u64, care: u64, value: u64) -> io::Result<Count> {
     let job = dropping(open(adding(3, 4, 0)), g, care, value);
-    asked(rt, count, job, 0, 0, Reply::Refused(cause::DROPPED_MASK))
+    asked(rt, count, job, 0, 0, Reply::Refused(Cause::DroppedMask))
 }
 
 // A g above 8, also where no bit is fixed; a bit above the g + 1 bits; a value outside care, also where no bit is fixed. A g up to 8 is taken.

@@ -3,7 +3,7 @@ use crate::line::{ask, put_reply};
 use crate::same::same_reply;
 use adder::Row;
 use bounds::{Bounds, Ends};
-use format::{Format, cause};
+use format::{Format, Cause};
 use generator::{Case, Reply};
 use job::words::{masked_job, wanted, with_wanted};
 use job::{Dropped, Job, Role, Setting, Wanted};
@@ -83,7 +83,7 @@ pub(crate) fn found(a: u64, b: u64, c: u64, carries: u64) -> Reply {
 }
 
 pub(crate) fn none() -> Reply {
-    Reply::Refused(cause::NO_CASE)
+    Reply::Refused(Cause::NoCase)
 }
 
 // A line: the generator is asked, and its reply held against the one expected.

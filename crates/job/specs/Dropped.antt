@@ -1,7 +1,7 @@
 -- What a job wants of the bits that rounding drops (document 02, W-206): "A fifth mask fixes any of the dropped bits and the sticky bit".
 -- Assumes nothing.
 use Rattle.std.specs.Prelude.{cond, ◌&&◌, ℕ, ◌+◌, ◌≤◌, eqb, leb}
-use Rattle.format.specs.Cause as cause
+use Rattle.format.specs.declared.cause.Cause.TheVariants as cause
 use Rattle.format.specs.Cause.{unless}
 use Rattle.format.specs.Limits.{most_dropped}
 use Rattle.mask.specs.Mask.{WellFormed, well_formed, free_mask}
@@ -10,7 +10,7 @@ use Rattle.job.specs.declared.Job.{Job}
 
 -- "17, g above 8 or this mask malformed": it has a bit for each of the g dropped bits and the sticky bit
 unfoldable pub dropped_cause : Dropped → ℕ
-dropped_cause D = unless (leb D.g most_dropped && well_formed (D.g + 1) D.mask) cause.dropped_mask
+dropped_cause D = unless (leb D.g most_dropped && well_formed (D.g + 1) D.mask) cause.DroppedMask
 
 -- that cause does not stand
 pub record ValidDropped (D : Dropped) : Type 0 where

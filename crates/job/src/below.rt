@@ -3,7 +3,7 @@ ghost use Rattle.std.specs.Prelude.{◌≡◌};
 ghost use Rattle.job.specs.Dropped.{dropped_cause, free_dropped, normalised};
 
 use crate::Dropped;
-use format::{cause, limits, unless};
+use format::{Cause, limits, unless};
 use mask::{Mask, well_formed};
 
 // 17 where g is above 8, or the mask has a bit above its g + 1 bits or a value bit outside care; else 0. With a g above 8 the mask is not
@@ -12,10 +12,10 @@ pub(crate) fn dropped_cause(dropped: Dropped) -> u64
     ensures { result ≡ dropped_cause dropped }
 {
     if limits::MOST_DROPPED < dropped.g {
-        return cause::DROPPED_MASK;
+        return Cause::DroppedMask;
     }
     let formed = well_formed(dropped.g + 1, dropped.mask);
-    unless(formed, cause::DROPPED_MASK)
+    unless(formed, Cause::DroppedMask)
 }
 
 // Nothing is wanted of the dropped bits.

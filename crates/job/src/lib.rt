@@ -12,7 +12,7 @@ ghost use Rattle.job.specs.Job.{setting_cause, job_masks_cause, job_ends_cause, 
 
 use below::dropped_cause;
 use bounds::{Bounds, bounds_cause, ends_cause};
-use format::{Format, first, format_cause, mode_cause, operation_cause, word_cause};
+use format::{Format, first, format_cause, mode_cause, operation_cause, word_cause, supported};
 use mask::{Mask, masks_cause};
 
 // What decides the result of two operands.
@@ -152,7 +152,7 @@ pub fn cause_with(job: Job, words: u64) -> u64
 pub fn request_cause(job: Job, r1: u64, r2: u64) -> u64
     ensures { result ≡ request_cause job r1 r2 }
 {
-    if format_cause(job.setting.format) != 0 {
+    if !supported(job.setting.format) {
         return cause_with(job, 0);
     }
     let width = job.setting.format.w + job.setting.format.f + 1;

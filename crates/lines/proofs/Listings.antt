@@ -9,7 +9,7 @@ use borrow.Author.Tests.{eq-eqb}
 use mathlib.Core.List.{List, ◌++◌}
 use lib.ListN.{length, drop, length-drop}
 use lib.Seq.{drop-drop}
-use Rattle.format.specs.Cause as cause
+use Rattle.format.specs.declared.cause.Cause.TheVariants as cause
 use Rattle.job.specs.declared.Job.{Job}
 use Rattle.job.specs.Job.{request_cause}
 use Rattle.records.specs.Record.{first_in, record_cause, record_length}
@@ -124,7 +124,7 @@ listed_unique {s} (more {q = q} {u = u} a rest) (more {q = q₂} {u = v} b rest�
 pub stops_none : (j : Job) (r1 r2 : ℕ) (r : Reply) → request_cause j r1 r2 ≡ 0 → Replied j r1 r2 r → stops r ≡ false
 stops_none j r1 r2 (Found x) ok p = refl
 stops_none j r1 r2 (Refused k) ok (inl p) = absurd (omega (arith, ok, p.0))
-stops_none j r1 r2 (Refused k) ok (inr p) = ap not (eq-eqb k cause.no_case p.1)
+stops_none j r1 r2 (Refused k) ok (inr p) = ap not (eq-eqb k cause.NoCase p.1)
 
 read_taken : (s : List ℕ) (e : Entry) (n : ℕ) → first_in s ≡ found.Job e n → request_cause e.job e.r1 e.r2 ≡ 0
 read_taken s e n q = let t = first_job s e n q in ap record_cause (sym t.entry) ∙ t.readable.sound

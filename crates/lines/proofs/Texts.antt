@@ -11,7 +11,7 @@ use lib.Seq.{take-suc-set}
 use lib.Dec.{ltb}
 use borrow.Author.Tests.{lt-ltb, le-ltb, eq-eqb, ne_eqb, ltb-true, ltb-false}
 use Rattle.lines.specs.Text.{glyph, digits, places, decimal, word_digits, word, row_text, none_line, refused_line, reply_line, text, Empty, Room, Grown, Says}
-use Rattle.format.specs.Cause as cause
+use Rattle.format.specs.declared.cause.Cause.TheVariants as cause
 use Rattle.format.specs.declared.Format.{Format}
 use Rattle.layout.proofs.JobLayout.{by_width}
 use Rattle.generator.specs.declared.Reply.TheVariants.{Refused}
@@ -131,10 +131,10 @@ says_grown {l} {r} {bs} e g h =
     record { most = omega (arith, g.len, g.whole, e.len, h); text = g.text ∙ ap (λ (n : ℕ). take n l.bytes ++ bs) e.len }
 
 -- the line for a number: 7, or another
-pub reply_none : (F : Format) (n k : ℕ) → k ≡ cause.no_case → reply_line F n (Refused k) ≡ none_line n
+pub reply_none : (F : Format) (n k : ℕ) → k ≡ cause.NoCase → reply_line F n (Refused k) ≡ none_line n
 unfolding reply_line
-reply_none F n k e = ap (λ (t : Bool). cond t (none_line n) (refused_line n k)) (eq-eqb k cause.no_case e)
+reply_none F n k e = ap (λ (t : Bool). cond t (none_line n) (refused_line n k)) (eq-eqb k cause.NoCase e)
 
-pub reply_refused : (F : Format) (n k : ℕ) → (k ≡ cause.no_case → ⊥) → reply_line F n (Refused k) ≡ refused_line n k
+pub reply_refused : (F : Format) (n k : ℕ) → (k ≡ cause.NoCase → ⊥) → reply_line F n (Refused k) ≡ refused_line n k
 unfolding reply_line
-reply_refused F n k h = ap (λ (t : Bool). cond t (none_line n) (refused_line n k)) (ne_eqb k cause.no_case h)
+reply_refused F n k h = ap (λ (t : Bool). cond t (none_line n) (refused_line n k)) (ne_eqb k cause.NoCase h)

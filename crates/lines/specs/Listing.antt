@@ -1,7 +1,7 @@
 -- The listing of a job file (document 01, "Cases, in hexadecimal", from "The listing program" on): which line comes next, and what comes
 -- after it. A place is the offset of the next record, the count of the lines before, and whether reading has stopped. Assumes nothing.
 use Rattle.std.specs.Prelude.{◌≡◌, Bool, true, false, not, ◌⊎◌, ℕ, ◌+◌, ◌≤◌, ◌<◌, List, [], ◌∷◌, ◌++◌, length, drop, eqb}
-use Rattle.format.specs.Cause as cause
+use Rattle.format.specs.declared.cause.Cause.TheVariants as cause
 use Rattle.records.specs.Record.{first_in}
 use Rattle.layout.specs.declared.Entry.{Entry}
 use Rattle.records.specs.declared.First.TheVariants as found
@@ -20,7 +20,7 @@ longest = 65536
 -- "Another refusal prints `n refused k` .. and reading stops": other than 7
 abbrev pub stops : Reply → Bool
 stops (Found x) = false
-stops (Refused k) = not (eqb k cause.no_case)
+stops (Refused k) = not (eqb k cause.NoCase)
 
 -- a record is to be read at the place: reading has not stopped, and the count is one that a listing can have
 pub record Reading (p : Place) : Type 0 where

@@ -2,7 +2,7 @@
 use Rattle.std.specs.Prelude.{◌≡◌, cond, ℕ, zero, suc, ◌+◌, ◌*◌, ◌/◌, ◌%◌, ◌≤◌, List, [], ◌∷◌, ◌++◌, length, take, ltb, eqb}
 use Rattle.adder.specs.declared.Row.{Row}
 use Rattle.adder.specs.declared.Row.TheVariants.{Carries, NoRow}
-use Rattle.format.specs.Cause as cause
+use Rattle.format.specs.declared.cause.Cause.TheVariants as cause
 use Rattle.format.specs.declared.Format.{Format}
 use Rattle.layout.specs.Fields.{word_bytes}
 use Rattle.generator.specs.declared.Case.{Case}
@@ -77,7 +77,7 @@ refused_line n k = decimal n ++ (refused_word ++ (decimal k ++ feed))
 -- the line for the reply to job n, in the job's format: 7 is "`n none`"
 unfoldable pub reply_line : Format → ℕ → Reply → List ℕ
 reply_line F n (Found x) = found_line (word_digits F) n x
-reply_line F n (Refused k) = cond (eqb k cause.no_case) (none_line n) (refused_line n k)
+reply_line F n (Refused k) = cond (eqb k cause.NoCase) (none_line n) (refused_line n k)
 
 -- "end "
 abbrev pub end_word : List ℕ

@@ -8,7 +8,7 @@ ghost use Rattle.std.specs.Prelude.{◌≡◌, true, false, ◌⊎◌, ◌<◌};
 ghost use Rattle.lines.specs.Listing.{start, stops, longest, Reading};
 ghost use Rattle.lines.specs.Step.{Steps, Answers};
 
-use format::cause;
+use format::Cause;
 use generator::{Reply, generate};
 use layout::Entry;
 use reader::draw;
@@ -60,7 +60,7 @@ fn stops(reply: Reply) -> bool
 {
     match reply {
         Reply::Found(_) => false,
-        Reply::Refused(k) => k != cause::NO_CASE,
+        Reply::Refused(k) => k != Cause::NoCase,
     }
 }
 

@@ -4,7 +4,7 @@ ghost use Rattle.lines.specs.Text.{Room, Grown, Says, row_text, found_line, none
 
 use crate::text::{Line, empty, with_decimal, with_text, with_word, word_digits};
 use adder::Row;
-use format::{Format, cause};
+use format::{Format, Cause};
 use generator::{Case, Reply};
 
 // With a space and the row in k digits, or a dash where there is none.
@@ -53,7 +53,7 @@ pub(crate) fn reply_line(format: Format, n: u64, reply: Reply) -> Line
     match reply {
         Reply::Found(x) => found_line(word_digits(format), n, x),
         Reply::Refused(k) => {
-            if k == cause::NO_CASE {
+            if k == Cause::NoCase {
                 return none_line(n);
             }
             refused_line(n, k)

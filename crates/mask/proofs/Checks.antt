@@ -1,4 +1,4 @@
--- What the checks of masks tell: a mask has no cause exactly when it is well formed, the number of four masks names the first malformed one,
+-- What the checks of masks tell: a mask has no cause exactly when it is well formed, the cause of four masks names the first malformed one,
 -- and the Bool of a test is the statement.
 -- Assumes nothing.
 use mathlib.Core.Logic.{◌↔◌}
@@ -8,8 +8,9 @@ use Prim.Native.Nat.{ℕ, suc, ◌^◌}
 use borrow.Author.Tests.{ltb-true, lt-ltb, eqb-true, eq-eqb}
 use lib.Bits.{bit_and}
 use lib.Dec.{ltb}
-use Rattle.format.specs.Cause as cause
-use Rattle.format.specs.Cause.{unless, first}
+use Rattle.format.specs.declared.cause.Cause.TheVariants as cause
+use Rattle.format.specs.declared.cause.Cause.{Cause}
+use Rattle.format.specs.Cause.{clear, unless, first}
 use Rattle.format.proofs.Laws.{both_none, unless_none}
 use Rattle.mask.specs.declared.Mask.{Mask}
 use Rattle.mask.specs.Mask.{Inside, inside, WellFormed, well_formed, mask_cause, masks_cause, Meets, meets}
@@ -39,8 +40,7 @@ well_formed_true width m =
 well_formed_false : (width : ℕ) (m : Mask) → well_formed width m ≡ false → WellFormed width m → ⊥
 well_formed_false width m e w = false≢true (sym e ∙ (well_formed_true width m).1 w)
 
--- a number that is not 0 is suc k
-mask_none : (k width : ℕ) (m : Mask) → (mask_cause (suc k) width m ≡ 0) ↔ WellFormed width m
+mask_none : (k : Cause) (width : ℕ) (m : Mask) → (mask_cause k width m ≡ clear) ↔ WellFormed width m
 unfolding mask_cause
 mask_none k width m =
     let none = unless_none (well_formed width m) k in
@@ -50,10 +50,10 @@ mask_none k width m =
 module _ (width positions : ℕ) (a b c carries : Mask) where
   -- four masks have no cause exactly when all are well formed
   pub masks_none :
-      (masks_cause width positions a b c carries ≡ 0)
+      (masks_cause width positions a b c carries ≡ clear)
       ↔ (WellFormed width a × (WellFormed width b × (WellFormed width c × WellFormed positions carries)))
   unfolding masks_cause
-  masks_none = both_none _ _ (mask_none 4 _ _) (both_none _ _ (mask_none 13 _ _) (both_none _ _ (mask_none 14 _ _) (mask_none 15 _ _)))
+  masks_none = both_none _ _ (mask_none cause.Mask _ _) (both_none _ _ (mask_none cause.SecondMask _ _) (both_none _ _ (mask_none cause.ThirdMask _ _) (mask_none cause.CarryMask _ _)))
 
   -- their cause names the first malformed one
   pub masks_named : Named width positions a b c carries (masks_cause width positions a b c carries)
@@ -65,7 +65,7 @@ module _ (width positions : ℕ) (a b c carries : Mask) where
 
       by : (s t u v : Bool) → well_formed width a ≡ s → well_formed width b ≡ t → well_formed width c ≡ u → well_formed positions carries ≡ v
           → Named width positions a b c carries
-          (first (unless s cause.mask) (first (unless t cause.second_mask) (first (unless u cause.third_mask) (unless v cause.carry_mask))))
+          (first (unless s cause.Mask) (first (unless t cause.SecondMask) (first (unless u cause.ThirdMask) (unless v cause.CarryMask))))
       by false t u v es et eu ev = named.first (well_formed_false width a es)
       by true false u v es et eu ev = named.second (yes a es) (well_formed_false width b et)
       by true true false v es et eu ev = named.third (yes a es) (yes b et) (well_formed_false width c eu)

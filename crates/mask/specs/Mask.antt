@@ -5,8 +5,9 @@
 use Rattle.std.specs.Prelude.{◌≡◌, Bool, true, false, ◌&&◌, ℕ, ◌*◌, ◌/◌, ◌%◌, ◌^◌, ◌<◌, eqb, ltb}
 use Rattle.std.specs.Int.Bits.{bit_and, bit_or}
 use Rattle.bits.specs.Bit.{bit}
-use Rattle.format.specs.Cause as cause
-use Rattle.format.specs.Cause.{unless, first}
+use Rattle.format.specs.declared.cause.Cause.TheVariants as cause
+use Rattle.format.specs.declared.cause.Cause.{Cause}
+use Rattle.format.specs.Cause.{Check, unless, first}
 use Rattle.mask.specs.declared.Mask.{Mask}
 
 -- "A value bit outside care must be 0"
@@ -24,17 +25,17 @@ pub record WellFormed (width : ℕ) (m : Mask) : Type 0 where
 abbrev pub well_formed : ℕ → Mask → Bool
 well_formed width m = ltb m.care (2 ^ width) && inside m
 
--- "mask bit above its width, or value outside care": the number that such a mask is given
-unfoldable pub mask_cause : ℕ → ℕ → Mask → ℕ
-mask_cause number width m = unless (well_formed width m) number
+-- "mask bit above its width, or value outside care": the cause that such a mask is given
+unfoldable pub mask_cause : Cause → ℕ → Mask → Check
+mask_cause cause width m = unless (well_formed width m) cause
 
 -- W-203: 5 for a's mask, 14 for b's, 15 for c's, 16 for that of the carries, which have a width of their own, "tested in that order"; in whole
 -- numbers x, y and z stand for a, b and c
-unfoldable pub masks_cause : ℕ → ℕ → Mask → Mask → Mask → Mask → ℕ
+unfoldable pub masks_cause : ℕ → ℕ → Mask → Mask → Mask → Mask → Check
 masks_cause width positions a b c carries =
-    first (mask_cause cause.mask width a)
-    (first (mask_cause cause.second_mask width b)
-    (first (mask_cause cause.third_mask width c) (mask_cause cause.carry_mask positions carries)))
+    first (mask_cause cause.Mask width a)
+    (first (mask_cause cause.SecondMask width b)
+    (first (mask_cause cause.ThirdMask width c) (mask_cause cause.CarryMask positions carries)))
 
 -- a word agrees with every fixed bit
 abbrev pub Meets : ℕ → Mask → Type 0

@@ -7,20 +7,13 @@ ghost use Rattle.std.specs.Prelude.{◌≡◌};
 ghost use Rattle.mask.specs.Mask.{inside, well_formed, mask_cause, masks_cause, meets, free, fix, low, high};
 ghost use Rattle.mask.specs.Join.{agree, join};
 
-use format::{cause, first, unless, word_cause};
+use format::{Cause, unless, word_cause};
 
 // A bit of care fixes that bit to the bit of value.
 #[derive(Clone, Copy)]
 pub struct Mask {
     pub care: u64,
     pub value: u64,
-}
-
-// What joining two masks gives.
-#[derive(Clone, Copy)]
-pub enum Joined {
-    Mask(Mask),
-    Refused(u64),
 }
 
 // Whether no value bit stands outside care.
@@ -34,26 +27,34 @@ fn inside(m: Mask) -> bool
 pub fn well_formed(width: u64, m: Mask) -> bool
     ensures { result ≡ well_formed width m }
 {
-    (word_cause(width, m.care) == 0) & inside(m)
+    word_cause(width, m.care).is_ok() & inside(m)
 }
 
-// The number that is given, where the mask is malformed; else 0.
-fn mask_cause(number: u64, width: u64, m: Mask) -> u64
-    ensures { result ≡ mask_cause number width m }
+// The cause that is given, where the mask is malformed.
+#[tactic(auto, unfolding(crate::specs::Mask::mask_cause))]
+fn mask_cause(cause: Cause, width: u64, m: Mask) -> Result<(), Cause>
+    ensures { result ≡ mask_cause cause width m }
 {
-    unless(well_formed(width, m), number)
+    unless(well_formed(width, m), cause)
 }
 
-// The number of the first malformed mask: 5 for a's or x's, 14 for b's or y's, 15 for c's or z's, 16 for the carries', which have so many
-// positions; else 0.
-pub fn masks_cause(width: u64, positions: u64, a: Mask, b: Mask, c: Mask, carries: Mask) -> u64
+// The first malformed mask's cause: 5 for a's or x's, 14 for b's or y's, 15 for c's or z's, 16 for the carries', which have so many
+// positions.
+#[tactic(auto, unfolding(crate::specs::Mask::masks_cause))]
+pub fn masks_cause(
+    width: u64,
+    positions: u64,
+    a: Mask,
+    b: Mask,
+    c: Mask,
+    carries: Mask,
+) -> Result<(), Cause>
     ensures { result ≡ masks_cause width positions a b c carries }
 {
-    let one = mask_cause(cause::MASK, width, a);
-    let two = mask_cause(cause::SECOND_MASK, width, b);
-    let three = mask_cause(cause::THIRD_MASK, width, c);
-    let four = mask_cause(cause::CARRY_MASK, positions, carries);
-    first(one, first(two, first(three, four)))
+    mask_cause(Cause::Mask, width, a)?;
+    mask_cause(Cause::SecondMask, width, b)?;
+    mask_cause(Cause::ThirdMask, width, c)?;
+    mask_cause(Cause::CarryMask, positions, carries)
 }
 
 // Whether x agrees with every fixed bit.
@@ -95,22 +96,17 @@ fn agree(m: Mask, n: Mask) -> bool
 }
 
 // The mask that fixes what either fixes; 5 for a value outside care in either, 13 where the two fix one bit unlike.
-pub fn join(m: Mask, n: Mask) -> Joined
+#[tactic(auto, unfolding(crate::specs::Join::join))]
+pub fn join(m: Mask, n: Mask) -> Result<Mask, Cause>
     ensures { result ≡ join m n }
 {
-    let one = unless(inside(m), cause::MASK);
-    let other = unless(inside(n), cause::MASK);
-    let refusal = first(one, other);
-    if refusal != 0 {
-        return Joined::Refused(refusal);
-    }
-    if agree(m, n) {
-        return Joined::Mask(Mask {
-            care: m.care | n.care,
-            value: m.value | n.value,
-        });
-    }
-    Joined::Refused(cause::CLASH)
+    unless(inside(m), Cause::Mask)?;
+    unless(inside(n), Cause::Mask)?;
+    unless(agree(m, n), Cause::Clash)?;
+    Ok(Mask {
+        care: m.care | n.care,
+        value: m.value | n.value,
+    })
 }
 
 // The mask on the low k bits.

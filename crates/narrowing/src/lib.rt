@@ -13,7 +13,7 @@ ghost use Rattle.narrowing.specs.Narrowing.{Stands, Narrows};
 
 use bits::{bit_at, minus, power};
 use bounds::{Bounds, Ends, rank};
-use format::{Format, format_cause};
+use format::{Format, supported};
 use job::Wanted;
 use mask::{Joined, Mask, free, join, low};
 use significand::greatest;
@@ -127,7 +127,7 @@ fn stands_between(format: Format, mask: Mask, ends: Ends) -> Standing
 pub fn stands(format: Format, w: Wanted) -> Standing
     ensures { Supported format → ValidWanted format w → Stands format w result }
 {
-    if format_cause(format) != 0 {
+    if !supported(format) {
         return Standing::Outside;
     }
     let bounds = w.bounds;
@@ -197,7 +197,7 @@ fn narrowed_between(format: Format, mask: Mask, ends: Ends) -> Mask
 pub fn narrowed(format: Format, w: Wanted) -> Mask
     ensures { Supported format → ValidWanted format w → Narrows format w result }
 {
-    if format_cause(format) != 0 {
+    if !supported(format) {
         return w.mask;
     }
     let bounds = w.bounds;

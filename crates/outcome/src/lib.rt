@@ -123,7 +123,7 @@ pub fn admits(
     ensures in_format { result ≡ true → InFormat format sign unit × Room format.f aligned }
     ensures exact { InFormat format sign unit → Formed format.f aligned → ValidDropped target.dropped → (result ≡ true) ↔ Admits format mode sign unit aligned target }
 {
-    if format::format_cause(format) != 0 {
+    if !format::supported(format) {
         return false;
     }
     if 1 < sign {

@@ -10,7 +10,7 @@ ghost use Rattle.pair.specs.Pair.{FiniteSide, bits_below, reversed_of, Larger, s
 use crate::Side;
 use bits::power;
 use format::limits::MOST_DROPPED;
-use format::{Format, format_cause};
+use format::{Format, supported};
 use job::guards::guards;
 use job::{Dropped, Job};
 use making::Aligned;
@@ -140,7 +140,7 @@ fn some_signs(job: Job, ea: Biased, eb: Biased) -> bool
 pub(crate) fn finite_fields(format: Format, ea: Biased, eb: Biased) -> bool
     ensures { (result ≡ true) ↔ FinitePair format ea eb }
 {
-    if format_cause(format) != 0 {
+    if !supported(format) {
         return false;
     }
     let ones = power(format.w) - 1;

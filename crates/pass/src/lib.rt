@@ -8,7 +8,7 @@ mod span;
 ghost use Rattle.job.specs.Job.{Valid};
 ghost use Rattle.pass.specs.First.{NoneBefore, FirstPair};
 
-use format::format_cause;
+use format::supported;
 use job::Job;
 use pairs::first_from;
 use word::Biased;
@@ -25,7 +25,7 @@ pub struct Exponents {
 pub fn first_pair(job: Job, start: Exponents) -> Exponents
     ensures { Valid job → NoneBefore job start → FirstPair job result }
 {
-    if format_cause(job.setting.format) != 0 {
+    if !supported(job.setting.format) {
         return start;
     }
     first_from(job, start)

@@ -11,7 +11,7 @@ use mathlib.Core.List.{List, [], ◌∷◌}
 use lib.ListN.{length}
 use lib.Dec.{leb, ltb}
 use lib.Pow.{pow_mono, pow_pos}
-use Rattle.format.specs.Cause as cause
+use Rattle.format.specs.declared.cause.Cause.TheVariants as cause
 use Rattle.format.specs.Cause.{unless, first}
 use Rattle.format.specs.Format.{word_bits, precision, Supported}
 use Rattle.format.specs.declared.Format.{Format}
@@ -121,7 +121,7 @@ first_assoc (suc k) m n = refl
 
 -- a cause other than a map with a bit that has no meaning or a record that is cut short
 abbrev pub late_cause : ℕ → List ℕ → ℕ
-late_cause word s = first (record_cause (entry_in word s)) (unless (not (says_absence word (map_in s) (entry_numbers (entry_in word s)))) cause.default_field)
+late_cause word s = first (record_cause (entry_in word s)) (unless (not (says_absence word (map_in s) (entry_numbers (entry_in word s)))) cause.DefaultField)
 
 -- ---- what reading says, where so many map bits have a meaning and a word has so many bytes
 module _ (bits word : ℕ) where
@@ -207,11 +207,11 @@ module _ (bits word : ℕ) where
 
   -- a map with a bit that has no meaning, or a record that is cut short
   abbrev pub early_cause : List ℕ → ℕ
-  early_cause s = first (unless (ltb (map_in s) (2 ^ bits)) cause.map_bits) (unless (leb (record_length word (map_in s)) (length s)) cause.cut)
+  early_cause s = first (unless (ltb (map_in s) (2 ^ bits)) cause.MapBits) (unless (leb (record_length word (map_in s)) (length s)) cause.Cut)
 
   cause_split : (s : List ℕ) → read_cause bits word s ≡ first (early_cause s) (late_cause word s)
   unfolding read_cause
-  cause_split s = first_assoc (unless (ltb (map_in s) (2 ^ bits)) cause.map_bits) (unless (leb (record_length word (map_in s)) (length s)) cause.cut) (late_cause word s)
+  cause_split s = first_assoc (unless (ltb (map_in s) (2 ^ bits)) cause.MapBits) (unless (leb (record_length word (map_in s)) (length s)) cause.Cut) (late_cause word s)
 
   module _ (s : List ℕ) (some : length s ≡ 0 → ⊥) where
     by_cause : (k : ℕ) → read_cause bits word s ≡ k → first_with bits word s ≡ read_reply k (entry_in word s) (record_length word (map_in s))
@@ -229,7 +229,7 @@ module _ (bits word : ℕ) where
   early_none s e =
       let m : ℕ = map_in s in
       let n : ℕ = record_length word m in
-      let both = (first_none (unless (ltb m (2 ^ bits)) cause.map_bits) (unless (leb n (length s)) cause.cut)).0 e in
+      let both = (first_none (unless (ltb m (2 ^ bits)) cause.MapBits) (unless (leb n (length s)) cause.Cut)).0 e in
       (ltb-true m (2 ^ bits) ((unless_none (ltb m (2 ^ bits)) 8).0 both.0), leb-true n (length s) ((unless_none (leb n (length s)) 7).0 both.1))
 
 -- ---- the same for this version of the job files

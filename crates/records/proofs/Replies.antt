@@ -7,7 +7,7 @@ use borrow.Author.Tests.{le-leb, lt-leb}
 use mathlib.Core.List.{List, ◌++◌}
 use lib.ListN.{length, drop}
 use lib.Dec.{leb}
-use Rattle.format.specs.Cause as cause
+use Rattle.format.specs.declared.cause.Cause.TheVariants as cause
 use Rattle.format.specs.Cause.{unless}
 use Rattle.format.proofs.Laws.{first_none, first_some}
 use Rattle.numbers.specs.Number.{buffer_after}
@@ -28,12 +28,12 @@ module _ (e : Entry) (s : List ℕ) where
   -- a cause against the entry
   pub write_refused : (record_cause e ≡ 0 → ⊥) → (reply.Refused (record_cause e) ≡ writing e s) × (s ≡ written e s)
   unfolding write_cause
-  write_refused h = refused (record_cause e) h (first_some (record_cause e) (unless (leb (length (record_bytes e)) (length s)) cause.buffer) h)
+  write_refused h = refused (record_cause e) h (first_some (record_cause e) (unless (leb (length (record_bytes e)) (length s)) cause.Buffer) h)
 
   -- a buffer too short for the record
-  pub write_short : record_cause e ≡ 0 → length s < length (record_bytes e) → (reply.Refused cause.buffer ≡ writing e s) × (s ≡ written e s)
+  pub write_short : record_cause e ≡ 0 → length s < length (record_bytes e) → (reply.Refused cause.Buffer ≡ writing e s) × (s ≡ written e s)
   unfolding write_cause
-  write_short ok h = refused cause.buffer (λ q. omega arith) (rw (ok, lt-leb (length (record_bytes e)) (length s) h))
+  write_short ok h = refused cause.Buffer (λ q. omega arith) (rw (ok, lt-leb (length (record_bytes e)) (length s) h))
 
   -- no cause
   pub write_whole : record_cause e ≡ 0 → length (record_bytes e) ≤ length s
@@ -54,7 +54,7 @@ pub read_after_write : (e : Entry) (s : List ℕ) (n : ℕ) → writing e s ≡ 
 unfolding writing written write_cause
 read_after_write e s n q =
     let t = reply_written (write_cause e (length s)) (length (record_bytes e)) n q in
-    let ok : record_cause e ≡ 0 = ((first_none (record_cause e) (unless (leb (length (record_bytes e)) (length s)) cause.buffer)).0 t.0).0 in
+    let ok : record_cause e ≡ 0 = ((first_none (record_cause e) (unless (leb (length (record_bytes e)) (length s)) cause.Buffer)).0 t.0).0 in
     let tail : List ℕ = drop (length (record_bytes e)) s in
     let holds : written e s ≡ record_bytes e ++ tail = ap (λ (k : ℕ). buffer_after k (record_bytes e) s) t.0 in (
       ap first_in holds ∙ read_written e tail ok ∙ ap (found.Job (normalised_entry e)) t.1,

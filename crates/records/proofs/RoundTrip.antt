@@ -10,7 +10,7 @@ use borrow.Author.Tests.{eqb-true}
 use lib.Dec.{eqb}
 use lib.ListN.{length, take, drop, length-append, length-drop}
 use lib.Seq.{drop-append_seam}
-use Rattle.format.specs.Cause as cause
+use Rattle.format.specs.declared.cause.Cause.TheVariants as cause
 use Rattle.format.specs.Cause.{unless, first}
 use Rattle.numbers.specs.Number.{Bytes, little_endian}
 use Rattle.numbers.specs.Numbers.{total, number_bytes, numbers}
@@ -104,8 +104,8 @@ absence_read s h fits =
     absence_map m e h (λ z. rw z at fits) (read_announces (format_in s) (operation_in s) m (numbers_in (word_in s) s)) (entry_absent m (word_in s) e (fields_absent (word_in s) s))
 
 pub entry_default : (s : List ℕ) → map_in s < 2 ^ map_width → map_in s < 256 ^ map_bytes (map_in s)
-    → first (record_cause (entry_in (word_in s) s)) (unless (eqb (entry_map (entry_in (word_in s) s)) (map_in s)) cause.default_field) ≡ late_cause (word_in s) s
-entry_default s h fits = ap (λ (t : Bool). first (record_cause (entry_in (word_in s) s)) (unless t cause.default_field)) (sym (absence_read s h fits))
+    → first (record_cause (entry_in (word_in s) s)) (unless (eqb (entry_map (entry_in (word_in s) s)) (map_in s)) cause.DefaultField) ≡ late_cause (word_in s) s
+entry_default s h fits = ap (λ (t : Bool). first (record_cause (entry_in (word_in s) s)) (unless t cause.DefaultField)) (sym (absence_read s h fits))
 
 -- a job that was read carries no g where no dropped bit is fixed
 pub read_taken : (bits word : ℕ) (s : List ℕ) → Readable bits word s → normalised (entry_in word s).job.dropped ≡ (entry_in word s).job.dropped

@@ -2,7 +2,7 @@
 -- the rest after it, and what writing does to a buffer. An entry is a job with its two random words. Assumes nothing.
 use Rattle.std.specs.Prelude.{not, ℕ, zero, suc, ◌+◌, ◌^◌, List, [], ◌∷◌, ◌++◌, length, get_or, take, drop, leb, ltb}
 use Rattle.bits.specs.Bit.{bit}
-use Rattle.format.specs.Cause as cause
+use Rattle.format.specs.declared.cause.Cause.TheVariants as cause
 use Rattle.format.specs.Cause.{unless, first}
 use Rattle.format.specs.declared.Format.{Format}
 use Rattle.job.specs.Job.{request_cause}
@@ -68,9 +68,9 @@ entry_in word s = entry_with (format_in s) (operation_in s) (map_in s) (numbers_
 -- whatever its g
 unfoldable pub read_cause : ℕ → ℕ → List ℕ → ℕ
 read_cause bits word s =
-    first (unless (ltb (map_in s) (2 ^ bits)) cause.map_bits)
-    (first (unless (leb (record_length word (map_in s)) (length s)) cause.cut)
-    (first (record_cause (entry_in word s)) (unless (not (says_absence word (map_in s) (entry_numbers (entry_in word s)))) cause.default_field)))
+    first (unless (ltb (map_in s) (2 ^ bits)) cause.MapBits)
+    (first (unless (leb (record_length word (map_in s)) (length s)) cause.Cut)
+    (first (record_cause (entry_in word s)) (unless (not (says_absence word (map_in s) (entry_numbers (entry_in word s)))) cause.DefaultField)))
 
 -- a job where no cause stands, else the cause's number
 abbrev pub read_reply : ℕ → Entry → ℕ → First
@@ -103,7 +103,7 @@ rest s = rest_after (first_in s) s
 
 -- "Writing checks 1 to 6, then 11": the record is longer than the buffer of n bytes
 unfoldable pub write_cause : Entry → ℕ → ℕ
-write_cause e n = first (record_cause e) (unless (leb (length (record_bytes e)) n) cause.buffer)
+write_cause e n = first (record_cause e) (unless (leb (length (record_bytes e)) n) cause.Buffer)
 
 -- the byte count where no cause stands, else the cause's number
 abbrev pub write_reply : ℕ → ℕ → Writing

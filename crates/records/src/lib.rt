@@ -12,7 +12,7 @@ ghost use Rattle.records.specs.Record.{map_bytes, header_bytes, record_cause, re
 
 use bits::bit_at;
 use fields::{put_numbers, read_numbers, total};
-use format::{Format, cause, first, unless};
+use format::{Format, Cause, first, unless};
 use job::request_cause;
 use layout::{
     ANNOUNCING, Entry, MAP_WIDTH, NUMBERS, entry_map, entry_numbers, entry_with, field_sizes,
@@ -132,7 +132,7 @@ fn read_reply(entry: Entry, map: u64, n: usize) -> First
 {
     let same = entry_map(entry) == map;
     let found = entry_cause(entry);
-    let said = unless(same, cause::DEFAULT_FIELD);
+    let said = unless(same, Cause::DefaultField);
     let cause = first(found, said);
     if cause == 0 {
         return First::Job(entry, n);
@@ -150,8 +150,8 @@ pub fn read(s: &[u8]) -> First
     let map = map_in(s);
     let format = format_in(s, map);
     let n = record_length(format, map);
-    let bits = unless(map < MAPS, cause::MAP_BITS);
-    let cut = unless(n <= s.len(), cause::CUT);
+    let bits = unless(map < MAPS, Cause::MapBits);
+    let cut = unless(n <= s.len(), Cause::Cut);
     let early = first(bits, cut);
     if 0 < early {
         return First::Refused(early);
@@ -197,7 +197,7 @@ pub fn write(entry: Entry, buffer: &mut [u8]) -> Writing
     let map = entry_map(entry);
     let n = record_length(entry.job.setting.format, map);
     if buffer.len() < n {
-        return Writing::Refused(cause::BUFFER);
+        return Writing::Refused(Cause::Buffer);
     }
     put_record(buffer, map, entry);
     Writing::Written(n)

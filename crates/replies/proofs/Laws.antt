@@ -6,7 +6,7 @@ use mathlib.Core.Bool.{Bool, true, false, ◌&&◌}
 use Prim.Native.Nat.{ℕ, zero, suc, ◌<◌}
 use native.Mathlib.Omega.{arith}
 use mathlib.Core.List.{List}
-use Rattle.format.specs.Cause as cause
+use Rattle.format.specs.declared.cause.Cause.TheVariants as cause
 use Rattle.format.specs.declared.Format.{Format}
 use Rattle.mask.specs.declared.Mask.{Mask}
 use Rattle.mask.specs.declared.Joined.TheVariants as joined_is
@@ -77,10 +77,10 @@ pub first_refusal : (s : List ℕ) (n : ℕ) → first_in s ≡ first_is.Refused
 first_refusal s n = first_refused s n
 
 joined_number : (x y : Bool) (m : Mask) (n : ℕ)
-    → pick_joined x (pick_joined y (joined_is.Mask m) (joined_is.Refused cause.clash)) (joined_is.Refused cause.mask) ≡ joined_is.Refused n → 0 < n
+    → pick_joined x (pick_joined y (joined_is.Mask m) (joined_is.Refused cause.Clash)) (joined_is.Refused cause.Mask) ≡ joined_is.Refused n → 0 < n
 joined_number true true m n e = absurd (let z : ◌≡◌ {A = ℕ} 0 1 = cc in omega arith)
-joined_number true false m n e = let q : cause.clash ≡ n = cc in omega arith
-joined_number false y m n e = let q : cause.mask ≡ n = cc in omega arith
+joined_number true false m n e = let q : cause.Clash ≡ n = cc in omega arith
+joined_number false y m n e = let q : cause.Mask ≡ n = cc in omega arith
 
 pub joined_refusal : (m o : Mask) (n : ℕ) → join m o ≡ joined_is.Refused n → 0 < n
 unfolding join

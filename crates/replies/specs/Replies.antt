@@ -1,7 +1,7 @@
 -- The content of each exported function's answer, from the reply of the function that it exports (document 01, "Causes and replies"). Where a job
 -- is wanted it is given as a job record; bytes after the record play no part, and no bytes at all are a record cut short. Assumes nothing.
 use Rattle.std.specs.Prelude.{◌≡◌, ℕ, List, [], ◌∷◌}
-use Rattle.format.specs.Cause as cause
+use Rattle.format.specs.declared.cause.Cause.TheVariants as cause
 use Rattle.format.specs.declared.Format.{Format}
 use Rattle.mask.specs.declared.Mask.{Mask}
 use Rattle.mask.specs.declared.Joined as joined
@@ -80,7 +80,7 @@ of_confirmed (confirmed-is.Refused k) = refusal k
 
 -- confirmation of a case for the job of a record
 abbrev pub confirmation : first.First → ℕ → ℕ → ℕ → Content
-confirmation first_is.End a b c = refusal cause.cut
+confirmation first_is.End a b c = refusal cause.Cut
 confirmation (first_is.Job e n) a b c = of_confirmed (confirmed_reply e.job a b c)
 confirmation (first_is.Refused k) a b c = refusal k
 
@@ -97,7 +97,7 @@ pub record OfEntry (e : Entry) (x : Content) : Type 0 where
 
 -- the same to a record
 abbrev pub OfRecord : first.First → Content → Type 0
-OfRecord first_is.End x = x ≡ refusal cause.cut
+OfRecord first_is.End x = x ≡ refusal cause.Cut
 OfRecord (first_is.Job e n) x = OfEntry e x
 OfRecord (first_is.Refused k) x = x ≡ refusal k
 

@@ -9,7 +9,7 @@ ghost use Rattle.replies.specs.Replies.{of_result, row_numbers, of_row, of_joine
 use adder::{Reply, Row, RowReply};
 use delivery::Answer;
 use fit::{Confirmed, confirm};
-use format::cause;
+use format::Cause;
 use generator::Case;
 use layout::Entry;
 use mask::Joined;
@@ -82,7 +82,7 @@ pub fn confirmed(first: First, a: u64, b: u64, c: u64) -> Answer
     ensures { content_of result ≡ confirmation first a b c }
 {
     match first {
-        First::End => Answer::Refused(cause::CUT),
+        First::End => Answer::Refused(Cause::Cut),
         First::Job(entry, _) => of_confirmed(confirm(entry.job, a, b, c)),
         First::Refused(number) => Answer::Refused(number),
     }
@@ -114,7 +114,7 @@ pub fn generated(first: First) -> Answer
     ensures { OfRecord first (content_of result) }
 {
     match first {
-        First::End => Answer::Refused(cause::CUT),
+        First::End => Answer::Refused(Cause::Cut),
         First::Job(entry, _) => of_entry(entry),
         First::Refused(number) => Answer::Refused(number),
     }

@@ -11,7 +11,7 @@ use crate::addend::{carry, constant};
 use crate::mode::direction;
 use crate::width::{ALIGNED, GUARD_BITS, MOST_ROUNDED, SUM};
 use bits::{bit_at, high, power};
-use format::{Format, format_cause};
+use format::{Format, supported};
 use word::Unit;
 use word::pack::{infinity_word, signed};
 
@@ -83,7 +83,7 @@ pub fn overflow_word(format: Format, direction: Direction) -> u64
 fn roundable(format: Format, sign: u64, x: u64, u: Unit) -> bool
     ensures { result ≡ true ↔ Roundable format sign x u.0 }
 {
-    if format_cause(format) != 0 {
+    if !supported(format) {
         return false;
     }
     (sign < 2) & (u.0 < power(format.w)) & (x < power(format.f + SUM))

@@ -10,7 +10,7 @@ ghost use Rattle.search.specs.Choice.{Chosen};
 ghost use Rattle.search.specs.declared.Choice.TheVariants.{Nothing};
 
 use bits::power;
-use format::format_cause;
+use format::supported;
 use job::{Job, Role};
 use left::first_left;
 use pass::Exponents;
@@ -38,7 +38,7 @@ pub fn choose(job: Job, r1: u64, r2: u64) -> Choice
     ensures chosen { Valid job → Chosen job r1 r2 result }
 {
     let format = job.setting.format;
-    if format_cause(format) != 0 {
+    if !supported(format) {
         return Choice::Nothing;
     }
     let start = Exponents {

@@ -12,7 +12,7 @@ ghost use Rattle.special.specs.Special.{Special, extreme, representative, togeth
 use adder::Reply;
 use adder::result::rounded_result;
 use bits::power;
-use format::{Format, format_cause};
+use format::{Format, supported};
 use job::Job;
 use mask::{Mask, meets};
 use significand::greatest;
@@ -90,7 +90,7 @@ fn admitted(job: Job, ea: Biased, eb: Biased) -> bool
 fn special_fields(format: Format, ea: Biased, eb: Biased) -> bool
     ensures { (result ≡ true) ↔ (InRange format ea eb × Special format ea eb) }
 {
-    if format_cause(format) != 0 {
+    if !supported(format) {
         return false;
     }
     let ones = power(format.w) - 1;

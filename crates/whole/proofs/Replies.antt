@@ -5,7 +5,7 @@ use mathlib.Core.Logic.{◌⊎◌, inl, inr, ◌↔◌}
 use Prim.Native.Nat.{ℕ, ◌<◌, ◌≤◌}
 use native.Mathlib.Omega.{arith}
 use lib.Bits.{bit_xor}
-use Rattle.format.specs.Cause as cause
+use Rattle.format.specs.declared.cause.Cause.TheVariants as cause
 use Rattle.choice.proofs.Closest.{farther, farther_both, closest_self}
 use Rattle.choice.specs.Walk.{Has}
 use Rattle.whole.specs.declared.Masks.{Masks}
@@ -64,7 +64,7 @@ reply_unique J (Refused k) (Refused l) (inr p) (inl q) = absurd (omega (arith, p
 reply_unique J (Refused k) (Refused l) (inr p) (inr q) = ap Refused (p.1 ∙ sym q.1)
 
 -- of a job that is taken, "none" is the reply exactly where nothing fits
-pub none_exactly : (J : Job) (p : Reply) → job_cause J ≡ 0 → Replied J p → (p ≡ Refused cause.no_case) ↔ (Left J.length J.masks → ⊥)
+pub none_exactly : (J : Job) (p : Reply) → job_cause J ≡ 0 → Replied J p → (p ≡ Refused cause.NoCase) ↔ (Left J.length J.masks → ⊥)
 none_exactly J (Found c) e p = (
   λ q. absurd (let z : ◌≡◌ {A = ℕ} 0 1 = cc in omega arith),
   λ none. absurd (none (record { case = c; fits = p.1.fits })),

@@ -1,7 +1,7 @@
 -- The checks of a job of the whole-number generator (document 01, "Causes and replies": it checks 12, 5, 6, 7; W-203: 14, 15
 -- and 16 after 5). Assumes nothing.
 use Rattle.std.specs.Prelude.{ℕ, ◌+◌}
-use Rattle.format.specs.Cause as cause
+use Rattle.format.specs.declared.cause.Cause.TheVariants as cause
 use Rattle.format.specs.Cause.{unless, first}
 use Rattle.format.specs.Limits.{least_length, most_length, within}
 use Rattle.format.specs.Format.{word_cause}
@@ -26,5 +26,5 @@ unfoldable pub job_cause : Job → ℕ
 job_cause J =
     let n = J.length in
     let s = J.masks in
-    first (unless (within least_length most_length n) cause.whole_length)
+    first (unless (within least_length most_length n) cause.WholeLength)
     (first (masks_cause n (n + 1) s.x s.y s.z s.carries) (words_cause n J.words))

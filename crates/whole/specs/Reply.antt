@@ -1,6 +1,6 @@
 -- The reply to a job, by cases (document 01, "Causes and replies"). Assumes nothing.
 use Rattle.std.specs.Prelude.{◌≡◌, ◌⊎◌, ◌<◌}
-use Rattle.format.specs.Cause as cause
+use Rattle.format.specs.declared.cause.Cause.TheVariants as cause
 use Rattle.whole.specs.declared.Job.{Job}
 use Rattle.whole.specs.declared.Reply.{Reply}
 use Rattle.whole.specs.declared.Reply.TheVariants.{Found, Refused}
@@ -16,4 +16,4 @@ pub record None (J : Job) : Type 0 where
 -- a found case is the chosen one of a job that is taken; a number is that of the first cause, or 7 exactly where no case fits
 abbrev pub Replied : Job → Reply → Type 0
 Replied J (Found c) = (job_cause J ≡ 0) × Chosen J.length J.masks J.words c
-Replied J (Refused k) = ((0 < job_cause J) × (k ≡ job_cause J)) ⊎ (None J × (k ≡ cause.no_case))
+Replied J (Refused k) = ((0 < job_cause J) × (k ≡ job_cause J)) ⊎ (None J × (k ≡ cause.NoCase))

@@ -11,7 +11,7 @@ ghost use Rattle.whole.specs.Choice.{Chosen};
 ghost use Rattle.whole.specs.Reply.{Replied};
 ghost use Rattle.whole.specs.Walk.{Ready, case_of};
 
-use format::{cause, first, limits, within, word_cause};
+use format::{Cause, first, limits, within, word_cause};
 use mask::{Mask, masks_cause};
 
 // The masks of the three numbers and of the carries.
@@ -76,7 +76,7 @@ pub fn job_cause(job: Job) -> u64
 {
     let length = job.length;
     if !within(limits::LEAST_LENGTH, limits::MOST_LENGTH, length) {
-        return cause::WHOLE_LENGTH;
+        return Cause::WholeLength;
     }
     let masks = masks_cause(
         length,
@@ -131,5 +131,5 @@ pub fn generate(job: Job) -> Reply
     if left::left(job.length, masks) {
         return Reply::Found(choose(job.length, masks, words));
     }
-    Reply::Refused(cause::NO_CASE)
+    Reply::Refused(Cause::NoCase)
 }

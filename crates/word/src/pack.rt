@@ -5,13 +5,13 @@ ghost use Rattle.word.specs.Word.{infinity_word, signed, word_of};
 ghost use Rattle.word.specs.Parts.{SignedFits, FieldsFit};
 
 use bits::power;
-use format::{Format, format_cause};
+use format::{Format, supported};
 
 // The word of infinity's magnitude.
 pub fn infinity_word(format: Format) -> u64
     ensures { (Supported format → result ≡ infinity_word format) × ((Supported format → ⊥) → result ≡ 0) }
 {
-    if format_cause(format) != 0 {
+    if !supported(format) {
         return 0;
     }
     (power(format.w) - 1) * power(format.f)
@@ -21,7 +21,7 @@ pub fn infinity_word(format: Format) -> u64
 pub fn signed(format: Format, sign: u64, magnitude: u64) -> u64
     ensures { (SignedFits format sign magnitude → result ≡ signed format sign magnitude) × ((SignedFits format sign magnitude → ⊥) → result ≡ 0) }
 {
-    if format_cause(format) != 0 {
+    if !supported(format) {
         return 0;
     }
     if 2 <= sign {
@@ -38,7 +38,7 @@ pub fn signed(format: Format, sign: u64, magnitude: u64) -> u64
 pub fn word_of(format: Format, sign: u64, e: u64, t: u64) -> u64
     ensures { (FieldsFit format sign e t → result ≡ word_of format sign e t) × ((FieldsFit format sign e t → ⊥) → result ≡ 0) }
 {
-    if format_cause(format) != 0 {
+    if !supported(format) {
         return 0;
     }
     if power(format.w) <= e {

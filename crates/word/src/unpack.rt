@@ -8,7 +8,7 @@ ghost use Rattle.word.specs.Operand.{operand_of};
 use crate::pack::signed;
 use crate::{Biased, Finite, Operand, Operands};
 use bits::{bit_at, high, low, power};
-use format::{Format, format_cause};
+use format::{Format, supported};
 
 // The significand of a biased exponent and a fraction.
 fn significand(f: u64, exponent: Biased, fraction: u64) -> u64
@@ -60,7 +60,7 @@ pub fn operands(format: Format, operation: u64, a: u64, b: u64) -> Operands
     ensures { (Supported format → (result.a ≡ operand_of format a) × (result.b ≡ operand_of format (effective format operation b)))
         × ((Supported format → ⊥) → (result.a ≡ Nan) × (result.b ≡ Nan)) }
 {
-    if format_cause(format) != 0 {
+    if !supported(format) {
         return Operands {
             a: Operand::Nan,
             b: Operand::Nan,

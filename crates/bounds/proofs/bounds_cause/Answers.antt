@@ -6,12 +6,12 @@ use Rattle.format.proofs.Laws.{supported_of, unsupported_of}
 use Rattle.bounds.specs.Bounds.{bounds_cause}
 use Rattle.bounds.proofs.bounds_cause.Goals as goal
 
-pub returns-then-format_cause-ne0 : goal.returns-then-format_cause-ne0
+pub returns-then-not-supported : goal.returns-then-not-supported
 unfolding bounds_cause
-returns-then-format_cause-ne0 c = λ ok. absurd (unsupported_of c.format_cause.ensures c.if-format_cause-ne0.true ok)
+returns-then-not-supported c = λ ok. absurd (unsupported_of c.supported.ensures c.if-not-supported.true ok)
 
 pub ordered_ends-requires : goal.ordered_ends-requires
-ordered_ends-requires c = supported_of c.format_cause.ensures c.if-format_cause-ne0.false
+ordered_ends-requires c = supported_of c.supported.ensures c.if-not-supported.false
 
 pub returns-in-Unbounded : goal.returns-in-Unbounded
 unfolding bounds_cause

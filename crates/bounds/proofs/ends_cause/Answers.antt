@@ -7,15 +7,15 @@ use Rattle.format.proofs.Room.{word_room}
 use Rattle.bounds.specs.Bounds.{ends_cause}
 use Rattle.bounds.proofs.ends_cause.Goals as goal
 
-pub returns-then-format_cause-ne0 : goal.returns-then-format_cause-ne0
+pub returns-then-not-supported : goal.returns-then-not-supported
 unfolding ends_cause
-returns-then-format_cause-ne0 c = λ ok. absurd (unsupported_of c.format_cause.ensures c.if-format_cause-ne0.true ok)
+returns-then-not-supported c = λ ok. absurd (unsupported_of c.supported.ensures c.if-not-supported.true ok)
 
 pub overflow_add-width : goal.overflow_add-width
-overflow_add-width c = omega (arith, word_room c.args.format (supported_of c.format_cause.ensures c.if-format_cause-ne0.false))
+overflow_add-width c = omega (arith, word_room c.args.format (supported_of c.supported.ensures c.if-not-supported.false))
 
 pub overflow_add-width-2 : goal.overflow_add-width-2
-overflow_add-width-2 c = omega (arith, word_room c.args.format (supported_of c.format_cause.ensures c.if-format_cause-ne0.false))
+overflow_add-width-2 c = omega (arith, word_room c.args.format (supported_of c.supported.ensures c.if-not-supported.false))
 
 pub returns-in-Unbounded : goal.returns-in-Unbounded
 unfolding ends_cause

@@ -29,25 +29,25 @@ module _ (F : Format) (ok : Supported F) (x p l : ℕ) (hp : p ≡ 2 ^ (F.w + F.
   unfolding rank
   under ne = rw (ne_eqb (sign F x) 0 ne) (ap₂ (λ (a b : ℕ). a - b) power hl)
 
-pub returns-then-format_cause-ne0 : goal.returns-then-format_cause-ne0
-returns-then-format_cause-ne0 c = (λ ok. absurd (unsupported_of c.format_cause.ensures c.if-format_cause-ne0.true ok), λ _. refl)
+pub returns-then-not-supported : goal.returns-then-not-supported
+returns-then-not-supported c = (λ ok. absurd (unsupported_of c.supported.ensures c.if-not-supported.true ok), λ _. refl)
 
 pub overflow_add-place : goal.overflow_add-place
-overflow_add-place c = omega (arith, place_bits c.args.format (supported_of c.format_cause.ensures c.if-format_cause-ne0.false))
+overflow_add-place c = omega (arith, place_bits c.args.format (supported_of c.supported.ensures c.if-not-supported.false))
 
 pub overflow_add-result : goal.overflow_add-result
 overflow_add-result c =
-    let ok = supported_of c.format_cause.ensures c.if-format_cause-ne0.false in
+    let ok = supported_of c.supported.ensures c.if-not-supported.false in
     omega (arith, (fits c.args.format ok c.args.x c.power.result c.low.result c.power.ensures c.low.ensures).0)
 
 pub overflow_sub-result : goal.overflow_sub-result
 overflow_sub-result c =
-    let ok = supported_of c.format_cause.ensures c.if-format_cause-ne0.false in
+    let ok = supported_of c.supported.ensures c.if-not-supported.false in
     omega (arith, (fits c.args.format ok c.args.x c.power-else-bit_at-eq0.result c.low-else-bit_at-eq0.result c.power-else-bit_at-eq0.ensures c.low-else-bit_at-eq0.ensures).1)
 
 pub returns-then-bit_at-eq0 : goal.returns-then-bit_at-eq0
 returns-then-bit_at-eq0 c =
-    let ok = supported_of c.format_cause.ensures c.if-format_cause-ne0.false in (
+    let ok = supported_of c.supported.ensures c.if-not-supported.false in (
       λ _. above c.args.format ok c.args.x c.power.result c.low.result c.power.ensures c.low.ensures
           (sym c.bit_at.ensures ∙ c.if-bit_at-eq0.true),
       λ no. absurd (no ok),
@@ -55,7 +55,7 @@ returns-then-bit_at-eq0 c =
 
 pub returns-else-bit_at-eq0 : goal.returns-else-bit_at-eq0
 returns-else-bit_at-eq0 c =
-    let ok = supported_of c.format_cause.ensures c.if-format_cause-ne0.false in (
+    let ok = supported_of c.supported.ensures c.if-not-supported.false in (
       λ _. under c.args.format ok c.args.x c.power-else-bit_at-eq0.result c.low-else-bit_at-eq0.result c.power-else-bit_at-eq0.ensures c.low-else-bit_at-eq0.ensures
           (λ z. c.if-bit_at-eq0.false (c.bit_at.ensures ∙ z)),
       λ no. absurd (no ok),

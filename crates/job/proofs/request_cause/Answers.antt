@@ -8,9 +8,9 @@ use Rattle.job.specs.Job.{cause_with, request_cause}
 use Rattle.job.proofs.Laws.{form_first}
 use Rattle.job.proofs.request_cause.Goals as goal
 
-pub returns-then-format_cause-ne0 : goal.returns-then-format_cause-ne0
+pub returns-then-not-supported : goal.returns-then-not-supported
 unfolding request_cause
-returns-then-format_cause-ne0 c =
+returns-then-not-supported c =
     let a = c.args in
     let width = word_bits a.job.setting.format in
     let words = first (word_cause width a.r1) (word_cause width a.r2) in
@@ -18,12 +18,12 @@ returns-then-format_cause-ne0 c =
 
 pub overflow_add-width : goal.overflow_add-width
 overflow_add-width c =
-    let ok = supported_of c.format_cause.ensures c.if-format_cause-ne0.false in
+    let ok = supported_of c.supported.ensures c.if-not-supported.false in
     record { fits = omega (arith, ok.w_most, ok.f_most) }
 
 pub overflow_add-width-2 : goal.overflow_add-width-2
 overflow_add-width-2 c =
-    let ok = supported_of c.format_cause.ensures c.if-format_cause-ne0.false in
+    let ok = supported_of c.supported.ensures c.if-not-supported.false in
     record { fits = omega (arith, ok.w_most, ok.f_most) }
 
 pub returns : goal.returns

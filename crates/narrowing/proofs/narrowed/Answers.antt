@@ -7,7 +7,7 @@ use Rattle.narrowing.specs.Narrowing.{Narrows}
 use Rattle.narrowing.proofs.narrowed.Goals as goal
 
 pub narrowed_between-requires : goal.narrowed_between-requires
-narrowed_between-requires c = supported_of c.format_cause.ensures c.if-format_cause-ne0.false
+narrowed_between-requires c = supported_of c.supported.ensures c.if-not-supported.false
 
 pub returns-in-Between : goal.returns-in-Between
 returns-in-Between c =

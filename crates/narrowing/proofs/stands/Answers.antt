@@ -6,11 +6,11 @@ use Rattle.format.proofs.Laws.{supported_of, unsupported_of}
 use Rattle.narrowing.specs.Narrowing.{Stands}
 use Rattle.narrowing.proofs.stands.Goals as goal
 
-pub returns-then-format_cause-ne0 : goal.returns-then-format_cause-ne0
-returns-then-format_cause-ne0 c = λ ok v. absurd (unsupported_of c.format_cause.ensures c.if-format_cause-ne0.true ok)
+pub returns-then-not-supported : goal.returns-then-not-supported
+returns-then-not-supported c = λ ok v. absurd (unsupported_of c.supported.ensures c.if-not-supported.true ok)
 
 pub stands_between-requires : goal.stands_between-requires
-stands_between-requires c = supported_of c.format_cause.ensures c.if-format_cause-ne0.false
+stands_between-requires c = supported_of c.supported.ensures c.if-not-supported.false
 
 pub returns-in-Unbounded : goal.returns-in-Unbounded
 returns-in-Unbounded c =

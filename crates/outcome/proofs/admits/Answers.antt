@@ -15,8 +15,8 @@ use Rattle.outcome.proofs.admits.Goals as goal
 power : (F : Format) → Supported F → (p : ℕ) → p ≡ 2 ^ F.w % 2 ^ 64 → p ≡ 2 ^ F.w
 power F ok p e = e ∙ power_exact F.w (omega (arith, exponent_room F ok))
 
-pub returns-then-format_cause-ne0 : goal.returns-then-format_cause-ne0
-returns-then-format_cause-ne0 c =
+pub returns-then-not-supported : goal.returns-then-not-supported
+returns-then-not-supported c =
     let F = c.args.format in record {
       in_format = (λ t. absurd (false≢true t));
       exact = λ given. absurd (c.if-format_cause-ne0.true (c.format_cause.ensures ∙ (format_none F).1 given.supported));

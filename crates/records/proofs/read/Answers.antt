@@ -6,7 +6,7 @@ use mathlib.Core.List.{List}
 use lib.Arith.{le-zero}
 use lib.ListN.{length}
 use lib.Dec.{eqb, ltb, leb}
-use Rattle.format.specs.Cause as cause
+use Rattle.format.specs.declared.cause.Cause.TheVariants as cause
 use Rattle.format.specs.Cause.{first, unless}
 use Rattle.format.specs.declared.Format.{Format}
 use Rattle.layout.specs.Fields.{word_bytes, map_width, entry_map}
@@ -31,8 +31,8 @@ returns-then-early-gt0 c =
     ≡ early_cause map_width (word_in c.args.s.now) c.args.s.now = (let s : List ℕ = c.args.s.now in
     c.first-early.ensures
     ∙ ap₂ first
-    (c.unless-bits.ensures ∙ ap (λ (m : ℕ). unless (ltb m (2 ^ map_width)) cause.map_bits) c.map_in-map.ensures.0)
-    (c.unless-cut.ensures ∙ ap (λ (n : ℕ). unless (leb n (length s)) cause.cut) (count))) in
+    (c.unless-bits.ensures ∙ ap (λ (m : ℕ). unless (ltb m (2 ^ map_width)) cause.MapBits) c.map_in-map.ensures.0)
+    (c.unless-cut.ensures ∙ ap (λ (n : ℕ). unless (leb n (length s)) cause.Cut) (count))) in
     let s : List ℕ = c.args.s.now in
     ap found.Refused (early) ∙ sym (early_with map_width (word_in s) s c.if-s-eq0.false (λ e. omega (arith, early, e, c.if-early-gt0.true)))
 
@@ -44,8 +44,8 @@ entry_in-requires c =
     ≡ early_cause map_width (word_in c.args.s.now) c.args.s.now = (let s : List ℕ = c.args.s.now in
     c.first-early.ensures
     ∙ ap₂ first
-    (c.unless-bits.ensures ∙ ap (λ (m : ℕ). unless (ltb m (2 ^ map_width)) cause.map_bits) c.map_in-map.ensures.0)
-    (c.unless-cut.ensures ∙ ap (λ (n : ℕ). unless (leb n (length s)) cause.cut) (count))) in
+    (c.unless-bits.ensures ∙ ap (λ (m : ℕ). unless (ltb m (2 ^ map_width)) cause.MapBits) c.map_in-map.ensures.0)
+    (c.unless-cut.ensures ∙ ap (λ (n : ℕ). unless (leb n (length s)) cause.Cut) (count))) in
     let late : early_cause map_width (word_in c.args.s.now) c.args.s.now ≡ 0 = sym (early) ∙ le-zero c.if-early-gt0.false in
     let s : List ℕ = c.args.s.now in
     let map = c.map_in-map.ensures.0 in
@@ -61,14 +61,14 @@ returns c =
     ≡ early_cause map_width (word_in c.args.s.now) c.args.s.now = (let s : List ℕ = c.args.s.now in
     c.first-early.ensures
     ∙ ap₂ first
-    (c.unless-bits.ensures ∙ ap (λ (m : ℕ). unless (ltb m (2 ^ map_width)) cause.map_bits) c.map_in-map.ensures.0)
-    (c.unless-cut.ensures ∙ ap (λ (n : ℕ). unless (leb n (length s)) cause.cut) (count))) in
+    (c.unless-bits.ensures ∙ ap (λ (m : ℕ). unless (ltb m (2 ^ map_width)) cause.MapBits) c.map_in-map.ensures.0)
+    (c.unless-cut.ensures ∙ ap (λ (n : ℕ). unless (leb n (length s)) cause.Cut) (count))) in
     let late : early_cause map_width (word_in c.args.s.now) c.args.s.now ≡ 0 = sym (early) ∙ le-zero c.if-early-gt0.false in
     let s : List ℕ = c.args.s.now in
     let entry = c.entry_in.ensures ∙ ap (λ (F : Format). entry_in (word_bytes F) s) c.format_in-format.ensures in
     let map = c.map_in-map.ensures in
     c.read_reply.ensures
-    ∙ (λ i. let e = entry i in read_reply (first (record_cause e) (unless (eqb (entry_map e) (map.0 i)) cause.default_field)) e (count i))
+    ∙ (λ i. let e = entry i in read_reply (first (record_cause e) (unless (eqb (entry_map e) (map.0 i)) cause.DefaultField)) e (count i))
     ∙ ap (λ (k : ℕ). read_reply k (entry_in (word_in s) s) (record_length (word_in s) (map_in s)))
     (entry_default s (early_none map_width (word_in s) s (late)).0 (subst (λ (m : ℕ). m < 256 ^ map_bytes m) map.0 map.1))
     ∙ sym (late_with map_width (word_in s) s c.if-s-eq0.false (late))

@@ -12,27 +12,27 @@ use Rattle.left.specs.Left.{Ready}
 use Rattle.search.proofs.Choosing.{all_open, none_first, walks_choose}
 use Rattle.search.proofs.choose.Goals as goal
 
-pub returns-then-format_cause-ne0 : goal.returns-then-format_cause-ne0
-returns-then-format_cause-ne0 c = record {
+pub returns-then-not-supported : goal.returns-then-not-supported
+returns-then-not-supported c = record {
   unsupported = λ n. refl;
-  chosen = λ valid. absurd (unsupported_of c.format_cause.ensures c.if-format_cause-ne0.true valid.setting.format);
+  chosen = λ valid. absurd (unsupported_of c.supported.ensures c.if-not-supported.true valid.setting.format);
 }
 
 pub overflow_add-width : goal.overflow_add-width
-overflow_add-width c = let ok = supported_of c.format_cause.ensures c.if-format_cause-ne0.false in record { fits = omega (arith, word_room c.args.job.setting.format ok) }
+overflow_add-width c = let ok = supported_of c.supported.ensures c.if-not-supported.false in record { fits = omega (arith, word_room c.args.job.setting.format ok) }
 
 pub overflow_add-width-then-first-power : goal.overflow_add-width-then-first-power
-overflow_add-width-then-first-power c = let ok = supported_of c.format_cause.ensures c.if-format_cause-ne0.false in record { fits = omega (arith, word_room c.args.job.setting.format ok) }
+overflow_add-width-then-first-power c = let ok = supported_of c.supported.ensures c.if-not-supported.false in record { fits = omega (arith, word_room c.args.job.setting.format ok) }
 
 pub follow-with_a-requires : goal.follow-with_a-requires
-follow-with_a-requires c = supported_of c.format_cause.ensures c.if-format_cause-ne0.false
+follow-with_a-requires c = supported_of c.supported.ensures c.if-not-supported.false
 
 pub follow-with_b-requires : goal.follow-with_b-requires
-follow-with_b-requires c = subst (λ (S : Setting). Supported S.format) (sym c.follow-with_a.ensures.0) (supported_of c.format_cause.ensures c.if-format_cause-ne0.false)
+follow-with_b-requires c = subst (λ (S : Setting). Supported S.format) (sym c.follow-with_a.ensures.0) (supported_of c.supported.ensures c.if-not-supported.false)
 
 pub returns-then-first-power : goal.returns-then-first-power
 returns-then-first-power c =
-    let ok = supported_of c.format_cause.ensures c.if-format_cause-ne0.false in
+    let ok = supported_of c.supported.ensures c.if-not-supported.false in
     let a = c.args in
     let one = c.follow-with_a in record {
       unsupported = λ n. absurd (n ok);
@@ -52,7 +52,7 @@ returns-then-first-power c =
 
 pub returns : goal.returns
 returns c =
-    let ok = supported_of c.format_cause.ensures c.if-format_cause-ne0.false in
+    let ok = supported_of c.supported.ensures c.if-not-supported.false in
     let job = c.args.job in record {
       unsupported = λ n. refl;
       chosen = λ valid ready. (c.first_left-first.ensures valid (none_first job)).none (omega (arith, exponents job.setting.format ok c.power.ensures, c.if-first-power.false)) ready.left;

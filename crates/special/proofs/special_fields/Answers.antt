@@ -17,13 +17,13 @@ use Rattle.special.proofs.special_fields.Goals as goal
 power : (F : Format) → Supported F → (p : ℕ) → p ≡ 2 ^ F.w % 2 ^ 64 → p ≡ 2 ^ F.w
 power F ok p e = e ∙ power_exact F.w (omega (arith, exponent_room F ok))
 
-pub returns-then-format_cause-ne0 : goal.returns-then-format_cause-ne0
-returns-then-format_cause-ne0 c = ((λ e. absurd (false≢true e)), λ p. absurd (unsupported_of c.format_cause.ensures c.if-format_cause-ne0.true p.0.supported))
+pub returns-then-not-supported : goal.returns-then-not-supported
+returns-then-not-supported c = ((λ e. absurd (false≢true e)), λ p. absurd (unsupported_of c.supported.ensures c.if-not-supported.true p.0.supported))
 
 pub overflow_sub-ones : goal.overflow_sub-ones
 overflow_sub-ones c =
     let F = c.args.format in
-    let ok = supported_of c.format_cause.ensures c.if-format_cause-ne0.false in
+    let ok = supported_of c.supported.ensures c.if-not-supported.false in
     omega (arith, power F ok c.power-ones.result c.power-ones.ensures, pow_pos F.w)
 
 pub returns-then-ones-ea : goal.returns-then-ones-ea
@@ -42,7 +42,7 @@ pub returns-then-ea-ones : goal.returns-then-ea-ones
 returns-then-ea-ones c =
     let F = c.args.format in
     let p = c.power-ones in
-    let ok = supported_of c.format_cause.ensures c.if-format_cause-ne0.false in
+    let ok = supported_of c.supported.ensures c.if-not-supported.false in
     let is = power F ok p.result p.ensures in (
       (λ e. (
         record { supported = ok; a_lt = omega (arith, c.if-ones-ea.false, is, pow_pos F.w); b_lt = omega (arith, c.if-ones-eb.false, is, pow_pos F.w) },
@@ -55,7 +55,7 @@ pub returns : goal.returns
 returns c =
     let F = c.args.format in
     let p = c.power-ones in
-    let ok = supported_of c.format_cause.ensures c.if-format_cause-ne0.false in
+    let ok = supported_of c.supported.ensures c.if-not-supported.false in
     let is = power F ok p.result p.ensures in
     let ones = ap (λ (n : ℕ). n - 1) is in (
       (λ e. (

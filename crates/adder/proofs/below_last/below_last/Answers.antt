@@ -7,8 +7,8 @@ use Rattle.word.proofs.Canonical.{operand_sound}
 use Rattle.adder.specs.Below.{kind_below, below_of}
 use Rattle.adder.proofs.below_last.below_last.Goals as goal
 
-pub returns-then-format_cause-ne0 : goal.returns-then-format_cause-ne0
-returns-then-format_cause-ne0 c = (λ ok. absurd (unsupported_of c.format_cause.ensures c.if-format_cause-ne0.true ok.0), λ _. refl)
+pub returns-then-not-supported : goal.returns-then-not-supported
+returns-then-not-supported c = (λ ok. absurd (unsupported_of c.supported.ensures c.if-not-supported.true ok.0), λ _. refl)
 
 pub returns-then-g-gt-MOST_DROPPED : goal.returns-then-g-gt-MOST_DROPPED
 returns-then-g-gt-MOST_DROPPED c = (λ ok. absurd (omega (arith, ok.1, c.if-g-gt-MOST_DROPPED.true)), λ _. refl)
@@ -17,7 +17,7 @@ pub kind_below-requires : goal.kind_below-requires
 kind_below-requires c =
     let a = c.args in
     let F = a.format in
-    let ok = supported_of c.format_cause.ensures c.if-format_cause-ne0.false in
+    let ok = supported_of c.supported.ensures c.if-not-supported.false in
     let both = c.operands-pair.ensures.0 ok in
     (ok, omega arith, rw both.0 (operand_sound F a.a), rw both.1 (operand_sound F (effective F a.operation a.b)))
 
@@ -25,6 +25,6 @@ pub returns : goal.returns
 unfolding below_of
 returns c =
     let a = c.args in
-    let ok = supported_of c.format_cause.ensures c.if-format_cause-ne0.false in
+    let ok = supported_of c.supported.ensures c.if-not-supported.false in
     let both = c.operands-pair.ensures.0 ok in
     (λ _. c.kind_below.ensures ∙ ap₂ (kind_below a.format a.g) both.0 both.1, λ no. absurd (no (ok, omega arith)))

@@ -4,7 +4,7 @@ use mathlib.Core.Bool.{Bool, ◌&&◌}
 use Prim.Native.Nat.{◌+◌}
 use native.Mathlib.Omega.{arith}
 use borrow.Author.Tests.{le-leb, lt-leb}
-use Rattle.format.specs.Cause as cause
+use Rattle.format.specs.declared.cause.Cause.TheVariants as cause
 use Rattle.format.specs.Cause.{unless}
 use Rattle.format.specs.Limits.{most_dropped}
 use Rattle.mask.specs.Mask.{well_formed}
@@ -20,5 +20,5 @@ unfolding dropped_cause
 returns c =
     let D = c.args.dropped in
     c.unless.ensures
-    ∙ ap (λ (t : Bool). unless t cause.dropped_mask)
+    ∙ ap (λ (t : Bool). unless t cause.DroppedMask)
     (c.well_formed-formed.ensures ∙ sym (ap (λ (t : Bool). t && well_formed (D.g + 1) D.mask) (le-leb D.g most_dropped (omega arith))))

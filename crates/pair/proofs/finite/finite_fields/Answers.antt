@@ -8,13 +8,13 @@ use Rattle.format.proofs.Laws.{supported_of, unsupported_of}
 use Rattle.word.proofs.Bounds.{exponents}
 use Rattle.pair.proofs.finite.finite_fields.Goals as goal
 
-pub returns-then-format_cause-ne0 : goal.returns-then-format_cause-ne0
-returns-then-format_cause-ne0 c = ((λ e. absurd (false≢true e)), λ p. absurd (unsupported_of c.format_cause.ensures c.if-format_cause-ne0.true p.supported))
+pub returns-then-not-supported : goal.returns-then-not-supported
+returns-then-not-supported c = ((λ e. absurd (false≢true e)), λ p. absurd (unsupported_of c.supported.ensures c.if-not-supported.true p.supported))
 
 pub overflow_sub-ones : goal.overflow_sub-ones
 overflow_sub-ones c =
     let F = c.args.format in
-    let ok = supported_of c.format_cause.ensures c.if-format_cause-ne0.false in
+    let ok = supported_of c.supported.ensures c.if-not-supported.false in
     omega (arith, exponents F ok c.power-ones.ensures, pow_pos F.w)
 
 pub returns-then-ones-ea : goal.returns-then-ones-ea
@@ -28,7 +28,7 @@ returns c =
     let a = c.args in
     let F = a.format in
     let p = c.power-ones in
-    let ok = supported_of c.format_cause.ensures c.if-format_cause-ne0.false in
+    let ok = supported_of c.supported.ensures c.if-not-supported.false in
     let is = exponents F ok p.ensures in (
       (λ e. record { supported = ok; a_finite = omega (arith, c.if-ones-ea.false, is); b_finite = omega (arith, ltb-true a.eb.0 (p.result - 1) e, is) }),
       λ q. lt-ltb a.eb.0 (p.result - 1) (omega (arith, q.b_finite, is)),

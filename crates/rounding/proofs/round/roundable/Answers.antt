@@ -11,17 +11,17 @@ use Rattle.word.proofs.Bounds.{exponents}
 use Rattle.rounding.specs.Width.{guard_bits, sum_bits}
 use Rattle.rounding.proofs.round.roundable.Goals as goal
 
-pub returns-then-format_cause-ne0 : goal.returns-then-format_cause-ne0
-returns-then-format_cause-ne0 c = (λ e. absurd (false≢true e), λ R. absurd (unsupported_of c.format_cause.ensures c.if-format_cause-ne0.true R.supported))
+pub returns-then-not-supported : goal.returns-then-not-supported
+returns-then-not-supported c = (λ e. absurd (false≢true e), λ R. absurd (unsupported_of c.supported.ensures c.if-not-supported.true R.supported))
 
 pub overflow_add-format : goal.overflow_add-format
 overflow_add-format c =
-    omega (arith, significand_room c.args.format (supported_of c.format_cause.ensures c.if-format_cause-ne0.false))
+    omega (arith, significand_room c.args.format (supported_of c.supported.ensures c.if-not-supported.false))
 
 pub returns : goal.returns
 returns c =
     let F = c.args.format in
-    let ok = supported_of c.format_cause.ensures c.if-format_cause-ne0.false in
+    let ok = supported_of c.supported.ensures c.if-not-supported.false in
     let p = c.power.result in
     let q = c.power-2.result in
     let ep = exponents F ok c.power.ensures in

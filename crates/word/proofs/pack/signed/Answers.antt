@@ -16,15 +16,15 @@ module _ (F : Format) (ok : Supported F) (s m p : ℕ) (hp : p ≡ 2 ^ (F.w + F.
   fits : s < 2 → m < p → s * p + m < 2 ^ 64
   fits hs hm = rw same (word_fits F ok (signed_lt F s m hs (omega (arith, sign_place F ok hp))))
 
-pub returns-then-format_cause-ne0 : goal.returns-then-format_cause-ne0
-returns-then-format_cause-ne0 c = (λ h. absurd (unsupported_of c.format_cause.ensures c.if-format_cause-ne0.true h.supported), λ _. refl)
+pub returns-then-not-supported : goal.returns-then-not-supported
+returns-then-not-supported c = (λ h. absurd (unsupported_of c.supported.ensures c.if-not-supported.true h.supported), λ _. refl)
 
 pub returns-then-sign-ge2 : goal.returns-then-sign-ge2
 returns-then-sign-ge2 c = (λ h. absurd (omega (arith, h.sign_lt, c.if-sign-ge2.true)), λ _. refl)
 
 pub overflow_add-format : goal.overflow_add-format
 overflow_add-format c =
-    omega (arith, place_bits c.args.format (supported_of c.format_cause.ensures c.if-format_cause-ne0.false))
+    omega (arith, place_bits c.args.format (supported_of c.supported.ensures c.if-not-supported.false))
 
 pub returns-then-place-magnitude : goal.returns-then-place-magnitude
 returns-then-place-magnitude c =
@@ -33,18 +33,18 @@ returns-then-place-magnitude c =
 
 pub overflow_mul-result : goal.overflow_mul-result
 overflow_mul-result c =
-    let ok = supported_of c.format_cause.ensures c.if-format_cause-ne0.false in
+    let ok = supported_of c.supported.ensures c.if-not-supported.false in
     omega (arith, fits c.args.format ok c.args.sign c.args.magnitude c.power-place.result c.power-place.ensures (omega (arith, c.if-sign-ge2.false)) (omega (arith, c.if-place-magnitude.false)))
 
 pub overflow_add-result : goal.overflow_add-result
 overflow_add-result c =
-    let ok = supported_of c.format_cause.ensures c.if-format_cause-ne0.false in
+    let ok = supported_of c.supported.ensures c.if-not-supported.false in
     omega (arith, fits c.args.format ok c.args.sign c.args.magnitude c.power-place.result c.power-place.ensures (omega (arith, c.if-sign-ge2.false)) (omega (arith, c.if-place-magnitude.false)))
 
 pub returns : goal.returns
 returns c =
     let F = c.args.format in
-    let ok = supported_of c.format_cause.ensures c.if-format_cause-ne0.false in
+    let ok = supported_of c.supported.ensures c.if-not-supported.false in
     let below : c.args.magnitude < 2 ^ (F.w + F.f) = omega (arith, sign_place F ok c.power-place.ensures, c.if-place-magnitude.false) in (
       λ _. same F ok c.args.sign c.args.magnitude c.power-place.result c.power-place.ensures,
       λ no. absurd (no (record { supported = ok; sign_lt = omega (arith, c.if-sign-ge2.false); magnitude_lt = below })),

@@ -25,8 +25,8 @@ module _ (F : Format) (ok : Supported F) (e t p q : ℕ) (hp : p ≡ 2 ^ F.w % 2
   fits : e * q + t < 2 ^ 64
   fits = omega (arith, below, place_power F ok)
 
-pub returns-then-format_cause-ne0 : goal.returns-then-format_cause-ne0
-returns-then-format_cause-ne0 c = (λ h. absurd (unsupported_of c.format_cause.ensures c.if-format_cause-ne0.true h.supported), λ _. refl)
+pub returns-then-not-supported : goal.returns-then-not-supported
+returns-then-not-supported c = (λ h. absurd (unsupported_of c.supported.ensures c.if-not-supported.true h.supported), λ _. refl)
 
 pub returns-then-power-e : goal.returns-then-power-e
 returns-then-power-e c =
@@ -40,14 +40,14 @@ returns-then-place-t c =
 
 pub overflow_mul-e : goal.overflow_mul-e
 overflow_mul-e c =
-    let ok = supported_of c.format_cause.ensures c.if-format_cause-ne0.false in
+    let ok = supported_of c.supported.ensures c.if-not-supported.false in
     let p = c.power in
     let q = c.power-place in
     omega (arith, fits c.args.format ok c.args.e c.args.t p.result q.result p.ensures q.ensures (omega (arith, c.if-power-e.false)) (omega (arith, c.if-place-t.false)))
 
 pub overflow_add-e : goal.overflow_add-e
 overflow_add-e c =
-    let ok = supported_of c.format_cause.ensures c.if-format_cause-ne0.false in
+    let ok = supported_of c.supported.ensures c.if-not-supported.false in
     let p = c.power in
     let q = c.power-place in
     omega (arith, fits c.args.format ok c.args.e c.args.t p.result q.result p.ensures q.ensures (omega (arith, c.if-power-e.false)) (omega (arith, c.if-place-t.false)))
@@ -58,7 +58,7 @@ returns c =
     let g = c.args.sign in
     let e = c.args.e in
     let t = c.args.t in
-    let ok = supported_of c.format_cause.ensures c.if-format_cause-ne0.false in
+    let ok = supported_of c.supported.ensures c.if-not-supported.false in
     let p = c.power in
     let q = c.power-place in
     let he : e < p.result = omega (arith, c.if-power-e.false) in
