@@ -1,15 +1,14 @@
 -- Bounds on a word (document 02, W-207): "a low and a high bound, both included, compared as numbers: -0 equals +0, infinities lie at the ends,
 -- and a NaN lies within no bounds". Words are compared by their rank, a whole number that rises with the number that a word stands for. What
 -- is within comes twice: with a capital, which laws read, and as a Bool, which a check computes. Assumes nothing.
+use Rattle.std.specs.Prelude.{Option, Some, None}
 use Rattle.std.specs.Prelude.{◌≡◌, Bool, true, false, not, cond, ◌&&◌, ℕ, ◌+◌, ◌-◌, ◌%◌, ◌^◌, ◌≤◌, ◌<◌, eqb, leb, ltb}
 use Rattle.format.specs.declared.Format.{Format}
 use Rattle.format.specs.declared.cause.Cause.TheVariants as cause
-use Rattle.format.specs.Cause.{unless, first}
+use Rattle.format.specs.Cause.{Check, clear, unless, first}
 use Rattle.format.specs.Format.{word_bits, word_cause}
 use Rattle.word.specs.Word.{sign, infinity_word}
 use Rattle.bounds.specs.declared.Ends.{Ends}
-use Rattle.bounds.specs.declared.Bounds as stated
-use Rattle.bounds.specs.declared.Bounds.TheVariants.{Unbounded, Between}
 
 -- ---- words as numbers
 
@@ -34,29 +33,29 @@ pub record LiesBetween (F : Format) (x : ℕ) (e : Ends) : Type 0 where
   pub below : rank F x ≤ rank F e.high
 
 -- "For each of a, b and c a job may give a low and a high bound"
-abbrev pub Within : Format → ℕ → stated.Bounds → Type 0
-Within F x Unbounded = Prim.Unit {0}
-Within F x (Between e) = LiesBetween F x e
+abbrev pub Within : Format → ℕ → Option Ends → Type 0
+Within F x None = Prim.Unit {0}
+Within F x (Some e) = LiesBetween F x e
 
-abbrev pub within : Format → ℕ → stated.Bounds → Bool
-within F x Unbounded = true
-within F x (Between e) = not (is_nan F x) && (leb (rank F e.low) (rank F x) && leb (rank F x) (rank F e.high))
+abbrev pub within : Format → ℕ → Option Ends → Bool
+within F x None = true
+within F x (Some e) = not (is_nan F x) && (leb (rank F e.low) (rank F x) && leb (rank F x) (rank F e.high))
 
 -- ---- causes
 
 -- "A bound too wide gets 6"
-unfoldable pub ends_cause : Format → stated.Bounds → ℕ
-ends_cause F Unbounded = 0
-ends_cause F (Between e) = first (word_cause (word_bits F) e.low) (word_cause (word_bits F) e.high)
+unfoldable pub ends_cause : Format → Option Ends → Check
+ends_cause F None = clear
+ends_cause F (Some e) = first (word_cause (word_bits F) e.low) (word_cause (word_bits F) e.high)
 
 -- neither end is a NaN, and low does not exceed high
 abbrev pub ordered_ends : Format → Ends → Bool
 ordered_ends F e = not (is_nan F e.low) && (not (is_nan F e.high) && leb (rank F e.low) (rank F e.high))
 
 -- "18, a bound is a NaN or low exceeds high"
-unfoldable pub bounds_cause : Format → stated.Bounds → ℕ
-bounds_cause F Unbounded = 0
-bounds_cause F (Between e) = unless (ordered_ends F e) cause.Bounds
+unfoldable pub bounds_cause : Format → Option Ends → Check
+bounds_cause F None = clear
+bounds_cause F (Some e) = unless (ordered_ends F e) cause.Bounds
 
 -- neither 6 nor 18 stands against them
 pub record ValidEnds (F : Format) (e : Ends) : Type 0 where
@@ -66,6 +65,6 @@ pub record ValidEnds (F : Format) (e : Ends) : Type 0 where
   pub high_number : is_nan F e.high ≡ false
   pub ordered : rank F e.low ≤ rank F e.high
 
-abbrev pub ValidBounds : Format → stated.Bounds → Type 0
-ValidBounds F Unbounded = Prim.Unit {0}
-ValidBounds F (Between e) = ValidEnds F e
+abbrev pub ValidBounds : Format → Option Ends → Type 0
+ValidBounds F None = Prim.Unit {0}
+ValidBounds F (Some e) = ValidEnds F e

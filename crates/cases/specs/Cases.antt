@@ -1,6 +1,7 @@
 -- The cases that document 01 marks with ● ("Cases, in hexadecimal"), and those of document 02, as rows of one table about the definitions.
 -- A `Claim` is a statement of one of the kinds that document 01 makes there, `Holds` is what it says, and `cases` is the table.
 -- Assumes nothing.
+use Rattle.std.specs.Prelude.{Option, Some, None}
 use Rattle.std.specs.Prelude.{◌≡◌, ◌↔◌, ℕ, ◌^◌, ◌<◌}
 use mathlib.Core.List.{List, [], ◌∷◌, ◌++◌, Memᴰ}
 use Rattle.format.specs.declared.Format.{Format}
@@ -13,7 +14,6 @@ use Rattle.job.specs.Job.{job_cause}
 use Rattle.job.specs.Role.{wanted, with_wanted, masked_job}
 use Rattle.job.specs.declared.Role.{Role}
 use Rattle.job.specs.declared.Role.TheVariants.{A, B, C}
-use Rattle.bounds.specs.declared.Bounds.TheVariants.{Between}
 use Rattle.adder.specs.declared.Reply.TheVariants.{Word}
 use Rattle.adder.specs.declared.Row.TheVariants.{Carries, NoRow}
 use Rattle.adder.specs.declared.RowReply.{RowReply}
@@ -190,7 +190,7 @@ dropped_jobs =
 
 -- the job with bounds on a word
 abbrev pub bounding : Role → ℕ → ℕ → Job → Job
-bounding role low high j = with_wanted role j (record { mask = (wanted role j).mask; bounds = Between (record { low = low; high = high }) })
+bounding role low high j = with_wanted role j (record { mask = (wanted role j).mask; bounds = Some (record { low = low; high = high }) })
 
 -- the job that adds a and b in mode 0, whatever c
 abbrev pub of : ℕ → ℕ → Job

@@ -1,6 +1,7 @@
 -- The numbers of document 01's table "Causes and replies" and those that document 02 adds, and how causes are tested in order.
 -- A check finds nothing wrong, `clear`, or names the cause that it finds. Assumes nothing.
 use Rattle.std.specs.Prelude.{Bool, true, false, ℕ, Result, Ok, Err}
+use Rattle.std.specs.Result.{result_and}
 use Rattle.format.specs.declared.cause.Cause.{Cause}
 use Rattle.format.specs.declared.cause.Cause.TheVariants as cause
 
@@ -41,5 +42,4 @@ unless false c = Err c
 
 -- "Order": the first of two causes; and what is replied where a check finds none
 abbrev pub first : {T : Type 0} → Check → Result T Cause → Result T Cause
-first (Ok u) r = r
-first (Err c) r = Err c
+first = result_and

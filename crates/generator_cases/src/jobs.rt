@@ -57,7 +57,7 @@ pub(crate) fn bounding(job: Job, role: Role, low: u64, high: u64) -> Job {
     let mask = own.mask;
     let with = Wanted {
         mask,
-        bounds: Bounds::Between(Ends { low, high }),
+        bounds: Some(Ends { low, high }),
     };
     with_wanted(job, role, with)
 }

@@ -24,8 +24,8 @@ fn put_mask(rt: &impl Print, name: &str, m: Mask) -> io::Result<()> {
 // The bounds of the word of this name; nothing where none are stated.
 fn put_bounds(rt: &impl Print, name: &str, w: Wanted) -> io::Result<()> {
     match w.bounds {
-        Bounds::Unbounded => Ok(()),
-        Bounds::Between(ends) => {
+        None => Ok(()),
+        Some(ends) => {
             print!(rt; " {name} within")?;
             put_word(rt, ends.low)?;
             put_word(rt, ends.high)

@@ -2,13 +2,14 @@
 -- choice", "Causes and replies"; document 02, W-207), of the carry row and of the dropped bits (W-206). `job_cause` is the first cause against
 -- it, 0 for none, and `request_cause` that against it and two random words; `Valid` and `Request` say as facts that there is none.
 -- Assumes nothing.
+use Rattle.bounds.specs.declared.Ends.{Ends}
+use Rattle.std.specs.Prelude.{Option, Some, None}
 use Rattle.std.specs.Prelude.{ℕ, ◌^◌, ◌≤◌, ◌<◌}
 use Rattle.format.specs.declared.Format.{Format}
 use Rattle.format.specs.Cause.{first}
 use Rattle.format.specs.Limits.{most_operation, most_mode}
 use Rattle.format.specs.Format.{word_bits, precision, Supported, format_cause, operation_cause, mode_cause, word_cause}
 use Rattle.mask.specs.Mask.{WellFormed, masks_cause}
-use Rattle.bounds.specs.declared.Bounds.{Bounds}
 use Rattle.bounds.specs.Bounds.{ends_cause, bounds_cause, ValidBounds}
 use Rattle.job.specs.declared.Setting.{Setting}
 use Rattle.job.specs.declared.Wanted.{Wanted}
@@ -27,7 +28,7 @@ job_masks_cause j =
     (dropped_cause j.dropped)
 
 -- the first cause that a test finds against the bounds of a, of b and of c
-abbrev pub against_bounds : (Format → Bounds → ℕ) → Job → ℕ
+abbrev pub against_bounds : (Format → Option Ends → ℕ) → Job → ℕ
 against_bounds cause j =
     first (cause j.setting.format j.a.bounds) (first (cause j.setting.format j.b.bounds) (cause j.setting.format j.c.bounds))
 

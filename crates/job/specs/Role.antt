@@ -1,4 +1,5 @@
 -- The words of a case by their role, one definition for each use of "a, b, c" (document 01, "Masks and choice"). Assumes nothing.
+use Rattle.std.specs.Prelude.{Option, Some, None}
 use Rattle.std.specs.Prelude.{ℕ}
 use Rattle.mask.specs.declared.Mask.{Mask}
 use Rattle.job.specs.declared.Setting.{Setting}
@@ -7,7 +8,6 @@ use Rattle.job.specs.declared.Job.{Job}
 use Rattle.job.specs.declared.Role.{Role}
 use Rattle.job.specs.declared.Role.TheVariants.{A, B, C}
 use Rattle.job.specs.Dropped.{free_dropped}
-use Rattle.bounds.specs.declared.Bounds.TheVariants.{Unbounded}
 
 -- the word of a role in the case (a, b, c)
 abbrev pub member : Role → ℕ → ℕ → ℕ → ℕ
@@ -37,7 +37,7 @@ with_word_mask role j m = with_wanted role j (with_mask (wanted role j) m)
 
 -- a word agrees with a mask, and nothing else is wanted of it
 abbrev pub only_mask : Mask → Wanted
-only_mask m = record { mask = m; bounds = Unbounded }
+only_mask m = record { mask = m; bounds = None }
 
 -- the job without its bounds
 abbrev pub unbounded : Job → Job

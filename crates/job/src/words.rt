@@ -54,7 +54,7 @@ fn only_mask(m: Mask) -> Wanted
 {
     Wanted {
         mask: m,
-        bounds: Bounds::Unbounded,
+        bounds: None,
     }
 }
 

@@ -1,5 +1,6 @@
 -- The numbers of an entry's record: those of its fields, with g taken as 0 where no dropped bit is fixed (document 02, W-206). With its map
 -- they give the entry back. Numbers that were read, and of which no field says its default, carry no such g. Assumes nothing.
+use Rattle.std.specs.Prelude.{Option, Some, None}
 use mathlib.Core.Path.{◌≡◌, refl, sym, ap, ap₂, ◌∙◌}
 use mathlib.Core.Bool.{Bool, true, false, not, cond, ◌&&◌, ◌||◌, true≢false, and-eq-true_iff}
 use Prim.Native.Nat.{ℕ}
@@ -14,8 +15,6 @@ use Rattle.mask.specs.declared.Mask.{Mask}
 use Rattle.mask.proofs.Bitwise.{bit_case}
 use Rattle.mask.proofs.ByBits.{free_value}
 use Rattle.bounds.specs.declared.Ends.{Ends}
-use Rattle.bounds.specs.declared.Bounds as stated
-use Rattle.bounds.specs.declared.Bounds.TheVariants.{Unbounded, Between}
 use Rattle.job.specs.declared.Dropped.{Dropped}
 use Rattle.job.specs.Dropped.{ValidDropped, free_dropped, normalised, with_dropped}
 use Rattle.job.proofs.DroppedLaws.{normalised_again, normalised_none, normalised_mask, normalised_same}
@@ -38,9 +37,9 @@ entry_dropping e D = record { job = with_dropped e.job D; r1 = e.r1; r2 = e.r2 }
 -- ---- entries and their numbers
 
 -- bounds with their own presence, and their ends
-bounds_back : (B : stated.Bounds) (b : ℕ) → b ≡ presence B → bounds_with b (ends_of B) ≡ B
-bounds_back Unbounded b s = rw s
-bounds_back (Between e) b s = rw s
+bounds_back : (B : Option Ends) (b : ℕ) → b ≡ presence B → bounds_with b (ends_of B) ≡ B
+bounds_back None b s = rw s
+bounds_back (Some e) b s = rw s
 
 -- the entry with the map and the numbers of an entry's record is that entry, with its g taken as it is written
 pub entry_back : (e : Entry) → entry_with e.job.setting.format e.job.setting.operation (entry_map e) (entry_numbers e) ≡ normalised_entry e
@@ -90,7 +89,7 @@ read_announces F o m ns = record { a = read_presence m 8 _; b = read_presence m 
 ends_read : (b : ℕ) (e : Ends) → (b ≡ 0 → (e.low ≡ 0) × (e.high ≡ 0)) → ends_of (bounds_with b e) ≡ e
 ends_read b e none = go (eqb b 0) refl
   where
-    go : (t : Bool) → eqb b 0 ≡ t → ends_of (cond t Unbounded (Between e)) ≡ e
+    go : (t : Bool) → eqb b 0 ≡ t → ends_of (cond t None (Some e)) ≡ e
     go true q = let z = none (eqb-true b 0 q) in λ i. record { low = sym z.0 i; high = sym z.1 i }
     go false q = refl
 

@@ -1,5 +1,7 @@
 -- The map of an entry's record (document 02, W-207): its low bits are those of the fields that have a default, bit 7 stands where bounds are
 -- stated, and bits 8 to 10 say of which words. So the test for 10 compares the map that was read with the entry's own. Assumes nothing.
+use Rattle.bounds.specs.declared.Ends.{Ends}
+use Rattle.std.specs.Prelude.{Option, Some, None}
 use mathlib.Core.Path.{◌≡◌, refl, sym, ap, ◌∙◌}
 use mathlib.Core.Bool.{Bool, true, false, not, cond, ◌&&◌, ◌||◌}
 use Prim.Native.Nat.{ℕ, ◌+◌, ◌*◌, ◌/◌, ◌%◌, ◌^◌, ◌<◌}
@@ -13,8 +15,6 @@ use native.Mathlib.Nat.{lt_of_lt_of_le}
 use Rattle.bits.specs.Bit.{bit}
 use Rattle.bits.proofs.Laws.{bit_mod, bit_above}
 use Rattle.mask.proofs.Bitwise.{bit_case}
-use Rattle.bounds.specs.declared.Bounds as stated
-use Rattle.bounds.specs.declared.Bounds.TheVariants.{Unbounded, Between}
 use Rattle.job.specs.declared.Job.{Job}
 use Rattle.job.specs.Role.{unbounded}
 use Rattle.layout.specs.Layout.{map_of, is_default, says_default}
@@ -25,9 +25,9 @@ use Rattle.layout.proofs.JobLayout.{default_bits}
 
 -- ---- both map bytes as one number
 
-pub presence_lt : (B : stated.Bounds) → presence B < 2
-presence_lt Unbounded = omega arith
-presence_lt (Between e) = omega arith
+pub presence_lt : (B : Option Ends) → presence B < 2
+presence_lt None = omega arith
+presence_lt (Some e) = omega arith
 
 -- the second map byte is empty, or it is not
 module _ (l q : ℕ) where
@@ -144,19 +144,19 @@ unbounded_absent m j s h =
       dropped = j.dropped;
     }
   where
-    absent : (B : stated.Bounds) → presence B ≡ 0 → Unbounded ≡ B
-    absent Unbounded e = refl
-    absent (Between ends) e = absurd (omega arith)
+    absent : (B : Option Ends) → presence B ≡ 0 → None ≡ B
+    absent None e = refl
+    absent (Some ends) e = absurd (omega arith)
 
 -- where the bit of bounds does not stand their numbers are 0
-bounds_default : (m i k word : ℕ) (B : stated.Bounds) → bit m k ≡ presence B → bit m i ≡ 0 → is_default i (two k word) (ends_numbers (ends_of B)) ≡ true
+bounds_default : (m i k word : ℕ) (B : Option Ends) → bit m k ≡ presence B → bit m i ≡ 0 → is_default i (two k word) (ends_numbers (ends_of B)) ≡ true
 unfolding is_default
-bounds_default m i k word Unbounded s z = go (eqb k i)
+bounds_default m i k word None s z = go (eqb k i)
   where
     go : (t : Bool) → (not t || true) && ((not t || true) && true) ≡ true
     go true = refl
     go false = refl
-bounds_default m i k word (Between e) s z = rw (ne_eqb k i (λ q. let one = ap (bit m) q in omega (arith, one, s, z)))
+bounds_default m i k word (Some e) s z = rw (ne_eqb k i (λ q. let one = ap (bit m) q in omega (arith, one, s, z)))
 
 -- the fields of an entry whose bits do not stand in its own map say their default
 pub entry_map_absent : (e : Entry) → Absent (entry_map e) (layout (entry_word e)) (entry_numbers e)

@@ -1,14 +1,13 @@
 -- The fields of a job record (document 01, "Job files"; document 02, W-202, W-206 and W-207): its layout, the numbers of an entry in that
 -- layout and the entry of such numbers, with the map that goes with them. An entry is a job with its two random words. A record's map is one
 -- number: its first map byte, and 256 times its second one where it has one. Assumes nothing.
+use Rattle.std.specs.Prelude.{Option, Some, None}
 use Rattle.std.specs.Prelude.{Bool, cond, ◌&&◌, ◌||◌, ℕ, ◌+◌, ◌*◌, ◌/◌, List, [], ◌∷◌, ◌++◌, get_or, eqb, leb}
 use Rattle.bits.specs.Bit.{bit}
 use Rattle.format.specs.declared.Format.{Format}
 use Rattle.format.specs.Format.{word_bits}
 use Rattle.mask.specs.declared.Mask.{Mask}
 use Rattle.bounds.specs.declared.Ends.{Ends}
-use Rattle.bounds.specs.declared.Bounds as stated
-use Rattle.bounds.specs.declared.Bounds.TheVariants.{Unbounded, Between}
 use Rattle.job.specs.declared.Job.{Job}
 use Rattle.job.specs.Dropped.{normalised_job}
 use Rattle.layout.specs.Layout.{sizes, map_of, says_default}
@@ -64,9 +63,9 @@ abbrev pub mask_numbers : Mask → List ℕ
 mask_numbers m = m.care ∷ m.value ∷ []
 
 -- the ends of bounds, 0 and 0 where none are stated
-abbrev pub ends_of : stated.Bounds → Ends
-ends_of Unbounded = record { low = 0; high = 0 }
-ends_of (Between e) = e
+abbrev pub ends_of : Option Ends → Ends
+ends_of None = record { low = 0; high = 0 }
+ends_of (Some e) = e
 
 -- W-207: "the low bound before the high"
 abbrev pub ends_numbers : Ends → List ℕ
@@ -100,11 +99,11 @@ abbrev pub ends_at : List ℕ → ℕ → Ends
 ends_at ns i = record { low = get_or ns i 0; high = get_or ns (i + 1) 0 }
 
 -- bounds are stated where their bit b stands
-abbrev pub bounds_with : ℕ → Ends → stated.Bounds
-bounds_with b e = cond (eqb b 0) Unbounded (Between e)
+abbrev pub bounds_with : ℕ → Ends → Option Ends
+bounds_with b e = cond (eqb b 0) None (Some e)
 
 -- those of field k, from number i on
-abbrev pub bounds_at : ℕ → List ℕ → ℕ → ℕ → stated.Bounds
+abbrev pub bounds_at : ℕ → List ℕ → ℕ → ℕ → Option Ends
 bounds_at m ns k i = bounds_with (bit m k) (ends_at ns i)
 
 -- the job, and the entry, of a record with the map m and these numbers
@@ -133,9 +132,9 @@ entry_word e = word_bytes e.job.setting.format
 -- ---- the map
 
 -- 1 where bounds are stated, else 0: "No pair of bounds says a default"
-abbrev pub presence : stated.Bounds → ℕ
-presence Unbounded = 0
-presence (Between e) = 1
+abbrev pub presence : Option Ends → ℕ
+presence None = 0
+presence (Some e) = 1
 
 -- the second map byte
 abbrev pub second_map : Job → ℕ

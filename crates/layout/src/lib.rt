@@ -140,8 +140,8 @@ fn ends_of(w: Wanted) -> Ends
 {
     let bounds = w.bounds;
     match bounds {
-        Bounds::Unbounded => Ends { low: 0, high: 0 },
-        Bounds::Between(ends) => ends,
+        None => Ends { low: 0, high: 0 },
+        Some(ends) => ends,
     }
 }
 
@@ -183,8 +183,8 @@ fn presence(w: Wanted) -> u64
 {
     let bounds = w.bounds;
     match bounds {
-        Bounds::Unbounded => 0,
-        Bounds::Between(_) => 1,
+        None => 0,
+        Some(_) => 1,
     }
 }
 
@@ -229,9 +229,9 @@ fn bounds_at(map: u64, numbers: [u64; NUMBERS], field: u64, i: usize) -> Bounds
     let low = numbers[i];
     let high = numbers[i + 1];
     if bit_at(map, field) == 0 {
-        return Bounds::Unbounded;
+        return None;
     }
-    Bounds::Between(Ends { low, high })
+    Some(Ends { low, high })
 }
 
 // The job of a record with this map and these numbers.

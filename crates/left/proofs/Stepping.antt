@@ -1,12 +1,12 @@
 -- The next step of settling a job, by the standings of its words one after the other; and what is left where each stands inside its bounds.
 -- Assumes nothing.
+use Rattle.std.specs.Prelude.{Option, Some, None}
 use mathlib.Core.Bool.{Bool, true, false, cond}
 use mathlib.Core.Path.{◌≡◌, refl, subst}
 use Prim.Native.Nat.{ℕ, suc, ◌<◌}
 use native.Mathlib.Decide.{dec_lt}
 use native.Mathlib.Omega.{arith}
 use lib.Dec.{ltb}
-use Rattle.bounds.specs.declared.Bounds.TheVariants.{Unbounded}
 use Rattle.job.specs.declared.Job.{Job}
 use Rattle.job.specs.declared.Role.{Role}
 use Rattle.job.specs.declared.Role.TheVariants.{A, B, C}
@@ -87,7 +87,7 @@ fits_unbounded j a b c f =
     }
 
 -- where no bounds are stated each word stands inside
-pub unstated_fits : (j : Job) → j.a.bounds ≡ Unbounded → j.b.bounds ≡ Unbounded → j.c.bounds ≡ Unbounded → (a b c : ℕ) → Fits (unbounded j) a b c → Fits j a b c
+pub unstated_fits : (j : Job) → j.a.bounds ≡ None → j.b.bounds ≡ None → j.c.bounds ≡ None → (a b c : ℕ) → Fits (unbounded j) a b c → Fits j a b c
 unstated_fits j ea eb ec = settled_fits j inside
   where
     inside : (role : Role) → turn role < 3 → Stands j.setting.format (wanted role j) Inside

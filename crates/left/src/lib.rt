@@ -23,8 +23,8 @@ fn states_bounds(w: Wanted) -> bool
 {
     let bounds = w.bounds;
     match bounds {
-        Bounds::Unbounded => false,
-        Bounds::Between(_) => true,
+        None => false,
+        Some(_) => true,
     }
 }
 

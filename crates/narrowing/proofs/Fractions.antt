@@ -1,4 +1,6 @@
 -- What is wanted of a word, as what is wanted of its fields: the one law for a, b and c. Assumes nothing.
+use Rattle.bounds.specs.declared.Ends.{Ends}
+use Rattle.std.specs.Prelude.{Option, Some, None}
 use mathlib.Core.Logic.{◌↔◌}
 use mathlib.Core.Path.{◌≡◌}
 use Prim.Native.Nat.{ℕ, ◌+◌, ◌*◌, ◌^◌, ◌<◌}
@@ -8,8 +10,6 @@ use Rattle.format.specs.declared.Format.{Format}
 use Rattle.mask.proofs.ByParts.{meets_fields}
 use Rattle.word.specs.Word.{sign, fraction, word_of}
 use Rattle.word.proofs.Fields.{together_lt, together_sign, together_biased, together_fraction}
-use Rattle.bounds.specs.declared.Bounds as stated
-use Rattle.bounds.specs.declared.Bounds.TheVariants.{Unbounded, Between}
 use Rattle.bounds.specs.Bounds.{unsigned, Within, ValidBounds}
 use Rattle.job.specs.declared.Wanted.{Wanted}
 use Rattle.job.specs.Job.{ValidWanted}
@@ -24,9 +24,9 @@ module _ (F : Format) (s e t : ℕ) (hs : s < 2) (he : e < 2 ^ F.w) (ht : t < 2 
   unsigned_fields : unsigned F word ≡ e * 2 ^ F.f + t
   unsigned_fields = pow.low s (F.w + F.f) (together_lt F e t he ht)
 
-  within_fraction : (B : stated.Bounds) → ValidBounds F B → Within F word B ↔ FractionWithin F B s e t
-  within_fraction Unbounded v = (λ w. tt, λ w. tt)
-  within_fraction (Between b) v =
+  within_fraction : (B : Option Ends) → ValidBounds F B → Within F word B ↔ FractionWithin F B s e t
+  within_fraction None v = (λ w. tt, λ w. tt)
+  within_fraction (Some b) v =
       let law = between_range F word b v s hs (together_sign F s e t hs he ht) in
       let u = unsigned_fields in (
         (λ w. let r = law.0 w in let l = r.0 in let h = r.1 in (omega (arith, u, l), omega (arith, u, h))),

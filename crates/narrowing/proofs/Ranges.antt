@@ -1,5 +1,6 @@
 -- The words that meet a mask with a fixed sign lie between two ends exactly where their other bits, read as a number, are in the range of the
 -- sign; and these numbers go from the least that meets the mask to the greatest. Assumes nothing.
+use Rattle.std.specs.Prelude.{Option, Some, None}
 use mathlib.Core.Logic.{◌↔◌, ◌⊎◌, inl, inr}
 use mathlib.Core.Path.{◌≡◌, sym, ap, ◌∙◌}
 use Prim.Native.Nat.{ℕ, zero, suc, ◌+◌, ◌-◌, ◌%◌, ◌^◌, ◌≤◌, ◌<◌}
@@ -21,7 +22,6 @@ use Rattle.mask.proofs.Stepping.{value_least}
 use Rattle.word.specs.Word.{sign}
 use Rattle.word.proofs.Bounds.{place_bits}
 use Rattle.bounds.specs.declared.Ends.{Ends}
-use Rattle.bounds.specs.declared.Bounds.TheVariants.{Between}
 use Rattle.bounds.specs.Bounds.{unsigned, rank, LiesBetween, ValidEnds}
 use Rattle.bounds.proofs.Ranks.{unsigned_lt, rank_positive, rank_negative, between_ranks}
 use Rattle.significand.specs.Tail.{complement, greatest}
@@ -119,7 +119,7 @@ module _ (F : Format) (ok : Supported F) (m : Mask) (w : WellFormed (word_bits F
             go (no n) = let q = pow_mono {i = j} {j = i} (omega (arith, n)) in absurd (omega (arith, q, h))
 
     -- what is decided of the numbers stands of the words
-    pub decided_stands : (r : relation.Standing) → Decided (extent_of F m e) r → Stands F (record { mask = m; bounds = Between e }) r
+    pub decided_stands : (r : relation.Standing) → Decided (extent_of F m e) r → Stands F (record { mask = m; bounds = Some e }) r
     decided_stands Inside d = λ x hx met.
         let n = meets_extent x met in
         (meets_between x met).1 (omega (arith, d.0, n.0), omega (arith, d.1, n.1))

@@ -132,8 +132,8 @@ pub fn stands(format: Format, w: Wanted) -> Standing
     }
     let bounds = w.bounds;
     match bounds {
-        Bounds::Unbounded => Standing::Inside,
-        Bounds::Between(ends) => stands_between(format, w.mask, ends),
+        None => Standing::Inside,
+        Some(ends) => stands_between(format, w.mask, ends),
     }
 }
 
@@ -202,7 +202,7 @@ pub fn narrowed(format: Format, w: Wanted) -> Mask
     }
     let bounds = w.bounds;
     match bounds {
-        Bounds::Unbounded => w.mask,
-        Bounds::Between(ends) => narrowed_between(format, w.mask, ends),
+        None => w.mask,
+        Some(ends) => narrowed_between(format, w.mask, ends),
     }
 }

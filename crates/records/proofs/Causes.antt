@@ -1,5 +1,7 @@
 -- What it means that no cause stands against an entry: the job is valid and the random words have their width, so every number fits its
 -- byte count. And what a reply of reading says of the bytes. Assumes nothing.
+use Rattle.bounds.specs.declared.Ends.{Ends}
+use Rattle.std.specs.Prelude.{Option, Some, None}
 use mathlib.Core.Path.{◌≡◌, refl, sym, ap, ap₂, ◌∙◌}
 use mathlib.Core.Logic.{◌↔◌}
 use mathlib.Core.Bool.{Bool, false, not}
@@ -20,8 +22,6 @@ use Rattle.format.proofs.Room.{word_room}
 use Rattle.mask.specs.declared.Mask.{Mask}
 use Rattle.mask.specs.Mask.{WellFormed}
 use Rattle.mask.proofs.ByBits.{value_below}
-use Rattle.bounds.specs.declared.Bounds as stated
-use Rattle.bounds.specs.declared.Bounds.TheVariants.{Unbounded, Between}
 use Rattle.bounds.specs.Bounds.{ValidBounds}
 use Rattle.job.specs.declared.Dropped.{Dropped}
 use Rattle.job.specs.Dropped.{ValidDropped}
@@ -62,12 +62,12 @@ dropped_fits D v f =
     (more {k = 2} {n = D.mask.value} (omega (arith, value_below (D.g + 1) D.mask v.mask, most)) f))
 
 -- bounds, before others
-bounds_fit : (F : Format) → Supported F → (B : stated.Bounds) → ValidBounds F B → {ks ns : List ℕ} → Fits ks ns
+bounds_fit : (F : Format) → Supported F → (B : Option Ends) → ValidBounds F B → {ks ns : List ℕ} → Fits ks ns
     → Fits (word_bytes F ∷ word_bytes F ∷ ks) ((ends_of B).low ∷ (ends_of B).high ∷ ns)
-bounds_fit F h Unbounded v f =
+bounds_fit F h None v f =
     let zero : 0 < 256 ^ word_bytes F = word_fits F h (word_bits F) 0 (omega arith) (pow_pos (word_bits F)) in
     more {n = 0} zero (more {n = 0} zero f)
-bounds_fit F h (Between e) v f =
+bounds_fit F h (Some e) v f =
     more (word_fits F h (word_bits F) e.low (omega arith) v.low_word) (more (word_fits F h (word_bits F) e.high (omega arith) v.high_word) f)
 
 fields_fit : (e : Entry) → Request e.job e.r1 e.r2 → Fits (counts (layout (entry_word e))) (field_numbers e)

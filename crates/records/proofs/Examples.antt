@@ -1,5 +1,6 @@
 -- Document 01's example file: the records of the jobs of cases 1 and 4, byte for byte, and what reading it gives; and a record with bounds
 -- (document 02, W-207). Computed. Assumes nothing.
+use Rattle.std.specs.Prelude.{Option, Some, None}
 use mathlib.Core.Path.{◌≡◌, refl}
 use mathlib.Core.List.{List, [], ◌∷◌}
 use Prim.Native.Nat.{ℕ}
@@ -9,7 +10,6 @@ use Rattle.mask.specs.Mask.{mask_cause, masks_cause, free_mask}
 use Rattle.job.specs.Dropped.{dropped_cause, free_dropped, normalised}
 use Rattle.job.specs.Job.{setting_cause, form_cause, cause_with, request_cause}
 use Rattle.job.specs.Role.{only_mask}
-use Rattle.bounds.specs.declared.Bounds.TheVariants.{Between}
 use Rattle.bounds.specs.Bounds.{rank, ends_cause, bounds_cause}
 use Rattle.numbers.specs.Number.{little_endian}
 use Rattle.numbers.specs.Numbers.{number_bytes}
@@ -63,9 +63,9 @@ bounded =
     record {
       job = record {
         setting = record { format = record { w = 3; f = 4 }; operation = 0; mode = 0 };
-        a = record { mask = free_mask; bounds = Between (record { low = 0xb0; high = 0x30 }) };
+        a = record { mask = free_mask; bounds = Some (record { low = 0xb0; high = 0x30 }) };
         b = only_mask free_mask;
-        c = record { mask = free_mask; bounds = Between (record { low = 0; high = 0x80 }) };
+        c = record { mask = free_mask; bounds = Some (record { low = 0; high = 0x80 }) };
         carries = free_mask;
         dropped = free_dropped;
       };

@@ -96,7 +96,7 @@ pub(crate) fn order(rt: &impl Print) -> io::Result<()> {
 // The job with bounds of one word.
 fn bounded(job: Job, role: Role, low: u64, high: u64) -> Job {
     let mask = wanted(job, role).mask;
-    let bounds = Bounds::Between(Ends { low, high });
+    let bounds = Some(Ends { low, high });
     with_wanted(job, role, Wanted { mask, bounds })
 }
 

@@ -100,22 +100,22 @@ fn ends(width: u64, state: u64) -> Ends {
 // No bounds, or in one of three cases ends as above. Of these one in 16 has any two words, and one in 16 its ends exchanged.
 fn bounds(width: u64, state: u64) -> Bounds {
     if state % 3 != 0 {
-        return Bounds::Unbounded;
+        return None;
     }
     if state / 3 % 16 == 0 {
-        return Bounds::Between(Ends {
+        return Some(Ends {
             low: word(state),
             high: word(next(state)),
         });
     }
     let drawn = ends(width, state);
     if state / 144 % 16 == 0 {
-        return Bounds::Between(Ends {
+        return Some(Ends {
             low: drawn.high,
             high: drawn.low,
         });
     }
-    Bounds::Between(drawn)
+    Some(drawn)
 }
 
 fn wanted(width: u64, fixed: u64, bounded: u64) -> Wanted {

@@ -16,11 +16,3 @@ overflow_add-width c = omega (arith, word_room c.args.format (supported_of c.sup
 
 pub overflow_add-width-2 : goal.overflow_add-width-2
 overflow_add-width-2 c = omega (arith, word_room c.args.format (supported_of c.supported.ensures c.if-not-supported.false))
-
-pub returns-in-Unbounded : goal.returns-in-Unbounded
-unfolding ends_cause
-returns-in-Unbounded c = λ ok. rw c.in-Unbounded.is
-
-pub returns-in-Between : goal.returns-in-Between
-unfolding ends_cause
-returns-in-Between c = λ ok. rw c.in-Between.is (c.first.ensures ∙ ap₂ first c.word_cause.ensures c.word_cause-in-Between.ensures)

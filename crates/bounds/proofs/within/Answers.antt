@@ -7,9 +7,3 @@ returns-then-not-supported c = λ ok. absurd (unsupported_of c.supported.ensures
 
 pub lies_between-requires : goal.lies_between-requires
 lies_between-requires c = supported_of c.supported.ensures c.if-not-supported.false
-
-pub returns-in-Unbounded : goal.returns-in-Unbounded
-returns-in-Unbounded c = λ ok. rw c.in-Unbounded.is
-
-pub returns-in-Between : goal.returns-in-Between
-returns-in-Between c = λ ok. rw c.in-Between.is c.lies_between.ensures

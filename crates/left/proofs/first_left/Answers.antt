@@ -1,9 +1,9 @@
 -- `left::first_left` meets its contract. Assumes nothing.
+use Rattle.std.specs.Prelude.{Option, Some, None}
 use mathlib.Core.Bool.{Bool, true, false, not, ◌||◌, true≢false}
 use mathlib.Core.Path.{◌≡◌, refl, sym, ◌∙◌}
 use Prim.Native.Nat.{◌^◌, ◌≤◌}
 use native.Mathlib.Omega.{arith}
-use Rattle.bounds.specs.declared.Bounds.TheVariants.{Unbounded}
 use Rattle.job.specs.declared.Job.{Job}
 use Rattle.job.proofs.Laws.{job_none}
 use Rattle.word.proofs.Bounds.{exponents}
@@ -26,7 +26,7 @@ past_left : (j : Job) (r : Exponents) → FirstPair j r → 2 ^ j.setting.format
 past_left j r is past = record { first = λ l. is; left = λ l. absurd (omega (arith, l, past)); none = λ l p. past_none j r is l p }
 
 -- where no bounds are stated the pair tells
-unstated : (j : Job) → j.a.bounds ≡ Unbounded → j.b.bounds ≡ Unbounded → j.c.bounds ≡ Unbounded → (r : Exponents) → FirstPair j r → FirstLeft j r
+unstated : (j : Job) → j.a.bounds ≡ None → j.b.bounds ≡ None → j.c.bounds ≡ None → (r : Exponents) → FirstPair j r → FirstLeft j r
 unstated j ea eb ec r is = record {
   first = λ l. is;
   left = λ l. let p = is.admits l in record { a = p.a; b = p.b; c = p.c; fits = unstated_fits j ea eb ec p.a p.b p.c p.fits };

@@ -2,5 +2,5 @@
 use mathlib.Core.Bool.{true≢false}
 use Rattle.left.proofs.states_bounds.Goals as goal
 
-pub returns-in-Between : goal.returns-in-Between
-returns-in-Between c = λ e. absurd (true≢false e)
+pub returns-in-Some : goal.returns-in-Some
+returns-in-Some c = λ e. absurd (true≢false e)

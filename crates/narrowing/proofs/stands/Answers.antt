@@ -1,6 +1,7 @@
 -- `narrowing::stands` meets its contract. Assumes nothing.
+use Rattle.bounds.specs.declared.Ends.{Ends}
+use Rattle.std.specs.Prelude.{Option, Some, None}
 use mathlib.Core.Path.{sym, subst}
-use Rattle.bounds.specs.declared.Bounds as stated
 use Rattle.bounds.specs.Bounds.{ValidBounds}
 use Rattle.format.proofs.Laws.{supported_of, unsupported_of}
 use Rattle.narrowing.specs.Narrowing.{Stands}
@@ -12,15 +13,15 @@ returns-then-not-supported c = λ ok v. absurd (unsupported_of c.supported.ensur
 pub stands_between-requires : goal.stands_between-requires
 stands_between-requires c = supported_of c.supported.ensures c.if-not-supported.false
 
-pub returns-in-Unbounded : goal.returns-in-Unbounded
-returns-in-Unbounded c =
+pub returns-in-None : goal.returns-in-None
+returns-in-None c =
     let W = c.args.w in
-    λ ok v x hx met. rw c.in-Unbounded.is tt
+    λ ok v x hx met. rw c.in-None.is tt
 
-pub returns-in-Between : goal.returns-in-Between
-returns-in-Between c =
+pub returns-in-Some : goal.returns-in-Some
+returns-in-Some c =
     let W = c.args.w in
-    let e = c.in-Between.is in
+    let e = c.in-Some.is in
     λ ok v.
-    subst (λ (B : stated.Bounds). Stands c.args.format (record { mask = W.mask; bounds = B }) c.stands_between.result) (sym e)
+    subst (λ (B : Option Ends). Stands c.args.format (record { mask = W.mask; bounds = B }) c.stands_between.result) (sym e)
     (c.stands_between.ensures v.mask (subst (ValidBounds c.args.format) e v.bounds))
