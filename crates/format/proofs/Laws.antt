@@ -35,6 +35,11 @@ both_none m n p q = (
   λ b. (first_none m n).1 (p.1 b.0, q.1 b.1),
 )
 
+-- where the first check names a cause, the later ones do not count
+pub first_some : (m n : Check) → (m ≡ clear → ⊥) → first m n ≡ m
+first_some (Ok tt) n h = absurd (h refl)
+first_some (Err c) n h = refl
+
 -- a test names no cause exactly when it holds
 pub unless_none : (t : Bool) (c : Cause) → unless t c ≡ clear ↔ (t ≡ true)
 unless_none true c = (λ e. refl, λ e. refl)

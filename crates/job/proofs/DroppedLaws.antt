@@ -6,6 +6,8 @@ use Prim.Native.Nat.{ℕ, ◌+◌}
 use native.Mathlib.Omega.{arith}
 use borrow.Author.Tests.{leb-true, le-leb, eqb-true, eq-eqb, ne_eqb}
 use lib.Dec.{eqb, leb}
+use Rattle.format.specs.declared.cause.Cause.TheVariants as cause
+use Rattle.format.specs.Cause.{clear}
 use Rattle.format.specs.Limits.{most_dropped}
 use Rattle.format.proofs.Laws.{unless_none}
 use Rattle.mask.specs.Mask.{well_formed}
@@ -13,10 +15,10 @@ use Rattle.mask.proofs.Checks.{well_formed_true}
 use Rattle.job.specs.declared.Dropped.{Dropped}
 use Rattle.job.specs.Dropped.{dropped_cause, ValidDropped, normalised}
 
-pub dropped_none : (D : Dropped) → (dropped_cause D ≡ 0) ↔ ValidDropped D
+pub dropped_none : (D : Dropped) → (dropped_cause D ≡ clear) ↔ ValidDropped D
 unfolding dropped_cause
 dropped_none D =
-    let none = unless_none (leb D.g most_dropped && well_formed (D.g + 1) D.mask) 16 in
+    let none = unless_none (leb D.g most_dropped && well_formed (D.g + 1) D.mask) cause.DroppedMask in
     let both = and-eq-true_iff (leb D.g most_dropped) (well_formed (D.g + 1) D.mask) in
     let formed = well_formed_true (D.g + 1) D.mask in (
       (λ e. let b = both.0 (none.0 e) in record { g_most = leb-true D.g most_dropped b.0; mask = formed.0 b.1 }),

@@ -2,7 +2,7 @@
 use mathlib.Core.Path.{◌≡◌, refl, sym, ap, ◌∙◌}
 use mathlib.Core.Logic.{◌↔◌}
 use Prim.Native.Nat.{ℕ}
-use Rattle.format.specs.Cause.{first}
+use Rattle.format.specs.Cause.{Check, clear, first}
 use Rattle.format.specs.Format.{Supported, word_bits, precision, format_cause}
 use Rattle.format.proofs.Laws.{first_none, both_none, first_some, format_none, operation_none, mode_none, word_none}
 use Rattle.mask.specs.Mask.{WellFormed}
@@ -24,7 +24,7 @@ record FormedJob (j : Job) : Type 0 where
   carries : WellFormed (precision j.setting.format) j.carries
   dropped : ValidDropped j.dropped
 
-pub setting_none : (S : Setting) → (setting_cause S ≡ 0) ↔ ValidSetting S
+pub setting_none : (S : Setting) → (setting_cause S ≡ clear) ↔ ValidSetting S
 unfolding setting_cause
 setting_none S =
     let law = both_none _ _ (format_none S.format) (both_none _ _ (operation_none S.operation) (mode_none S.mode)) in (
@@ -33,7 +33,7 @@ setting_none S =
     )
 
 -- where no cause stands against the form of a job, its setting is valid and its masks are well formed
-form_none : (j : Job) → (form_cause j ≡ 0) ↔ FormedJob j
+form_none : (j : Job) → (form_cause j ≡ clear) ↔ FormedJob j
 unfolding form_cause
 form_none j =
     let F = j.setting.format in
@@ -46,11 +46,11 @@ form_none j =
       λ v. law.1 (v.setting, ((v.a, (v.b, (v.c, v.carries))), v.dropped)),
     )
 
-pub form_supported : (j : Job) → form_cause j ≡ 0 → Supported j.setting.format
+pub form_supported : (j : Job) → form_cause j ≡ clear → Supported j.setting.format
 form_supported j e = ((form_none j).0 e).setting.format
 
 -- a job is valid, and words that come with it are taken, exactly where no cause stands against both
-pub with_none : {P : Type 0} (j : Job) (words : ℕ) → (words ≡ 0) ↔ P → (cause_with j words ≡ 0) ↔ (Valid j × P)
+pub with_none : {P : Type 0} (j : Job) (words : Check) → (words ≡ clear) ↔ P → (cause_with j words ≡ clear) ↔ (Valid j × P)
 unfolding cause_with
 with_none j words taken =
     let F = j.setting.format in
@@ -85,29 +85,29 @@ with_none j words taken =
           ),
     )
   where
-    three : (x y z : ℕ) → (first x (first y z) ≡ 0) ↔ ((x ≡ 0) × ((y ≡ 0) × (z ≡ 0)))
+    three : (x y z : Check) → (first x (first y z) ≡ clear) ↔ ((x ≡ clear) × ((y ≡ clear) × (z ≡ clear)))
     three x y z = both_none x (first y z) (λ e. e, λ e. e) (first_none y z)
 
-pub job_none : (j : Job) → (job_cause j ≡ 0) ↔ Valid j
-job_none j = let law = with_none {P = Prim.Unit {0}} j 0 (λ e. tt, λ t. refl) in (λ e. (law.0 e).0, λ v. law.1 (v, tt))
+pub job_none : (j : Job) → (job_cause j ≡ clear) ↔ Valid j
+job_none j = let law = with_none {P = Prim.Unit {0}} j clear (λ e. tt, λ t. refl) in (λ e. (law.0 e).0, λ v. law.1 (v, tt))
 
 -- in a format that is refused the job is too, and what is tested after it does not count
-pub form_first : (j : Job) (m n : ℕ) → (format_cause j.setting.format ≡ 0 → ⊥) → cause_with j m ≡ cause_with j n
+pub form_first : (j : Job) (m n : Check) → (Supported j.setting.format → ⊥) → cause_with j m ≡ cause_with j n
 unfolding cause_with
 form_first j m n h =
     first_some (form_cause j) (rest m) refused ∙ sym (first_some (form_cause j) (rest n) refused)
   where
-    refused : form_cause j ≡ 0 → ⊥
-    refused e = h ((format_none j.setting.format).1 (form_supported j e))
+    refused : form_cause j ≡ clear → ⊥
+    refused e = h (form_supported j e)
 
-    rest : ℕ → ℕ
+    rest : Check → Check
     rest k = first (job_ends_cause j) (first k (job_bounds_cause j))
 
 -- words that are taken do not count
-pub taken_words : (j : Job) (n : ℕ) → n ≡ 0 → cause_with j n ≡ job_cause j
+pub taken_words : (j : Job) (n : Check) → n ≡ clear → cause_with j n ≡ job_cause j
 taken_words j n e = ap (cause_with j) e
 
-pub request_none : (j : Job) (r1 r2 : ℕ) → (request_cause j r1 r2 ≡ 0) ↔ Request j r1 r2
+pub request_none : (j : Job) (r1 r2 : ℕ) → (request_cause j r1 r2 ≡ clear) ↔ Request j r1 r2
 unfolding request_cause
 request_none j r1 r2 =
     let width = word_bits j.setting.format in

@@ -2,14 +2,14 @@
 -- Assumes nothing.
 use Rattle.std.specs.Prelude.{cond, ◌&&◌, ℕ, ◌+◌, ◌≤◌, eqb, leb}
 use Rattle.format.specs.declared.cause.Cause.TheVariants as cause
-use Rattle.format.specs.Cause.{unless}
+use Rattle.format.specs.Cause.{Check, unless}
 use Rattle.format.specs.Limits.{most_dropped}
 use Rattle.mask.specs.Mask.{WellFormed, well_formed, free_mask}
 use Rattle.job.specs.declared.Dropped.{Dropped}
 use Rattle.job.specs.declared.Job.{Job}
 
 -- "17, g above 8 or this mask malformed": it has a bit for each of the g dropped bits and the sticky bit
-unfoldable pub dropped_cause : Dropped → ℕ
+unfoldable pub dropped_cause : Dropped → Check
 dropped_cause D = unless (leb D.g most_dropped && well_formed (D.g + 1) D.mask) cause.DroppedMask
 
 -- that cause does not stand

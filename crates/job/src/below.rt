@@ -6,16 +6,15 @@ use crate::Dropped;
 use format::{Cause, limits, unless};
 use mask::{Mask, well_formed};
 
-// 17 where g is above 8, or the mask has a bit above its g + 1 bits or a value bit outside care; else 0. With a g above 8 the mask is not
-// looked at, so its width does not wrap.
-pub(crate) fn dropped_cause(dropped: Dropped) -> u64
+// 17 where g is above 8, or the mask has a bit above its g + 1 bits or a value bit outside care. With a g above 8 the mask is not looked
+// at, so its width does not wrap.
+pub(crate) fn dropped_cause(dropped: Dropped) -> Result<(), Cause>
     ensures { result ≡ dropped_cause dropped }
 {
     if limits::MOST_DROPPED < dropped.g {
-        return Cause::DroppedMask;
+        return Err(Cause::DroppedMask);
     }
-    let formed = well_formed(dropped.g + 1, dropped.mask);
-    unless(formed, Cause::DroppedMask)
+    unless(well_formed(dropped.g + 1, dropped.mask), Cause::DroppedMask)
 }
 
 // Nothing is wanted of the dropped bits.

@@ -7,12 +7,11 @@ pub mod words;
 
 ghost use Rattle.std.specs.Prelude.{◌≡◌};
 ghost use Rattle.format.specs.Format.{Supported};
-ghost use Rattle.bounds.specs.Bounds.{ends_cause, bounds_cause};
 ghost use Rattle.job.specs.Job.{setting_cause, job_masks_cause, job_ends_cause, job_bounds_cause, form_cause, cause_with, request_cause};
 
 use below::dropped_cause;
-use bounds::{Bounds, bounds_cause, ends_cause};
-use format::{Format, first, format_cause, mode_cause, operation_cause, word_cause, supported};
+use bounds::{Ends, bounds_cause, ends_cause};
+use format::{Cause, Format, format_cause, mode_cause, operation_cause, supported, word_cause};
 use mask::{Mask, masks_cause};
 
 // What decides the result of two operands.
@@ -23,11 +22,11 @@ pub struct Setting {
     pub mode: u64,
 }
 
-// What is wanted of one word of a case.
+// What is wanted of one word of a case: that it agrees with a mask, and lies within bounds if any are stated.
 #[derive(Clone, Copy)]
 pub struct Wanted {
     pub mask: Mask,
-    pub bounds: Bounds,
+    pub bounds: Option<Ends>,
 }
 
 // What is wanted of the bits that rounding drops: of g of them, and below them the sticky bit, bit 0 of the mask.
@@ -56,106 +55,84 @@ pub enum Role {
     C,
 }
 
-// The first of the causes 1 to 4 that stands against a setting, 0 for none.
-pub fn setting_cause(setting: Setting) -> u64
+// The first of the causes 1 to 4 that stands against a setting.
+#[tactic(auto, unfolding(crate::specs::Job::setting_cause))]
+pub fn setting_cause(setting: Setting) -> Result<(), Cause>
     ensures { result ≡ setting_cause setting }
 {
-    let operation = operation_cause(setting.operation);
-    let mode = mode_cause(setting.mode);
-    first(format_cause(setting.format), first(operation, mode))
+    format_cause(setting.format)?;
+    operation_cause(setting.operation)?;
+    mode_cause(setting.mode)
 }
 
-// 5, 14, 15, 16 or 17 where a mask is malformed, else 0. The format is supported, so its widths do not wrap.
-fn job_masks_cause(job: Job) -> u64
+// 5, 14, 15, 16 or 17 where a mask is malformed. The format is supported, so its widths do not wrap.
+fn job_masks_cause(job: Job) -> Result<(), Cause>
     requires { Supported job.setting.format }
     ensures { result ≡ job_masks_cause job }
 {
     let width = job.setting.format.w + job.setting.format.f + 1;
     let precision = job.setting.format.f + 1;
-    let masks = masks_cause(
+    masks_cause(
         width,
         precision,
         job.a.mask,
         job.b.mask,
         job.c.mask,
         job.carries,
-    );
-    first(masks, dropped_cause(job.dropped))
+    )?;
+    dropped_cause(job.dropped)
 }
 
-// The first of the causes 1 to 4 that stands against the job, or 5, 14, 15, 16 or 17 for a malformed mask; else 0.
-fn form_cause(job: Job) -> u64
+// The first of the causes 1 to 4 that stands against the job, or 5, 14, 15, 16 or 17 for a malformed mask.
+#[tactic(auto, unfolding(crate::specs::Job::form_cause))]
+fn form_cause(job: Job) -> Result<(), Cause>
     ensures { result ≡ form_cause job }
 {
-    let setting = job.setting;
-    let refusal = setting_cause(setting);
-    if refusal != 0 {
-        return refusal;
-    }
+    setting_cause(job.setting)?;
     job_masks_cause(job)
 }
 
-// 6 where a bound of the word is too wide, else 0.
-fn word_ends_cause(format: Format, w: Wanted) -> u64
-    ensures { Supported format → result ≡ ends_cause format w.bounds }
-{
-    let bounds = w.bounds;
-    ends_cause(format, bounds)
-}
-
-// 6 where a bound is too wide, else 0.
-fn job_ends_cause(job: Job) -> u64
+// 6 where a bound is too wide.
+fn job_ends_cause(job: Job) -> Result<(), Cause>
     requires { Supported job.setting.format }
     ensures { result ≡ job_ends_cause job }
 {
     let format = job.setting.format;
-    let a = word_ends_cause(format, job.a);
-    let b = word_ends_cause(format, job.b);
-    first(a, first(b, word_ends_cause(format, job.c)))
+    ends_cause(format, job.a.bounds)?;
+    ends_cause(format, job.b.bounds)?;
+    ends_cause(format, job.c.bounds)
 }
 
-// 18 where a bound of the word is a NaN, or the low one exceeds the high one; else 0.
-fn word_bounds_cause(format: Format, w: Wanted) -> u64
-    ensures { Supported format → result ≡ bounds_cause format w.bounds }
-{
-    let bounds = w.bounds;
-    bounds_cause(format, bounds)
-}
-
-// 18 where a bound is a NaN, or a low one exceeds its high one; else 0.
-fn job_bounds_cause(job: Job) -> u64
+// 18 where a bound is a NaN, or a low one exceeds its high one.
+fn job_bounds_cause(job: Job) -> Result<(), Cause>
     requires { Supported job.setting.format }
     ensures { result ≡ job_bounds_cause job }
 {
     let format = job.setting.format;
-    let a = word_bounds_cause(format, job.a);
-    let b = word_bounds_cause(format, job.b);
-    first(a, first(b, word_bounds_cause(format, job.c)))
+    bounds_cause(format, job.a.bounds)?;
+    bounds_cause(format, job.b.bounds)?;
+    bounds_cause(format, job.c.bounds)
 }
 
-// The first cause that stands against the job and words that come with it, whose own cause is given, 0 for none. Bounds are looked at in a
-// supported format alone.
-pub fn cause_with(job: Job, words: u64) -> u64
+// The first cause that stands against the job and words that come with it, which were looked at before. Bounds are looked at in a supported
+// format alone.
+#[tactic(auto, unfolding(crate::specs::Job::cause_with))]
+pub fn cause_with(job: Job, words: Result<(), Cause>) -> Result<(), Cause>
     ensures { result ≡ cause_with job words }
 {
-    let form = form_cause(job);
-    if form != 0 {
-        return form;
-    }
-    let ends = job_ends_cause(job);
-    let order = job_bounds_cause(job);
-    first(ends, first(words, order))
+    form_cause(job)?;
+    job_ends_cause(job)?;
+    words?;
+    job_bounds_cause(job)
 }
 
-// What stands against the job and two random words, 0 for none. In a format that is not supported the words are not looked at, whose width
-// might wrap.
-pub fn request_cause(job: Job, r1: u64, r2: u64) -> u64
+// What stands against the job and two random words. In a format that is not supported the words are not looked at, whose width might wrap.
+pub fn request_cause(job: Job, r1: u64, r2: u64) -> Result<(), Cause>
     ensures { result ≡ request_cause job r1 r2 }
 {
     if !supported(job.setting.format) {
-        return cause_with(job, 0);
+        return cause_with(job, Ok(()));
     }
     let width = job.setting.format.w + job.setting.format.f + 1;
-    let words = first(word_cause(width, r1), word_cause(width, r2));
-    cause_with(job, words)
+    cause_with(job, word_cause(width, r1).and(word_cause(width, r2)))
 }

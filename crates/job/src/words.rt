@@ -4,7 +4,6 @@ ghost use Rattle.job.specs.Role.{wanted, with_wanted, with_mask, with_word_mask,
 
 use crate::below::free_dropped;
 use crate::{Job, Role, Setting, Wanted};
-use bounds::Bounds;
 use mask::Mask;
 
 // What is wanted of the word of a role.

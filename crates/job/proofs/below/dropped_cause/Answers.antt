@@ -21,4 +21,4 @@ returns c =
     let D = c.args.dropped in
     c.unless.ensures
     ∙ ap (λ (t : Bool). unless t cause.DroppedMask)
-    (c.well_formed-formed.ensures ∙ sym (ap (λ (t : Bool). t && well_formed (D.g + 1) D.mask) (le-leb D.g most_dropped (omega arith))))
+    (c.well_formed-2.ensures ∙ sym (ap (λ (t : Bool). t && well_formed (D.g + 1) D.mask) (le-leb D.g most_dropped (omega arith))))
