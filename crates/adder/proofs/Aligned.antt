@@ -2,6 +2,7 @@
 -- their aligned significands. Of operands x and y, y's unit not above x's, H is x's significand with some bits below it, and T is y's aligned to it: c
 -- and the dropped bits come from them with bits enough, where y is not the larger or the signs are like; the row with any number of bits,
 -- where x is a and y has not the larger exponent. The search cites these laws and no other of the adder. Assumes nothing.
+use Rattle.std.specs.Prelude.{Some, None}
 use mathlib.Core.Path.{◌≡◌, refl, sym, ap, ap₂, ◌∙◌}
 use mathlib.Core.Bool.{Bool, true, false, not, cond}
 use mathlib.Core.Logic.{◌⊎◌, inl, inr, ◌↔◌}
@@ -20,8 +21,6 @@ use Rattle.word.specs.Word.{fraction, biased, sign, unit_of, effective, all_ones
 use Rattle.word.specs.Operand.{finite_of, magnitude, Canonical}
 use Rattle.rounding.specs.Sticky.{head_at, tail_at, Held}
 use Rattle.rounding.specs.Width.{sum_bits}
-use Rattle.adder.specs.declared.Row.TheVariants.{Carries}
-use Rattle.adder.specs.declared.Below.TheVariants.{Bits, NoBits}
 use Rattle.adder.specs.Row.{carry_in, carry_at, finite_row, kind_row, row_of}
 use Rattle.adder.specs.Result.{finite_sum, kind_sum, result_of}
 use Rattle.adder.specs.Exact.{exact_magnitude}
@@ -62,11 +61,11 @@ module _ (F : Format) (operation mode a b : ℕ) (na : (biased F a).0 ≡ all_on
   result_finite =
       ap₂ (kind_sum F mode) (operand_finite F a na) (operand_finite F (effective F operation b) ne) ∙ ap (finite_sum F mode (finite_of F a)) effective_finite
 
-  pub row_finite : row_of F operation a b ≡ Carries (finite_row F (finite_of F a) (turned_of F operation b))
+  pub row_finite : row_of F operation a b ≡ Some (finite_row F (finite_of F a) (turned_of F operation b))
   unfolding row_of kind_row
   row_finite =
       ap₂ (kind_row F) (operand_finite F a na) (operand_finite F (effective F operation b) ne)
-      ∙ ap (λ (y : record_of.Finite). Carries (finite_row F (finite_of F a) y)) effective_finite
+      ∙ ap (λ (y : record_of.Finite). Some (finite_row F (finite_of F a) y)) effective_finite
 
   pub below_finite : (g : ℕ) → below_of F operation g a b ≡ finite_below F g (finite_of F a) (turned_of F operation b)
   unfolding below_of kind_below
@@ -203,20 +202,20 @@ module _ (F : Format) (x y : record_of.Finite) (units : (unit_of y.exponent).0 �
 
     -- the dropped bits
     module _ (g : ℕ) (few : g ≤ G) (le : eqb x.sign y.sign ≡ false → magnitude y ≤ magnitude x) where
-      pub below_bits : NormalAt q F.f (unit_of x.exponent) makes → finite_below F g x y ≡ Bits (dropped_word F g makes)
+      pub below_bits : NormalAt q F.f (unit_of x.exponent) makes → finite_below F g x y ≡ Some (dropped_word F g makes)
       unfolding finite_below
       below_bits n =
           let u = (unit_of x.exponent).0 in
           let held = makes_held le in
           let some = held_pos F q G (exact_magnitude x y) makes u held (λ z. omega (arith, n.some, z)) in
           normal_below F g (exact_magnitude x y) ((normal_held F q G (exact_magnitude x y) makes u guards some held).1 n)
-          ∙ ap Bits (sym (dropped_held F q G (exact_magnitude x y) makes u guards some held g few))
+          ∙ ap Some (sym (dropped_held F q G (exact_magnitude x y) makes u guards some held g few))
 
-      pub below_none : (NormalAt q F.f (unit_of x.exponent) makes → ⊥) → finite_below F g x y ≡ NoBits
+      pub below_none : (NormalAt q F.f (unit_of x.exponent) makes → ⊥) → finite_below F g x y ≡ None
       unfolding finite_below
       below_none never = go (dec_lt (exact_magnitude x y) (2 ^ F.f))
         where
-          go : Dec (exact_magnitude x y < 2 ^ F.f) → magnitude_below F g (exact_magnitude x y) ≡ NoBits
+          go : Dec (exact_magnitude x y < 2 ^ F.f) → magnitude_below F g (exact_magnitude x y) ≡ None
           go (yes l) = small_below F g (exact_magnitude x y) l
           go (no l) =
               let h : 2 ^ F.f ≤ exact_magnitude x y = omega arith in

@@ -1,5 +1,6 @@
 -- Laws of the bits below the last: which magnitude they are of, in either order of the operands, and whether there are any, which does not
 -- depend on how many are asked for. Assumes nothing.
+use Rattle.std.specs.Prelude.{Option, Some, None}
 use mathlib.Core.Path.{◌≡◌, ap}
 use mathlib.Core.Bool.{Bool, true, false}
 use Prim.Native.Nat.{ℕ, ◌+◌, ◌-◌, ◌^◌, ◌≤◌, ◌<◌}
@@ -12,18 +13,16 @@ use Rattle.word.specs.declared.Operand.TheVariants.{Finite, Infinite, Nan}
 use Rattle.word.specs.Word.{effective}
 use Rattle.word.specs.Operand.{operand_of, magnitude}
 use Rattle.rounding.specs.Dropped.{dropped_word}
-use Rattle.adder.specs.declared.Below.{Below}
-use Rattle.adder.specs.declared.Below.TheVariants.{Bits, NoBits}
 use Rattle.adder.specs.Exact.{exact_magnitude}
 use Rattle.adder.specs.Below.{bits_if, magnitude_below, finite_below, kind_below, below_of}
 use Rattle.adder.proofs.ExactMagnitude.{magnitude_like, magnitude_unlike, magnitude_comm}
 
 -- ---- a magnitude
 module _ (F : Format) (g X : ℕ) where
-  pub normal_below : 2 ^ F.f ≤ X → magnitude_below F g X ≡ Bits (dropped_word F g X)
+  pub normal_below : 2 ^ F.f ≤ X → magnitude_below F g X ≡ Some (dropped_word F g X)
   normal_below h = ap (λ (t : Bool). bits_if t (dropped_word F g X)) (le-leb (2 ^ F.f) X h)
 
-  pub small_below : X < 2 ^ F.f → magnitude_below F g X ≡ NoBits
+  pub small_below : X < 2 ^ F.f → magnitude_below F g X ≡ None
   small_below h = ap (λ (t : Bool). bits_if t (dropped_word F g X)) (lt-leb (2 ^ F.f) X h)
 
 -- ---- two finite operands
@@ -43,7 +42,7 @@ module _ (F : Format) (g : ℕ) (x y : record_of.Finite) where
 -- ---- how many are asked for
 
 -- what holds of any bits where it holds of some, holds with another g
-module _ (P : Below → Type 0) (any : (r s : ℕ) → P (Bits r) → P (Bits s)) where
+module _ (P : Option ℕ → Type 0) (any : (r s : ℕ) → P (Some r) → P (Some s)) where
   bits_any : (t : Bool) (r s : ℕ) → P (bits_if t r) → P (bits_if t s)
   bits_any true r s h = any r s h
   bits_any false r s h = h

@@ -1,16 +1,14 @@
 -- What it means that no cause stands against a result or a row, and what the replies are then. Assumes nothing.
+use Rattle.std.specs.Prelude.{Result, Ok}
 use mathlib.Core.Path.{◌≡◌, ap}
 use mathlib.Core.Logic.{◌↔◌}
 use Prim.Native.Nat.{ℕ, ◌^◌, ◌≤◌, ◌<◌}
 use Rattle.format.specs.declared.Format.{Format}
+use Rattle.format.specs.Cause.{Check, clear, first}
 use Rattle.format.specs.Limits.{most_operation, most_mode}
 use Rattle.format.specs.Format.{Supported, word_bits}
 use Rattle.format.proofs.Laws.{both_none, format_none, operation_none, mode_none, word_none}
-use Rattle.adder.specs.declared.Reply.TheVariants.{Word}
-use Rattle.adder.specs.declared.RowReply.TheVariants.{Row}
-use Rattle.adder.specs.Result as Result
 use Rattle.adder.specs.Result.{result_of, result_cause, result_reply}
-use Rattle.adder.specs.Row as Rows
 use Rattle.adder.specs.Row.{row_of, row_cause, row_reply}
 
 -- a format, an operation and two words with no cause against them
@@ -20,7 +18,7 @@ pub record Fit (F : Format) (operation a b : ℕ) : Type 0 where
   pub a_fits : a < 2 ^ word_bits F
   pub b_fits : b < 2 ^ word_bits F
 
-pub row_none : (F : Format) (operation a b : ℕ) → row_cause F operation a b ≡ 0 ↔ Fit F operation a b
+pub row_none : (F : Format) (operation a b : ℕ) → row_cause F operation a b ≡ clear ↔ Fit F operation a b
 unfolding row_cause
 row_none F operation a b =
     let words = both_none _ _ (word_none (word_bits F) a) (word_none (word_bits F) b) in
@@ -31,7 +29,7 @@ row_none F operation a b =
       λ h. law.1 ((h.supported, h.operation_fits), (h.a_fits, h.b_fits)),
     )
 
-pub result_none : (F : Format) (operation mode a b : ℕ) → result_cause F operation mode a b ≡ 0 ↔ (Fit F operation a b × (mode ≤ most_mode))
+pub result_none : (F : Format) (operation mode a b : ℕ) → result_cause F operation mode a b ≡ clear ↔ (Fit F operation a b × (mode ≤ most_mode))
 unfolding result_cause
 result_none F operation mode a b =
     let words = both_none _ _ (word_none (word_bits F) a) (word_none (word_bits F) b) in
@@ -45,8 +43,8 @@ result_none F operation mode a b =
 
 -- ---- the replies where nothing is wrong
 
-pub result_word : (F : Format) (operation mode a b : ℕ) → Fit F operation a b → mode ≤ most_mode → result_reply F operation mode a b ≡ Word (result_of F operation mode a b)
-result_word F operation mode a b fit m = ap (λ (n : ℕ). Result.reply_for n (result_of F operation mode a b)) ((result_none F operation mode a b).1 (fit, m))
+pub result_word : (F : Format) (operation mode a b : ℕ) → Fit F operation a b → mode ≤ most_mode → result_reply F operation mode a b ≡ Ok (result_of F operation mode a b)
+result_word F operation mode a b fit m = ap (λ (n : Check). first n (Ok (result_of F operation mode a b))) ((result_none F operation mode a b).1 (fit, m))
 
-pub row_row : (F : Format) (operation a b : ℕ) → Fit F operation a b → row_reply F operation a b ≡ Row (row_of F operation a b)
-row_row F operation a b fit = ap (λ (n : ℕ). Rows.reply_for n (row_of F operation a b)) ((row_none F operation a b).1 fit)
+pub row_row : (F : Format) (operation a b : ℕ) → Fit F operation a b → row_reply F operation a b ≡ Ok (row_of F operation a b)
+row_row F operation a b fit = ap (λ (n : Check). first n (Ok (row_of F operation a b))) ((row_none F operation a b).1 fit)

@@ -1,14 +1,14 @@
 -- The rounded sum and difference of two words (document 01, "The rounded result"), and the reply of the public function.
 -- Assumes nothing.
+use Rattle.std.specs.Prelude.{Result, Ok, Err}
+use Rattle.format.specs.declared.cause.Cause.{Cause}
 use Rattle.std.specs.Prelude.{cond, ℕ, zero, suc, ◌+◌, ◌-◌, ◌^◌, eqb, ltb}
 use Rattle.format.specs.declared.Format.{Format}
-use Rattle.format.specs.Cause.{first}
+use Rattle.format.specs.Cause.{Check, first}
 use Rattle.format.specs.Format.{word_bits, format_cause, operation_cause, mode_cause, word_cause}
 use Rattle.word.specs.declared.Finite as record_of
 use Rattle.word.specs.declared.Operand as kind
 use Rattle.word.specs.declared.Operand.TheVariants.{Finite, Infinite, Nan}
-use Rattle.adder.specs.declared.Reply as reply
-use Rattle.adder.specs.declared.Reply.TheVariants.{Word, Refused}
 use Rattle.word.specs.Word.{infinity_word, signed, effective}
 use Rattle.word.specs.Operand.{operand_of, magnitude}
 use Rattle.rounding.specs.Rounding.{cancelled_sign, rounded}
@@ -51,14 +51,10 @@ unfoldable pub result_of : Format → ℕ → ℕ → ℕ → ℕ → ℕ
 result_of F operation mode a b = kind_sum F mode (operand_of F a) (operand_of F (effective F operation b))
 
 -- "Order": 1, 2, 3, 4, 6
-unfoldable pub result_cause : Format → ℕ → ℕ → ℕ → ℕ → ℕ
+unfoldable pub result_cause : Format → ℕ → ℕ → ℕ → ℕ → Check
 result_cause F operation mode a b =
     first (first (first (format_cause F) (operation_cause operation)) (mode_cause mode)) (first (word_cause (word_bits F) a) (word_cause (word_bits F) b))
 
--- the number of the first cause, or the word
-abbrev pub reply_for : ℕ → ℕ → reply.Reply
-reply_for zero c = Word c
-reply_for (suc n) c = Refused (suc n)
-
-abbrev pub result_reply : Format → ℕ → ℕ → ℕ → ℕ → reply.Reply
-result_reply F operation mode a b = reply_for (result_cause F operation mode a b) (result_of F operation mode a b)
+-- the first cause, or the word
+abbrev pub result_reply : Format → ℕ → ℕ → ℕ → ℕ → Result ℕ Cause
+result_reply F operation mode a b = first (result_cause F operation mode a b) (Ok (result_of F operation mode a b))

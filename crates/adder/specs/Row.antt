@@ -1,15 +1,13 @@
 -- The carry row of two words (document 01, "The carry row"; document 02, W-205), and the reply of the public function. Assumes nothing.
+use Rattle.std.specs.Prelude.{Option, Some, None, Result, Ok, Err}
+use Rattle.format.specs.declared.cause.Cause.{Cause}
 use Rattle.std.specs.Prelude.{Bool, true, false, cond, ℕ, zero, suc, ◌+◌, ◌*◌, ◌%◌, ◌^◌, eqb, leb, ltb}
 use Rattle.format.specs.declared.Format.{Format}
-use Rattle.format.specs.Cause.{first}
+use Rattle.format.specs.Cause.{Check, first}
 use Rattle.format.specs.Format.{precision, word_bits, format_cause, operation_cause, word_cause}
 use Rattle.word.specs.declared.Finite as record_of
 use Rattle.word.specs.declared.Operand as kind
 use Rattle.word.specs.declared.Operand.TheVariants.{Finite, Infinite, Nan}
-use Rattle.adder.specs.declared.Row as row
-use Rattle.adder.specs.declared.Row.TheVariants.{Carries, NoRow}
-use Rattle.adder.specs.declared.RowReply as reply
-use Rattle.adder.specs.declared.RowReply.TheVariants.{Row, Refused}
 use Rattle.word.specs.Word.{unit_of, effective}
 use Rattle.word.specs.Operand.{operand_of, magnitude}
 
@@ -38,25 +36,21 @@ unfoldable pub finite_row : Format → record_of.Finite → record_of.Finite →
 finite_row F x y = cond (ltb x.exponent.0 y.exponent.0) (ordered_row F y x) (ordered_row F x y)
 
 -- with an infinite or NaN operand there is no row
-unfoldable pub kind_row : Format → kind.Operand → kind.Operand → row.Row
-kind_row F Nan y = NoRow
-kind_row F (Infinite s) y = NoRow
-kind_row F (Finite x) Nan = NoRow
-kind_row F (Finite x) (Infinite t) = NoRow
-kind_row F (Finite x) (Finite y) = Carries (finite_row F x y)
+unfoldable pub kind_row : Format → kind.Operand → kind.Operand → Option ℕ
+kind_row F Nan y = None
+kind_row F (Infinite s) y = None
+kind_row F (Finite x) Nan = None
+kind_row F (Finite x) (Infinite t) = None
+kind_row F (Finite x) (Finite y) = Some (finite_row F x y)
 
 -- the row of a and b; signs are the effective ones
-unfoldable pub row_of : Format → ℕ → ℕ → ℕ → row.Row
+unfoldable pub row_of : Format → ℕ → ℕ → ℕ → Option ℕ
 row_of F operation a b = kind_row F (operand_of F a) (operand_of F (effective F operation b))
 
 -- "Order": 1, 2, 3, 6; the row knows no mode
-unfoldable pub row_cause : Format → ℕ → ℕ → ℕ → ℕ
+unfoldable pub row_cause : Format → ℕ → ℕ → ℕ → Check
 row_cause F operation a b = first (first (format_cause F) (operation_cause operation)) (first (word_cause (word_bits F) a) (word_cause (word_bits F) b))
 
--- the number of the first cause, or the row
-abbrev pub reply_for : ℕ → row.Row → reply.RowReply
-reply_for zero r = Row r
-reply_for (suc n) r = Refused (suc n)
-
-abbrev pub row_reply : Format → ℕ → ℕ → ℕ → reply.RowReply
-row_reply F operation a b = reply_for (row_cause F operation a b) (row_of F operation a b)
+-- the first cause, or the row
+abbrev pub row_reply : Format → ℕ → ℕ → ℕ → Result (Option ℕ) Cause
+row_reply F operation a b = first (row_cause F operation a b) (Ok (row_of F operation a b))

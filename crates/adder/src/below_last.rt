@@ -1,14 +1,12 @@
 // The bits of an exact result below the last one that is kept.
-ghost use Rattle.std.specs.Prelude.{◌≡◌, ℕ, ◌+◌, ◌^◌, ◌≤◌, ◌<◌};
+ghost use Rattle.std.specs.Prelude.{◌≡◌, None, ℕ, ◌+◌, ◌^◌, ◌≤◌, ◌<◌};
 ghost use Rattle.format.specs.Limits.{most_dropped};
 ghost use Rattle.format.specs.Format.{Supported};
 ghost use Rattle.word.specs.Operand.{magnitude, Canonical, Sound};
 ghost use Rattle.rounding.specs.Dropped.{dropped_word};
 ghost use Rattle.rounding.specs.Sticky.{Held};
-ghost use Rattle.adder.specs.declared.Below.TheVariants.{NoBits};
 ghost use Rattle.adder.specs.Below.{magnitude_below, finite_below, kind_below, below_of};
 
-use crate::Below;
 use crate::sum::smaller;
 use bits::{high, low};
 use format::limits::MOST_DROPPED;
@@ -33,22 +31,22 @@ fn dropped_word(format: Format, g: u64, x: u64) -> u64
 }
 
 // The same of the magnitude that x holds in units of 2^u steps, if that is at least the smallest normal one.
-fn held_below(format: Format, g: u64, x: u64, u: Unit) -> Below
+fn held_below(format: Format, g: u64, x: u64, u: Unit) -> Option<u64>
     requires { Supported format × (g ≤ most_dropped) × (u.0 < 2 ^ format.w) }
     ensures { (X : ℕ) → Held format (most_dropped + 2) most_dropped X x u.0 → result ≡ magnitude_below format g X }
 {
     if x == 0 {
-        return Below::NoBits;
+        return None;
     }
     let zeros = u64::leading_zeros(x) as u64;
     if 64 + u.0 < format.f + 1 + HELD_BITS + zeros {
-        return Below::NoBits;
+        return None;
     }
-    Below::Bits(dropped_word(format, g, x))
+    Some(dropped_word(format, g, x))
 }
 
 // The bits below the last one of two finite numbers' sum, the first not the smaller.
-fn ordered_below(format: Format, g: u64, l: Finite, r: Finite) -> Below
+fn ordered_below(format: Format, g: u64, l: Finite, r: Finite) -> Option<u64>
     requires { Supported format × (g ≤ most_dropped) × Canonical format l × Canonical format r × (magnitude r ≤ magnitude l) }
     ensures { result ≡ finite_below format g l r }
 {
@@ -64,7 +62,7 @@ fn ordered_below(format: Format, g: u64, l: Finite, r: Finite) -> Below
 }
 
 // Those of two finite numbers.
-fn finite_below(format: Format, g: u64, x: Finite, y: Finite) -> Below
+fn finite_below(format: Format, g: u64, x: Finite, y: Finite) -> Option<u64>
     requires { Supported format × (g ≤ most_dropped) × Canonical format x × Canonical format y }
     ensures { result ≡ finite_below format g x y }
 {
@@ -75,34 +73,28 @@ fn finite_below(format: Format, g: u64, x: Finite, y: Finite) -> Below
     }
 }
 
-// Those of two operands of any kind.
-fn kind_below(format: Format, g: u64, operands: Operands) -> Below
+// Those of two operands of any kind; there are none where one is infinite or a NaN.
+#[tactic(auto, unfolding(crate::specs::Below::kind_below))]
+fn kind_below(format: Format, g: u64, operands: Operands) -> Option<u64>
     requires { Supported format × (g ≤ most_dropped) × Sound format operands.a × Sound format operands.b }
     ensures { result ≡ kind_below format g operands.a operands.b }
 {
-    let a = operands.a;
-    let b = operands.b;
-    match a {
-        Operand::Finite(x) => match b {
-            Operand::Finite(y) => finite_below(format, g, x, y),
-            Operand::Infinite(_) => Below::NoBits,
-            Operand::Nan => Below::NoBits,
-        },
-        Operand::Infinite(_) => Below::NoBits,
-        Operand::Nan => Below::NoBits,
-    }
+    let (Operand::Finite(x), Operand::Finite(y)) = (operands.a, operands.b) else {
+        return None;
+    };
+    finite_below(format, g, x, y)
 }
 
 // The g dropped bits of the exact result of two words of a format and their sticky bit, or that there are none; none either in a format
 // that is not supported, or for a g above its limit.
-pub fn below_last(format: Format, operation: u64, g: u64, a: u64, b: u64) -> Below
-    ensures { ((Supported format × (g ≤ most_dropped)) → result ≡ below_of format operation g a b) × (((Supported format × (g ≤ most_dropped)) → ⊥) → result ≡ NoBits) }
+pub fn below_last(format: Format, operation: u64, g: u64, a: u64, b: u64) -> Option<u64>
+    ensures { ((Supported format × (g ≤ most_dropped)) → result ≡ below_of format operation g a b) × (((Supported format × (g ≤ most_dropped)) → ⊥) → result ≡ None) }
 {
     if !supported(format) {
-        return Below::NoBits;
+        return None;
     }
     if MOST_DROPPED < g {
-        return Below::NoBits;
+        return None;
     }
     let pair = operands(format, operation, a, b);
     kind_below(format, g, pair)

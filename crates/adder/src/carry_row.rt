@@ -4,10 +4,9 @@ ghost use Rattle.format.specs.Format.{Supported};
 ghost use Rattle.word.specs.Operand.{Canonical, Sound};
 ghost use Rattle.adder.specs.Row.{gather, ordered_row, finite_row, kind_row, row_cause, row_reply, carry_in};
 
-use crate::result::words_cause;
-use crate::{Row, RowReply};
+use crate::result::{plain_cause, words_cause};
 use bits::{high, low, power};
-use format::{Format, first, format_cause, operation_cause};
+use format::{Cause, Format};
 use rounding::alignment::sticky;
 use word::exponent::unit_of;
 use word::unpack::operands;
@@ -68,40 +67,32 @@ fn finite_row(format: Format, x: Finite, y: Finite) -> u64
     }
 }
 
-// The row of two operands of any kind.
-fn kind_row(format: Format, operands: Operands) -> Row
+// The row of two operands of any kind; there is none where one is infinite or a NaN.
+#[tactic(auto, unfolding(crate::specs::Row::kind_row))]
+fn kind_row(format: Format, operands: Operands) -> Option<u64>
     requires { Supported format × Sound format operands.a × Sound format operands.b }
     ensures { result ≡ kind_row format operands.a operands.b }
 {
-    let a = operands.a;
-    let b = operands.b;
-    match a {
-        Operand::Finite(x) => match b {
-            Operand::Finite(y) => Row::Carries(finite_row(format, x, y)),
-            Operand::Infinite(_) => Row::NoRow,
-            Operand::Nan => Row::NoRow,
-        },
-        Operand::Infinite(_) => Row::NoRow,
-        Operand::Nan => Row::NoRow,
-    }
+    let (Operand::Finite(x), Operand::Finite(y)) = (operands.a, operands.b) else {
+        return None;
+    };
+    Some(finite_row(format, x, y))
 }
 
-// The number of the first cause against a row, or 0.
-fn row_cause(format: Format, operation: u64, a: u64, b: u64) -> u64
+// The first cause against a row.
+#[tactic(auto, unfolding(crate::specs::Row::row_cause))]
+fn row_cause(format: Format, operation: u64, a: u64, b: u64) -> Result<(), Cause>
     ensures { result ≡ row_cause format operation a b }
 {
-    let plain = first(format_cause(format), operation_cause(operation));
-    words_cause(plain, format, a, b)
+    plain_cause(format, operation)?;
+    words_cause(format, a, b)
 }
 
-// The carry row of two words of a format, that there is none, or the number of the refusal.
-pub fn carry_row(format: Format, operation: u64, a: u64, b: u64) -> RowReply
+// The carry row of two words of a format, that there is none, or the refusal.
+pub fn carry_row(format: Format, operation: u64, a: u64, b: u64) -> Result<Option<u64>, Cause>
     ensures { result ≡ row_reply format operation a b }
 {
-    let cause = row_cause(format, operation, a, b);
-    if cause != 0 {
-        return RowReply::Refused(cause);
-    }
+    row_cause(format, operation, a, b)?;
     let pair = operands(format, operation, a, b);
-    RowReply::Row(kind_row(format, pair))
+    Ok(kind_row(format, pair))
 }

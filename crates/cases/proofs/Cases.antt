@@ -1,5 +1,7 @@
 -- Every row of the table holds: a test of a row that antt computes, and one law that turns a passed test into the row's claim.
 -- Assumes nothing.
+use Rattle.std.specs.Prelude.{Option, Some, None, Result, Ok, Err}
+use Rattle.format.specs.declared.cause.Cause.{Cause}
 use mathlib.Core.Path.{◌≡◌, refl, ap, subst, sym, ◌∙◌}
 use mathlib.Core.Bool.{Bool, true, false, ◌&&◌, ◌||◌, and-eq-true_iff, false≢true}
 use mathlib.Core.List.Memᴰ
@@ -23,25 +25,16 @@ use Rattle.job.specs.Dropped.{dropped_cause}
 use Rattle.job.specs.Job.{setting_cause, form_cause, cause_with, job_cause, request_cause}
 use Rattle.bounds.specs.Bounds.{rank, ends_cause, bounds_cause}
 use Rattle.job.proofs.Laws.{job_none, request_none, taken_words}
-use Rattle.adder.specs.declared.Reply as reply
-use Rattle.adder.specs.declared.Reply.TheVariants as answer
-use Rattle.adder.specs.declared.Row as carry-row
-use Rattle.adder.specs.declared.Row.TheVariants.{Carries, NoRow}
-use Rattle.adder.specs.declared.RowReply as row-reply
-use Rattle.adder.specs.declared.RowReply.TheVariants as row-answer
 use Rattle.word.specs.Word.{significand}
 use Rattle.word.specs.Operand.{operand_of}
 use Rattle.rounding.specs.Rounding.{direction, increment, round_off, magnitude_word, overflow_word, bounded_word, cancelled_sign}
 use Rattle.rounding.specs.Dropped.{with_sticky, dropped_word}
-use Rattle.adder.specs.declared.Below as below_last
-use Rattle.adder.specs.declared.Below.TheVariants.{Bits, NoBits}
 use Rattle.adder.specs.Exact.{exact_magnitude}
 use Rattle.adder.specs.Result.{finite_sum, infinite_sum, kind_sum, result_of, result_cause, result_reply}
 use Rattle.adder.specs.Row.{gather, finite_row, kind_row, row_of, row_cause, row_reply}
 use Rattle.adder.specs.Below.{finite_below, kind_below, below_of}
 use Rattle.format.specs.declared.cause.Cause.TheVariants as cause
 use Rattle.fit.specs.Fit.{Fits, satisfies, fits, case_cause}
-use Rattle.whole.specs.declared.Reply.TheVariants.{Found}
 use Rattle.whole.specs.Sum.{addends}
 use Rattle.whole.specs.Reply.{Replied}
 use Rattle.whole.proofs.Sum.{sum_replied}
@@ -51,28 +44,28 @@ use Rattle.cases.proofs.Fitting.{is_case, is_case_lem, each_case, every_case}
 
 -- ---- the test of a row
 
-is_word : reply.Reply → ℕ → Bool
-is_word (answer.Word x) c = eqb x c
-is_word (answer.Refused n) c = false
+is_word : Result ℕ Cause → ℕ → Bool
+is_word (Ok x) c = eqb x c
+is_word (Err n) c = false
 
-is_carried : Carried → row-reply.RowReply → Bool
-is_carried (row n) (row-answer.Row (Carries m)) = eqb m n
-is_carried (row n) (row-answer.Row NoRow) = false
-is_carried (row n) (row-answer.Refused m) = false
-is_carried no_row (row-answer.Row (Carries m)) = false
-is_carried no_row (row-answer.Row NoRow) = true
-is_carried no_row (row-answer.Refused m) = false
+is_carried : Carried → Result (Option ℕ) Cause → Bool
+is_carried (row n) (Ok (Some m)) = eqb m n
+is_carried (row n) (Ok None) = false
+is_carried (row n) (Err m) = false
+is_carried no_row (Ok (Some m)) = false
+is_carried no_row (Ok None) = true
+is_carried no_row (Err m) = false
 is_carried unsaid r = true
 
-is_row : ℕ → carry-row.Row → Bool
-is_row n (Carries m) = eqb m n
-is_row n NoRow = false
+is_row : ℕ → Option ℕ → Bool
+is_row n (Some m) = eqb m n
+is_row n None = false
 
-is_below : below_last.Below → below_last.Below → Bool
-is_below (Bits m) (Bits n) = eqb m n
-is_below (Bits m) NoBits = false
-is_below NoBits (Bits n) = false
-is_below NoBits NoBits = true
+is_below : Option ℕ → Option ℕ → Bool
+is_below (Some m) (Some n) = eqb m n
+is_below (Some m) None = false
+is_below None (Some n) = false
+is_below None None = true
 
 all_fit : Job → List (ℕ × ℕ × ℕ) → Bool
 all_fit j [] = true
@@ -105,32 +98,32 @@ every (x ∷ xs) = passes x && every xs
 
 -- ---- a row that passes holds
 
-word_is : (r : reply.Reply) (c : ℕ) → is_word r c ≡ true → r ≡ answer.Word c
+word_is : (r : Result ℕ Cause) (c : ℕ) → is_word r c ≡ true → r ≡ Ok c
 unfolding is_word
-word_is (answer.Word x) c e = ap answer.Word (eqb-true x c e)
-word_is (answer.Refused n) c e = absurd (false≢true e)
+word_is (Ok x) c e = ap Ok (eqb-true x c e)
+word_is (Err n) c e = absurd (false≢true e)
 
-carried_is : (e : Carried) (r : row-reply.RowReply) → is_carried e r ≡ true → CarriedIs e r
+carried_is : (e : Carried) (r : Result (Option ℕ) Cause) → is_carried e r ≡ true → CarriedIs e r
 unfolding is_carried
-carried_is (row n) (row-answer.Row (Carries m)) t = ap (λ (k : ℕ). row-answer.Row (Carries k)) (eqb-true m n t)
-carried_is (row n) (row-answer.Row NoRow) t = absurd (false≢true t)
-carried_is (row n) (row-answer.Refused m) t = absurd (false≢true t)
-carried_is no_row (row-answer.Row (Carries m)) t = absurd (false≢true t)
-carried_is no_row (row-answer.Row NoRow) t = refl
-carried_is no_row (row-answer.Refused m) t = absurd (false≢true t)
+carried_is (row n) (Ok (Some m)) t = ap (λ (k : ℕ). Ok (Some k)) (eqb-true m n t)
+carried_is (row n) (Ok None) t = absurd (false≢true t)
+carried_is (row n) (Err m) t = absurd (false≢true t)
+carried_is no_row (Ok (Some m)) t = absurd (false≢true t)
+carried_is no_row (Ok None) t = refl
+carried_is no_row (Err m) t = absurd (false≢true t)
 carried_is unsaid r t = tt
 
-row_is : (n : ℕ) (r : carry-row.Row) → is_row n r ≡ true → Carries n ≡ r
+row_is : (n : ℕ) (r : Option ℕ) → is_row n r ≡ true → Some n ≡ r
 unfolding is_row
-row_is n (Carries m) e = ap Carries (sym (eqb-true m n e))
-row_is n NoRow e = absurd (false≢true e)
+row_is n (Some m) e = ap Some (sym (eqb-true m n e))
+row_is n None e = absurd (false≢true e)
 
-below_is : (r s : below_last.Below) → is_below r s ≡ true → r ≡ s
+below_is : (r s : Option ℕ) → is_below r s ≡ true → r ≡ s
 unfolding is_below
-below_is (Bits m) (Bits n) e = ap Bits (eqb-true m n e)
-below_is (Bits m) NoBits e = absurd (false≢true e)
-below_is NoBits (Bits n) e = absurd (false≢true e)
-below_is NoBits NoBits e = refl
+below_is (Some m) (Some n) e = ap Some (eqb-true m n e)
+below_is (Some m) None e = absurd (false≢true e)
+below_is None (Some n) e = absurd (false≢true e)
+below_is None None e = refl
 
 all_fit_lem : (j : Job) (ts : List (ℕ × ℕ × ℕ)) → all_fit j ts ≡ true → (t : ℕ × ℕ × ℕ) → Memᴰ t ts → Fits j t.0 t.1 t.2
 unfolding all_fit
@@ -180,10 +173,10 @@ whole_is n x y c z carries e w wx wy wz =
     let small' = (and-eq-true_iff (ltb y (2 ^ n)) (ltb c 2)).0 small.1 in
     let sums = (and-eq-true_iff (eqb ((x + y + c) % 2 ^ n) z) (eqb (bit_xor (bit_xor x y) (x + y + c)) carries)).0 q.1 in
     let length = (within_holds least_length most_length n).0 p.0 in
-    subst (λ (k : ℕ). Replied (record { length = n; masks = addends n x y c; words = w }) (Found (record { x = x; y = y; z = z; carries = k })))
+    subst (λ (k : ℕ). Replied (record { length = n; masks = addends n x y c; words = w }) (Ok (record { x = x; y = y; z = z; carries = k })))
     (eqb-true (bit_xor (bit_xor x y) (x + y + c)) carries sums.1)
     (subst
-    (λ (k : ℕ). Replied (record { length = n; masks = addends n x y c; words = w }) (Found (record { x = x; y = y; z = k; carries = bit_xor (bit_xor x y) (x + y + c) })))
+    (λ (k : ℕ). Replied (record { length = n; masks = addends n x y c; words = w }) (Ok (record { x = x; y = y; z = k; carries = bit_xor (bit_xor x y) (x + y + c) })))
     (eqb-true ((x + y + c) % 2 ^ n) z sums.0)
     (sum_replied n x y c length.0 (ltb-true x (2 ^ n) small.0) (ltb-true y (2 ^ n) small'.0) (ltb-true c 2 small'.1) length.1 w wx wy wz))
 

@@ -1,6 +1,8 @@
 -- The cases that document 01 marks with ● ("Cases, in hexadecimal"), and those of document 02, as rows of one table about the definitions.
 -- A `Claim` is a statement of one of the kinds that document 01 makes there, `Holds` is what it says, and `cases` is the table.
 -- Assumes nothing.
+use Rattle.std.specs.Prelude.{Result, Ok, Err}
+use Rattle.format.specs.declared.cause.Cause.{Cause}
 use Rattle.std.specs.Prelude.{Option, Some, None}
 use Rattle.std.specs.Prelude.{◌≡◌, ◌↔◌, ℕ, ◌^◌, ◌<◌}
 use mathlib.Core.List.{List, [], ◌∷◌, ◌++◌, Memᴰ}
@@ -14,20 +16,12 @@ use Rattle.job.specs.Job.{job_cause}
 use Rattle.job.specs.Role.{wanted, with_wanted, masked_job}
 use Rattle.job.specs.declared.Role.{Role}
 use Rattle.job.specs.declared.Role.TheVariants.{A, B, C}
-use Rattle.adder.specs.declared.Reply.TheVariants.{Word}
-use Rattle.adder.specs.declared.Row.TheVariants.{Carries, NoRow}
-use Rattle.adder.specs.declared.RowReply.{RowReply}
-use Rattle.adder.specs.declared.RowReply.TheVariants.{Row}
-use Rattle.adder.specs.declared.Below as below_last
-use Rattle.adder.specs.declared.Below.TheVariants.{Bits, NoBits}
 use Rattle.adder.specs.Result.{result_reply}
 use Rattle.adder.specs.Row.{row_reply}
 use Rattle.adder.specs.Below.{below_of}
 use Rattle.fit.specs.Fit.{Fits}
-use Rattle.generator.specs.declared.Reply.TheVariants as reply
 use Rattle.generator.specs.Promise as generator
 use Rattle.whole.specs.declared.Words.{Words}
-use Rattle.whole.specs.declared.Reply.TheVariants as whole-reply
 use Rattle.whole.specs.Sum.{addends}
 use Rattle.whole.specs.Reply as whole
 
@@ -41,7 +35,7 @@ pub data Claim : Type 0 where
   -- of a format, an operation, a mode, a and b: c, and the carry row
   sum : Format → ℕ → ℕ → ℕ → ℕ → ℕ → Carried → Claim
   -- of a format, an operation, g, a and b: the g dropped bits with the sticky bit, or that there are none
-  below : Format → ℕ → ℕ → ℕ → ℕ → below_last.Below → Claim
+  below : Format → ℕ → ℕ → ℕ → ℕ → Option ℕ → Claim
   -- of a job: the cases (a, b, c) that fit, and no other does
   exactly : Job → List (ℕ × ℕ × ℕ) → Claim
   -- of a job and two random words: the reply is the case a, b, c with its carry row
@@ -51,21 +45,21 @@ pub data Claim : Type 0 where
   -- of whole numbers of a length, x, y and the carry in: z and the carries, whatever the random words
   whole_sum : ℕ → ℕ → ℕ → ℕ → ℕ → ℕ → Claim
 
-abbrev pub CarriedIs : Carried → RowReply → Type 0
-CarriedIs (row n) r = r ≡ Row (Carries n)
-CarriedIs no_row r = r ≡ Row NoRow
+abbrev pub CarriedIs : Carried → Result (Option ℕ) Cause → Type 0
+CarriedIs (row n) r = r ≡ Ok (Some n)
+CarriedIs no_row r = r ≡ Ok None
 CarriedIs unsaid r = Unit {0}
 
 -- what a claim says
 abbrev pub Holds : Claim → Type 0
-Holds (sum F operation mode a b c carried) = (result_reply F operation mode a b ≡ Word c) × CarriedIs carried (row_reply F operation a b)
+Holds (sum F operation mode a b c carried) = (result_reply F operation mode a b ≡ Ok c) × CarriedIs carried (row_reply F operation a b)
 Holds (below F operation g a b bits) = below_of F operation g a b ≡ bits
 Holds (exactly j fitting) = (job_cause j ≡ 0) × ((a b c : ℕ) → Fits j a b c ↔ Memᴰ (a, b, c) fitting)
-Holds (found j r1 r2 a b c carries) = generator.Replied j r1 r2 (reply.Found (record { a = a; b = b; c = c; row = Carries carries }))
-Holds (refused j k) = (r1 r2 : ℕ) → r1 < 2 ^ word_bits j.setting.format → r2 < 2 ^ word_bits j.setting.format → generator.Replied j r1 r2 (reply.Refused k)
+Holds (found j r1 r2 a b c carries) = generator.Replied j r1 r2 (Ok (record { a = a; b = b; c = c; row = Some carries }))
+Holds (refused j k) = (r1 r2 : ℕ) → r1 < 2 ^ word_bits j.setting.format → r2 < 2 ^ word_bits j.setting.format → generator.Replied j r1 r2 (Err k)
 Holds (whole_sum n x y carry_in z carries) =
     (w : Words) → w.x < 2 ^ n → w.y < 2 ^ n → w.z < 2 ^ n
-    → whole.Replied (record { length = n; masks = addends n x y carry_in; words = w }) (whole-reply.Found (record { x = x; y = y; z = z; carries = carries }))
+    → whole.Replied (record { length = n; masks = addends n x y carry_in; words = w }) (Ok (record { x = x; y = y; z = z; carries = carries }))
 
 -- format w = 3, f = 4, the eight-bit one of source document 000
 abbrev pub eight : Format
@@ -175,10 +169,10 @@ dropping carries g m = with_dropped (masked 0 carries) (record { g = g; mask = m
 -- result 0F + 01 has 0; a smaller one, a zero and one of an infinite operand have none.
 abbrev pub dropped_bits : List Claim
 dropped_bits =
-    below eight 0 3 0x30 0x02 (Bits 0x8) ∷ below eight 0 8 0x30 0x02 (Bits 0x100) ∷ below eight 0 2 0x45 0x2B (Bits 0x6)
-    ∷ below eight 0 2 0x4D 0x3B (Bits 0x2) ∷ below eight 0 0 0x45 0x2B (Bits 0x1) ∷ below eight 1 3 0x30 0x01 (Bits 0x8)
-    ∷ below eight 0 3 0x6F 0x41 (Bits 0xA) ∷ below eight 0 3 0x0F 0x01 (Bits 0x0) ∷ below eight 0 3 0x0E 0x01 NoBits
-    ∷ below eight 1 3 0x30 0x30 NoBits ∷ below eight 0 3 0x70 0x30 NoBits ∷ []
+    below eight 0 3 0x30 0x02 (Some 0x8) ∷ below eight 0 8 0x30 0x02 (Some 0x100) ∷ below eight 0 2 0x45 0x2B (Some 0x6)
+    ∷ below eight 0 2 0x4D 0x3B (Some 0x2) ∷ below eight 0 0 0x45 0x2B (Some 0x1) ∷ below eight 1 3 0x30 0x01 (Some 0x8)
+    ∷ below eight 0 3 0x6F 0x41 (Some 0xA) ∷ below eight 0 3 0x0F 0x01 (Some 0x0) ∷ below eight 0 3 0x0E 0x01 None
+    ∷ below eight 1 3 0x30 0x30 None ∷ below eight 0 3 0x70 0x30 None ∷ []
 
 -- W-206. With the masks of case 1 and 6 at g = 2 only (45, 2B, 4C) fits, and with the sticky bit 1 there no case does. A bit above the g + 1
 -- bits is refused with 17, and so is a g of 9 though nothing is fixed; a malformed carry mask is named before it.

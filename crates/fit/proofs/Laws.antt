@@ -1,4 +1,5 @@
 -- The tests and the records of a fitting case say the same; what it means that no cause stands against a case. Assumes nothing.
+use Rattle.std.specs.Prelude.{Option, Some, None}
 use mathlib.Core.Path.{◌≡◌, sym}
 use mathlib.Core.Bool.{Bool, true, ◌&&◌, and-eq-true_iff}
 use mathlib.Core.Logic.{◌↔◌}
@@ -19,25 +20,21 @@ use Rattle.job.specs.declared.Wanted.{Wanted}
 use Rattle.job.specs.declared.Job.{Job}
 use Rattle.job.specs.Job.{ValidSetting, Valid}
 use Rattle.job.proofs.Laws.{with_none}
-use Rattle.adder.specs.declared.Row as row
-use Rattle.adder.specs.declared.Row.TheVariants.{Carries, NoRow}
-use Rattle.adder.specs.declared.Below as below
-use Rattle.adder.specs.declared.Below.TheVariants.{Bits, NoBits}
 use Rattle.adder.proofs.Causes.{Fit}
 use Rattle.fit.specs.Fit.{result_in, row_in, below_in, Allowed, allowed, RowMeets, row_meets, BelowMeets, below_meets, Satisfies, satisfies, Fits, fits, case_cause}
 
-pub row_meets_true : (r : row.Row) (m : Mask) → row_meets r m ≡ true ↔ RowMeets r m
-row_meets_true (Carries r) m = meets_true r m
-row_meets_true NoRow m = (λ e. eqb-true m.care 0 e, λ e. eq-eqb m.care 0 e)
+pub row_meets_true : (r : Option ℕ) (m : Mask) → row_meets r m ≡ true ↔ RowMeets r m
+row_meets_true (Some r) m = meets_true r m
+row_meets_true None m = (λ e. eqb-true m.care 0 e, λ e. eq-eqb m.care 0 e)
 
-pub below_meets_true : (r : below.Below) (m : Mask) → below_meets r m ≡ true ↔ BelowMeets r m
-below_meets_true (Bits r) m = meets_true r m
-below_meets_true NoBits m = (λ e. eqb-true m.care 0 e, λ e. eq-eqb m.care 0 e)
+pub below_meets_true : (r : Option ℕ) (m : Mask) → below_meets r m ≡ true ↔ BelowMeets r m
+below_meets_true (Some r) m = meets_true r m
+below_meets_true None m = (λ e. eqb-true m.care 0 e, λ e. eq-eqb m.care 0 e)
 
 -- dropped bits, and that there are none, meet a mask that fixes no bit
-pub unfixed_met : (r : below.Below) (m : Mask) → Inside m → m.care ≡ 0 → BelowMeets r m
-unfixed_met (Bits r) m inside none = free_meets r m inside none
-unfixed_met NoBits m inside none = none
+pub unfixed_met : (r : Option ℕ) (m : Mask) → Inside m → m.care ≡ 0 → BelowMeets r m
+unfixed_met (Some r) m inside none = free_meets r m inside none
+unfixed_met None m inside none = none
 
 pub allowed_true : (F : Format) (x : ℕ) (W : Wanted) → allowed F x W ≡ true ↔ Allowed F x W
 allowed_true F x W =

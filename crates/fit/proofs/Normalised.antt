@@ -1,5 +1,6 @@
 -- A job and the same with g taken as 0 where no dropped bit is fixed (document 02, W-206) are met by the same cases: a mask that fixes no
 -- bit does not tell apart how many bits it stands for. Assumes nothing.
+use Rattle.std.specs.Prelude.{Option}
 use mathlib.Core.Path.{◌≡◌, sym, ap, ◌∙◌}
 use mathlib.Core.Logic.{◌↔◌}
 use Prim.Native.Nat.{ℕ}
@@ -11,14 +12,13 @@ use Rattle.job.specs.declared.Setting.{Setting}
 use Rattle.job.specs.declared.Job.{Job}
 use Rattle.job.specs.Dropped.{normalised, normalised_job}
 use Rattle.job.proofs.DroppedLaws.{normalised_some, normalised_mask}
-use Rattle.adder.specs.declared.Below.{Below}
 use Rattle.adder.proofs.BelowLaws.{below_any}
 use Rattle.fit.specs.Fit.{below_in, BelowMeets, Satisfies, Fits}
 
 -- with a mask that fixes no bit g plays no part
 below_free : (m : Mask) → m.care ≡ 0 → (S : Setting) (g k a b : ℕ) → BelowMeets (below_in S g a b) m → BelowMeets (below_in S k a b) m
 below_free m none S g k a b h =
-    below_any (λ (r : Below). BelowMeets r m)
+    below_any (λ (r : Option ℕ). BelowMeets r m)
     (λ r s e. ap (bit_and s) none ∙ and_zero_r s ∙ sym (and_zero_r r) ∙ sym (ap (bit_and r) none) ∙ e) S.format S.operation g k a b h
 
 -- the dropped bits of two words are as wanted

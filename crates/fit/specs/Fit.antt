@@ -2,6 +2,8 @@
 -- states. Beside that the reply about a proposed case ("Causes and replies"). Each statement comes twice: as a record, which laws and
 -- contracts read, and as a Bool, which confirmation computes; `proofs/Laws.antt` has that they say the same. Neither runs a search.
 -- Assumes nothing.
+use Rattle.std.specs.Prelude.{Option, Some, None, Result, Ok, Err}
+use Rattle.format.specs.declared.cause.Cause.{Cause}
 use Rattle.std.specs.Prelude.{◌≡◌, Bool, true, false, ◌&&◌, ℕ, zero, suc, ◌^◌, ◌<◌, eqb}
 use Rattle.format.specs.declared.Format.{Format}
 use Rattle.format.specs.Cause.{first}
@@ -13,15 +15,9 @@ use Rattle.job.specs.declared.Wanted.{Wanted}
 use Rattle.job.specs.declared.Job.{Job}
 use Rattle.bounds.specs.Bounds.{Within, within}
 use Rattle.job.specs.Job.{cause_with}
-use Rattle.adder.specs.declared.Row as row
-use Rattle.adder.specs.declared.Row.TheVariants.{Carries, NoRow}
-use Rattle.adder.specs.declared.Below as below
-use Rattle.adder.specs.declared.Below.TheVariants.{Bits, NoBits}
 use Rattle.adder.specs.Result.{result_of}
 use Rattle.adder.specs.Row.{row_of}
 use Rattle.adder.specs.Below.{below_of}
-use Rattle.fit.specs.declared.Confirmed as reply
-use Rattle.fit.specs.declared.Confirmed.TheVariants.{Yes, No, Refused}
 
 -- ---- right
 
@@ -30,11 +26,11 @@ abbrev pub result_in : Setting → ℕ → ℕ → ℕ
 result_in S a b = result_of S.format S.operation S.mode a b
 
 -- the row of a and b in a setting
-abbrev pub row_in : Setting → ℕ → ℕ → row.Row
+abbrev pub row_in : Setting → ℕ → ℕ → Option ℕ
 row_in S a b = row_of S.format S.operation a b
 
 -- the bits of their exact result below the last one in a setting, g of them and the sticky bit
-abbrev pub below_in : Setting → ℕ → ℕ → ℕ → below.Below
+abbrev pub below_in : Setting → ℕ → ℕ → ℕ → Option ℕ
 below_in S g a b = below_of S.format S.operation g a b
 
 -- three words of the format, and "c is the rounded result"
@@ -55,22 +51,22 @@ abbrev pub allowed : Format → ℕ → Wanted → Bool
 allowed F x W = meets x W.mask && within F x W.bounds
 
 -- the row agrees with every fixed bit; where there is no row, only a carry mask that fixes no bit is met ("The carry row")
-abbrev pub RowMeets : row.Row → Mask → Type 0
-RowMeets (Carries r) m = Meets r m
-RowMeets NoRow m = m.care ≡ 0
+abbrev pub RowMeets : Option ℕ → Mask → Type 0
+RowMeets (Some r) m = Meets r m
+RowMeets None m = m.care ≡ 0
 
-abbrev pub row_meets : row.Row → Mask → Bool
-row_meets (Carries r) m = meets r m
-row_meets NoRow m = eqb m.care 0
+abbrev pub row_meets : Option ℕ → Mask → Bool
+row_meets (Some r) m = meets r m
+row_meets None m = eqb m.care 0
 
 -- the same of the dropped bits and their sticky bit (document 02, W-206): "Other results meet only a mask that fixes nothing"
-abbrev pub BelowMeets : below.Below → Mask → Type 0
-BelowMeets (Bits r) m = Meets r m
-BelowMeets NoBits m = m.care ≡ 0
+abbrev pub BelowMeets : Option ℕ → Mask → Type 0
+BelowMeets (Some r) m = Meets r m
+BelowMeets None m = m.care ≡ 0
 
-abbrev pub below_meets : below.Below → Mask → Bool
-below_meets (Bits r) m = meets r m
-below_meets NoBits m = eqb m.care 0
+abbrev pub below_meets : Option ℕ → Mask → Bool
+below_meets (Some r) m = meets r m
+below_meets None m = eqb m.care 0
 
 -- "its words and its row agree with every fixed bit", and from W-206 on "the case meets everything that its job states"
 pub record Satisfies (j : Job) (a b c : ℕ) : Type 0 where
@@ -110,14 +106,14 @@ case_cause j a b c =
     (first (word_cause (word_bits j.setting.format) a)
     (first (word_cause (word_bits j.setting.format) b) (word_cause (word_bits j.setting.format) c)))
 
-abbrev pub answer : Bool → reply.Confirmed
-answer true = Yes
-answer false = No
+abbrev pub answer : Bool → Result Bool Cause
+answer true = (Ok true)
+answer false = (Ok false)
 
 -- "A confirmed case is a yes, one that doesn't fit a no"
-abbrev pub answer_for : ℕ → Bool → reply.Confirmed
+abbrev pub answer_for : ℕ → Bool → Result Bool Cause
 answer_for zero t = answer t
-answer_for (suc n) t = Refused (suc n)
+answer_for (suc n) t = Err (suc n)
 
-abbrev pub confirmed_reply : Job → ℕ → ℕ → ℕ → reply.Confirmed
+abbrev pub confirmed_reply : Job → ℕ → ℕ → ℕ → Result Bool Cause
 confirmed_reply j a b c = answer_for (case_cause j a b c) (fits j a b c)

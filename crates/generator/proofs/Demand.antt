@@ -1,4 +1,6 @@
 -- Demand 3, undivided, of every reply that the promise allows. Assumes nothing.
+use Rattle.std.specs.Prelude.{Result, Ok, Err}
+use Rattle.format.specs.declared.cause.Cause.{Cause}
 use mathlib.Core.Path.{◌≡◌, refl, sym, ap, ap₂, ◌∙◌}
 use mathlib.Core.Logic.{◌⊎◌, inl, inr}
 use Prim.Native.Nat.{ℕ, ◌<◌}
@@ -11,8 +13,6 @@ use Rattle.job.specs.Job.{request_cause, Request}
 use Rattle.job.proofs.Laws.{job_none, request_none}
 use Rattle.fit.specs.Fit.{result_in, Fits}
 use Rattle.generator.specs.declared.Case.{Case}
-use Rattle.generator.specs.declared.Reply.{Reply}
-use Rattle.generator.specs.declared.Reply.TheVariants.{Found, Refused}
 use Rattle.generator.specs.Promise.{Chosen, Replied}
 use Rattle.generator.specs.Demand.{Is, Best, Reachable, Demand3}
 use Rattle.generator.proofs.Taken.{fits_request}
@@ -39,10 +39,10 @@ reached j r1 r2 h a b c f =
       case = _;
       is = (refl, refl, refl);
       reply = q;
-      only = λ p r. reply_unique j a b p (Found _) r q;
+      only = λ p r. reply_unique j a b p (Ok _) r q;
     }
 
-pub demand_3 : (j : Job) (r1 r2 : ℕ) → Request j r1 r2 → (p : Reply) → Replied j r1 r2 p → Demand3 j r1 r2 p
+pub demand_3 : (j : Job) (r1 r2 : ℕ) → Request j r1 r2 → (p : Result Case Cause) → Replied j r1 r2 p → Demand3 j r1 r2 p
 demand_3 j r1 r2 h p q = record {
   nothing_fits = none_exactly j r1 r2 p taken q;
   otherwise = said p q;
@@ -52,7 +52,7 @@ demand_3 j r1 r2 h p q = record {
     taken : request_cause j r1 r2 ≡ 0
     taken = (request_none j r1 r2).1 h
 
-    said : (p : Reply) → Replied j r1 r2 p → (p ≡ Refused cause.NoCase) ⊎ ((x : Case) × (p ≡ Found x) × Best j r1 r2 x)
-    said (Found x) q = inr (x, refl, chosen_best j r1 r2 x q.1)
-    said (Refused k) (inl q) = absurd (omega (arith, q.0, taken))
-    said (Refused k) (inr q) = inl (ap Refused q.1)
+    said : (p : Result Case Cause) → Replied j r1 r2 p → (p ≡ Err cause.NoCase) ⊎ ((x : Case) × (p ≡ Ok x) × Best j r1 r2 x)
+    said (Ok x) q = inr (x, refl, chosen_best j r1 r2 x q.1)
+    said (Err k) (inl q) = absurd (omega (arith, q.0, taken))
+    said (Err k) (inr q) = inl (ap Err q.1)

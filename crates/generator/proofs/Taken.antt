@@ -1,10 +1,10 @@
 -- What the case of two operands is where no cause stands against the job and the words. Assumes nothing.
+use Rattle.std.specs.Prelude.{Option}
 use mathlib.Core.Path.{◌≡◌, refl, ap₂, subst}
 use Prim.Native.Nat.{ℕ}
 use Rattle.choice.specs.Choice.{ClosestPair}
 use Rattle.job.specs.declared.Job.{Job}
 use Rattle.job.specs.Job.{Request}
-use Rattle.adder.specs.declared.Row as row
 use Rattle.adder.proofs.Causes.{Fit}
 use Rattle.fit.specs.Fit.{Fits, Fitting}
 use Rattle.generator.specs.declared.Case.{Case}
@@ -26,4 +26,4 @@ case_chosen j r1 r2 a b q =
 
 -- and the chosen case is the case of its operands
 pub chosen_case : (j : Job) (r1 r2 : ℕ) (x : Case) → Chosen j r1 r2 x → x ≡ case_of j x.a x.b
-chosen_case j r1 r2 x p = ap₂ (λ (c : ℕ) (r : row.Row). record { a = x.a; b = x.b; c = c; row = r }) p.fits.right.sum p.row
+chosen_case j r1 r2 x p = ap₂ (λ (c : ℕ) (r : Option ℕ). record { a = x.a; b = x.b; c = c; row = r }) p.fits.right.sum p.row

@@ -1,6 +1,8 @@
 -- Demand 3 in one statement, sentence by sentence: of the reply p to a job j and two random words against which no cause stands. That none
 -- stands is `Request`: a supported format, either operation, each of the modes, five well-formed masks, that of the dropped bits with a g of
 -- 8 at most, bounds that are numbers in order (W-207) or none, and words no wider than the format. Assumes nothing.
+use Rattle.std.specs.Prelude.{Result, Ok, Err}
+use Rattle.format.specs.declared.cause.Cause.{Cause}
 use Rattle.std.specs.Prelude.{◌≡◌, ◌⊎◌, ◌↔◌, ℕ, ◌<◌}
 use Rattle.std.specs.Int.Bits.{bit_xor}
 use Rattle.format.specs.declared.cause.Cause.TheVariants as cause
@@ -8,8 +10,6 @@ use Rattle.job.specs.declared.Job.{Job}
 use Rattle.job.specs.Job.{Request}
 use Rattle.fit.specs.Fit.{Fits}
 use Rattle.generator.specs.declared.Case.{Case}
-use Rattle.generator.specs.declared.Reply.{Reply}
-use Rattle.generator.specs.declared.Reply.TheVariants.{Found, Refused}
 use Rattle.generator.specs.Promise.{Replied}
 
 -- x is the case (a, b, c)
@@ -29,15 +29,15 @@ pub record Reachable (j : Job) (a b c : ℕ) : Type 0 where
   pub request : Request j r1 r2
   pub case : Case
   pub is : Is case a b c
-  pub reply : Replied j r1 r2 (Found case)
-  pub only : (p : Reply) → Replied j r1 r2 p → p ≡ Found case
+  pub reply : Replied j r1 r2 (Ok case)
+  pub only : (p : Result Case Cause) → Replied j r1 r2 p → p ≡ Ok case
 
 -- "no case" is the number 7
-pub record Demand3 (j : Job) (r1 r2 : ℕ) (p : Reply) : Type 0 where
+pub record Demand3 (j : Job) (r1 r2 : ℕ) (p : Result Case Cause) : Type 0 where
   -- "'no case' is said exactly when no three words of the format .. fit": W-206, "when c is the rounded result and the case meets everything
   -- that its job states"
-  pub nothing_fits : (p ≡ Refused cause.NoCase) ↔ ((a b c : ℕ) → Fits j a b c → ⊥)
+  pub nothing_fits : (p ≡ Err cause.NoCase) ↔ ((a b c : ℕ) → Fits j a b c → ⊥)
   -- "Otherwise the reply is a case that fits, and every other .."
-  pub otherwise : (p ≡ Refused cause.NoCase) ⊎ ((x : Case) × (p ≡ Found x) × Best j r1 r2 x)
+  pub otherwise : (p ≡ Err cause.NoCase) ⊎ ((x : Case) × (p ≡ Ok x) × Best j r1 r2 x)
   -- "each case that fits is the reply to some pair of them"
   pub every_case : (a b c : ℕ) → Fits j a b c → Reachable j a b c

@@ -1,5 +1,7 @@
 -- The promise of the case generator: the reply to a job and two random words, by cases (document 01, "Masks and choice", "Causes and
 -- replies"). `Fits` tells a fitting case by sums, and no search stands in it. Assumes nothing.
+use Rattle.std.specs.Prelude.{None, Result, Ok, Err}
+use Rattle.format.specs.declared.cause.Cause.{Cause}
 use Rattle.std.specs.Prelude.{◌≡◌, ◌⊎◌, ℕ, ◌<◌}
 use Rattle.format.specs.declared.cause.Cause.TheVariants as cause
 use Rattle.choice.specs.Choice.{ClosestPair}
@@ -7,8 +9,6 @@ use Rattle.job.specs.declared.Job.{Job}
 use Rattle.job.specs.Job.{request_cause}
 use Rattle.fit.specs.Fit.{result_in, row_in, Fits, Fitting}
 use Rattle.generator.specs.declared.Case.{Case}
-use Rattle.generator.specs.declared.Reply.{Reply}
-use Rattle.generator.specs.declared.Reply.TheVariants.{Found, Refused}
 
 -- the case of two operands: "c follows from a and b", and so does the row
 abbrev pub case_of : Job → ℕ → ℕ → Case
@@ -27,6 +27,6 @@ pub record None (j : Job) (r1 r2 : ℕ) : Type 0 where
   pub none : (a b c : ℕ) → Fits j a b c → ⊥
 
 -- a found case is the chosen one of a job that is taken; a number is that of the first cause, or 7 where no case fits
-abbrev pub Replied : Job → ℕ → ℕ → Reply → Type 0
-Replied j r1 r2 (Found x) = (request_cause j r1 r2 ≡ 0) × Chosen j r1 r2 x
-Replied j r1 r2 (Refused k) = ((0 < request_cause j r1 r2) × (k ≡ request_cause j r1 r2)) ⊎ (None j r1 r2 × (k ≡ cause.NoCase))
+abbrev pub Replied : Job → ℕ → ℕ → Result Case Cause → Type 0
+Replied j r1 r2 (Ok x) = (request_cause j r1 r2 ≡ 0) × Chosen j r1 r2 x
+Replied j r1 r2 (Err k) = ((0 < request_cause j r1 r2) × (k ≡ request_cause j r1 r2)) ⊎ (None j r1 r2 × (k ≡ cause.NoCase))

@@ -1,4 +1,5 @@
 -- Laws of numbers as text, and of a line that grows. Assumes nothing.
+use Rattle.std.specs.Prelude.{Option, Some, None, Err}
 use mathlib.Core.Path.{◌≡◌, refl, sym, ap, ◌∙◌, subst}
 use mathlib.Core.Bool.{Bool, true, false, cond}
 use Prim.Native.Nat.{ℕ, zero, suc, ◌+◌, ◌-◌, ◌*◌, ◌/◌, ◌%◌, ◌^◌, ◌≤◌, ◌<◌}
@@ -14,9 +15,6 @@ use Rattle.lines.specs.Text.{glyph, digits, places, decimal, word_digits, word, 
 use Rattle.format.specs.declared.cause.Cause.TheVariants as cause
 use Rattle.format.specs.declared.Format.{Format}
 use Rattle.layout.proofs.JobLayout.{by_width}
-use Rattle.generator.specs.declared.Reply.TheVariants.{Refused}
-use Rattle.adder.specs.declared.Row.{Row}
-use Rattle.adder.specs.declared.Row.TheVariants.{Carries, NoRow}
 use Rattle.lines.specs.declared.text.Line.{Line}
 
 -- ---- numbers
@@ -120,10 +118,10 @@ pub length_word : (k x : ℕ) → length (word k x) ≡ suc k
 unfolding word
 length_word k x = ap (λ (n : ℕ). suc n) (length_digits 16 k x)
 
-pub row_most : (k : ℕ) (row : Row) → k ≤ 16 → length (row_text k row) ≤ 17
+pub row_most : (k : ℕ) (row : Option ℕ) → k ≤ 16 → length (row_text k row) ≤ 17
 unfolding row_text
-row_most k (Carries x) h = omega (arith, length_word k x, h)
-row_most k NoRow h = omega arith
+row_most k (Some x) h = omega (arith, length_word k x, h)
+row_most k None h = omega arith
 
 -- what an empty line has grown to
 pub says_grown : {l r : Line} {bs : List ℕ} → Empty l → Grown l r bs → length bs ≤ 128 → Says r bs
@@ -131,10 +129,10 @@ says_grown {l} {r} {bs} e g h =
     record { most = omega (arith, g.len, g.whole, e.len, h); text = g.text ∙ ap (λ (n : ℕ). take n l.bytes ++ bs) e.len }
 
 -- the line for a number: 7, or another
-pub reply_none : (F : Format) (n k : ℕ) → k ≡ cause.NoCase → reply_line F n (Refused k) ≡ none_line n
+pub reply_none : (F : Format) (n k : ℕ) → k ≡ cause.NoCase → reply_line F n (Err k) ≡ none_line n
 unfolding reply_line
 reply_none F n k e = ap (λ (t : Bool). cond t (none_line n) (refused_line n k)) (eq-eqb k cause.NoCase e)
 
-pub reply_refused : (F : Format) (n k : ℕ) → (k ≡ cause.NoCase → ⊥) → reply_line F n (Refused k) ≡ refused_line n k
+pub reply_refused : (F : Format) (n k : ℕ) → (k ≡ cause.NoCase → ⊥) → reply_line F n (Err k) ≡ refused_line n k
 unfolding reply_line
 reply_refused F n k h = ap (λ (t : Bool). cond t (none_line n) (refused_line n k)) (ne_eqb k cause.NoCase h)

@@ -1,26 +1,23 @@
 -- The listing of a job file (document 01, "Cases, in hexadecimal", from "The listing program" on): which line comes next, and what comes
 -- after it. A place is the offset of the next record, the count of the lines before, and whether reading has stopped. Assumes nothing.
+use Rattle.std.specs.Prelude.{Option, Some, None, Result, Ok, Err}
+use Rattle.format.specs.declared.cause.Cause.{Cause}
 use Rattle.std.specs.Prelude.{◌≡◌, Bool, true, false, not, ◌⊎◌, ℕ, ◌+◌, ◌≤◌, ◌<◌, List, [], ◌∷◌, ◌++◌, length, drop, eqb}
 use Rattle.format.specs.declared.cause.Cause.TheVariants as cause
 use Rattle.records.specs.Record.{first_in}
 use Rattle.layout.specs.declared.Entry.{Entry}
-use Rattle.records.specs.declared.First.TheVariants as found
 use Rattle.generator.specs.Promise.{Replied}
-use Rattle.generator.specs.declared.Reply.{Reply}
-use Rattle.generator.specs.declared.Reply.TheVariants.{Found, Refused}
 use Rattle.lines.specs.Text.{reply_line, refused_line, end_line, long_line}
 use Rattle.lines.specs.declared.Place.{Place}
-use Rattle.lines.specs.declared.Then.{Then}
-use Rattle.lines.specs.declared.Then.TheVariants.{On, Done}
 
 -- the longest file that is listed, in bytes; and a bound on the lines of its listing, since no record is empty
 abbrev pub longest : ℕ
 longest = 65536
 
 -- "Another refusal prints `n refused k` .. and reading stops": other than 7
-abbrev pub stops : Reply → Bool
-stops (Found x) = false
-stops (Refused k) = not (eqb k cause.NoCase)
+abbrev pub stops : Result Case Cause → Bool
+stops (Ok x) = false
+stops (Err k) = not (eqb k cause.NoCase)
 
 -- a record is to be read at the place: reading has not stopped, and the count is one that a listing can have
 pub record Reading (p : Place) : Type 0 where
@@ -29,25 +26,25 @@ pub record Reading (p : Place) : Type 0 where
 
 -- no record is read at the place p of the file s: reading has stopped, no listing has so many lines, or no byte is left
 abbrev pub Ended : List ℕ → Place → Type 0
-Ended s p = (p.stopped ≡ true) ⊎ ((longest < p.lines) ⊎ (first_in (drop p.at s) ≡ found.End))
+Ended s p = (p.stopped ≡ true) ⊎ ((longest < p.lines) ⊎ (first_in (drop p.at s) ≡ (Ok None)))
 
 -- the line that comes next at the place p of the file s, and what comes after it
-pub data Lists (s : List ℕ) (p : Place) : List ℕ → Then → Type 0 where
+pub data Lists (s : List ℕ) (p : Place) : List ℕ → Option Place → Type 0 where
   -- "one over 65,536 bytes prints only `long`"
-  long : longest < length s → Lists s p long_line Done
+  long : longest < length s → Lists s p long_line None
   -- "`end` is the last line .. and gives the count of the lines before it"
-  end : length s ≤ longest → Ended s p → Lists s p (end_line p.lines) Done
+  end : length s ≤ longest → Ended s p → Lists s p (end_line p.lines) None
   -- a record that is refused in reading: the line counts, and reading stops
-  refused : {k : ℕ} → length s ≤ longest → Reading p → first_in (drop p.at s) ≡ found.Refused k
-      → Lists s p (refused_line (p.lines + 1) k) (On (record { at = p.at; lines = p.lines + 1; stopped = true }))
+  refused : {k : ℕ} → length s ≤ longest → Reading p → first_in (drop p.at s) ≡ Err k
+      → Lists s p (refused_line (p.lines + 1) k) (Some (record { at = p.at; lines = p.lines + 1; stopped = true }))
   -- a job: the line for the generator's reply to it
-  answered : {e : Entry} {n : ℕ} (r : Reply) → length s ≤ longest → Reading p → first_in (drop p.at s) ≡ found.Job e n → Replied e.job e.r1 e.r2 r
-      → Lists s p (reply_line e.job.setting.format (p.lines + 1) r) (On (record { at = p.at + n; lines = p.lines + 1; stopped = stops r }))
+  answered : {e : Entry} {n : ℕ} (r : Result Case Cause) → length s ≤ longest → Reading p → first_in (drop p.at s) ≡ (Ok (Some (e, n))) → Replied e.job e.r1 e.r2 r
+      → Lists s p (reply_line e.job.setting.format (p.lines + 1) r) (Some (record { at = p.at + n; lines = p.lines + 1; stopped = stops r }))
 
 -- all the text from the place p on
 pub data Listed (s : List ℕ) : Place → List ℕ → Type 0 where
-  last : {p : Place} {t : List ℕ} → Lists s p t Done → Listed s p t
-  more : {p q : Place} {t u : List ℕ} → Lists s p t (On q) → Listed s q u → Listed s p (t ++ u)
+  last : {p : Place} {t : List ℕ} → Lists s p t None → Listed s p t
+  more : {p q : Place} {t u : List ℕ} → Lists s p t (Some q) → Listed s q u → Listed s p (t ++ u)
 
 -- the first line's place
 abbrev pub start : Place
@@ -60,5 +57,5 @@ Listing s t = Listed s start t
 -- the text for these entries, each with the line for its reply, after n lines: then the end
 pub data Lines : ℕ → List Entry → List ℕ → Type 0 where
   none : {n : ℕ} → Lines n [] (end_line n)
-  next : {n : ℕ} {e : Entry} {es : List Entry} {t : List ℕ} (r : Reply) → Replied e.job e.r1 e.r2 r → Lines (n + 1) es t
+  next : {n : ℕ} {e : Entry} {es : List Entry} {t : List ℕ} (r : Result Case Cause) → Replied e.job e.r1 e.r2 r → Lines (n + 1) es t
       → Lines n (e ∷ es) (reply_line e.job.setting.format (n + 1) r ++ t)

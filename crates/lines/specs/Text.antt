@@ -1,13 +1,11 @@
 -- The text of the listing's lines as bytes of ASCII (document 01, "Cases, in hexadecimal", from "The listing program" on). Assumes nothing.
+use Rattle.std.specs.Prelude.{Option, Some, None, Result, Ok, Err}
+use Rattle.format.specs.declared.cause.Cause.{Cause}
 use Rattle.std.specs.Prelude.{◌≡◌, cond, ℕ, zero, suc, ◌+◌, ◌*◌, ◌/◌, ◌%◌, ◌≤◌, List, [], ◌∷◌, ◌++◌, length, take, ltb, eqb}
-use Rattle.adder.specs.declared.Row.{Row}
-use Rattle.adder.specs.declared.Row.TheVariants.{Carries, NoRow}
 use Rattle.format.specs.declared.cause.Cause.TheVariants as cause
 use Rattle.format.specs.declared.Format.{Format}
 use Rattle.layout.specs.Fields.{word_bytes}
 use Rattle.generator.specs.declared.Case.{Case}
-use Rattle.generator.specs.declared.Reply.{Reply}
-use Rattle.generator.specs.declared.Reply.TheVariants.{Found, Refused}
 use Rattle.lines.specs.declared.text.Line.{Line}
 
 -- ---- numbers
@@ -46,9 +44,9 @@ abbrev pub feed : List ℕ
 feed = 10 ∷ []
 
 -- a space, and the row in k digits or "`-` where there is none"
-unfoldable pub row_text : ℕ → Row → List ℕ
-row_text k (Carries x) = word k x
-row_text k NoRow = 32 ∷ 45 ∷ []
+unfoldable pub row_text : ℕ → Option ℕ → List ℕ
+row_text k (Some x) = word k x
+row_text k None = 32 ∷ 45 ∷ []
 
 -- " found"
 abbrev pub found_word : List ℕ
@@ -75,9 +73,9 @@ unfoldable pub refused_line : ℕ → ℕ → List ℕ
 refused_line n k = decimal n ++ (refused_word ++ (decimal k ++ feed))
 
 -- the line for the reply to job n, in the job's format: 7 is "`n none`"
-unfoldable pub reply_line : Format → ℕ → Reply → List ℕ
-reply_line F n (Found x) = found_line (word_digits F) n x
-reply_line F n (Refused k) = cond (eqb k cause.NoCase) (none_line n) (refused_line n k)
+unfoldable pub reply_line : Format → ℕ → Result Case Cause → List ℕ
+reply_line F n (Ok x) = found_line (word_digits F) n x
+reply_line F n (Err k) = cond (eqb k cause.NoCase) (none_line n) (refused_line n k)
 
 -- "end "
 abbrev pub end_word : List ℕ

@@ -1,5 +1,6 @@
 -- The last kept bit as a mask of one bit, joined to another mask: a number meets the joined mask exactly when it meets the other and has
 -- that bit, and where the two clash no number does both. Assumes nothing.
+use Rattle.std.specs.Prelude.{Ok, Err}
 use mathlib.Core.Logic.{◌↔◌}
 use mathlib.Core.Path.{◌≡◌, ap, ap₂, subst}
 use Prim.Native.Nat.{ℕ, ◌*◌, ◌%◌, ◌^◌, ◌<◌}
@@ -7,7 +8,6 @@ use native.Mathlib.Nat.{zero-div}
 use lib.Bits.{and_zero_r, or_zero_l}
 use Rattle.bits.specs.Bit.{bit}
 use Rattle.mask.specs.declared.Mask.{Mask}
-use Rattle.mask.specs.declared.Joined.TheVariants as reply
 use Rattle.mask.specs.Mask.{Meets, fixed, free_mask}
 use Rattle.mask.specs.Join.{join}
 use Rattle.mask.proofs.Fixing.{fixed_meets}
@@ -27,12 +27,12 @@ module _ (j b : ℕ) (h : b < 2) where
       ((λ met. (f.0 met).1), λ e. f.1 (and_zero_r n, e))
 
   -- the reply of joining
-  pub last_joined : (x m : Mask) → join x (one_bit j b) ≡ reply.Mask m → (n : ℕ) → Meets n m ↔ (Meets n x × (bit n j ≡ b))
+  pub last_joined : (x m : Mask) → join x (one_bit j b) ≡ Ok m → (n : ℕ) → Meets n m ↔ (Meets n x × (bit n j ≡ b))
   last_joined x m e n =
       let p = join_meets x (one_bit j b) m n e in (
         (λ met. let q = p.0 met in (q.0, (one_meets n).0 q.1)),
         λ q. p.1 (q.0, (one_meets n).1 q.1),
       )
 
-  pub last_refused : (x : Mask) (k : ℕ) → join x (one_bit j b) ≡ reply.Refused k → (n : ℕ) → Meets n x → bit n j ≡ b → ⊥
+  pub last_refused : (x : Mask) (k : ℕ) → join x (one_bit j b) ≡ Err k → (n : ℕ) → Meets n x → bit n j ≡ b → ⊥
   last_refused x k e n met last = join_refused x (one_bit j b) n k e met ((one_meets n).1 last)

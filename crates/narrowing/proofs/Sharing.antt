@@ -1,5 +1,6 @@
 -- The bits that all numbers from l to h share are those above the highest at which l and h differ: without the bits from there on down l and h
 -- are equal, and so is what lies between them. Assumes nothing.
+use Rattle.std.specs.Prelude.{Ok}
 use mathlib.Core.Path.{◌≡◌, sym, ap, ap₂, ◌∙◌, subst}
 use Prim.Native.Nat.{ℕ, suc, ◌+◌, ◌-◌, ◌*◌, ◌/◌, ◌%◌, ◌^◌, ◌≤◌, ◌<◌}
 use native.Mathlib.Decide.{dec_lt}
@@ -11,7 +12,6 @@ use lib.Count.{count_leading_zeros, leading_length}
 use lib.Pow as pow
 use lib.Pow.{pow_pos, pow-add, pow_mono, split, field}
 use Rattle.mask.specs.declared.Mask.{Mask}
-use Rattle.mask.specs.declared.Joined.TheVariants as reply
 use Rattle.mask.specs.Mask.{WellFormed, Meets, raised}
 use Rattle.mask.specs.Join.{join}
 use Rattle.mask.proofs.ByBits.{meets_inside}
@@ -92,10 +92,10 @@ module _ (place l h : ℕ) (room : place < 64) (le : l ≤ h) (hh : h < 2 ^ plac
       record { below = omega (arith, p, q); inside = meets_inside l alike (alike_meets l (omega (arith, e)) (omega (arith, e, le))) }
 
   -- joined with a mask
-  pub joined_shares : (m r a : Mask) → a.care ≡ alike.care → a.value ≡ alike.value → join m a ≡ reply.Mask r → Shares place m l h r
+  pub joined_shares : (m r a : Mask) → a.care ≡ alike.care → a.value ≡ alike.value → join m a ≡ Ok r → Shares place m l h r
   joined_shares m r a care value e =
       let a_is : a ≡ alike = ap₂ (λ (c v : ℕ). record { care = c; value = v }) care value in
-      let j : join m alike ≡ reply.Mask r = subst (λ (n : Mask). join m n ≡ reply.Mask r) a_is e in
+      let j : join m alike ≡ Ok r = subst (λ (n : Mask). join m n ≡ Ok r) a_is e in
       record {
         formed = λ width w f. subst (WellFormed width) (join_mask m alike r j).mask (joined_formed width m alike f (alike_formed width w));
         more = let e = ap (λ (n : Mask). n.care) (join_mask m alike r j).mask in omega (arith, or_add_and m.care alike.care, and_le_r m.care alike.care, e);

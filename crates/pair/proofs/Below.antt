@@ -1,5 +1,6 @@
 -- How many bits stand below the larger significand: enough to tell the wanted ones apart, and few enough for a word of 64 bits. The dropped
 -- bits of two finite operands are then those of what their aligned significands make. Assumes nothing.
+use Rattle.std.specs.Prelude.{Option, Some, None}
 use mathlib.Core.Path.{◌≡◌, sym, subst}
 use mathlib.Core.Bool.{Bool, true, false, true≢false}
 use mathlib.Core.Logic.{inl, inr, ⊎_elim}
@@ -24,8 +25,6 @@ use Rattle.rounding.specs.Width.{aligned_bits}
 use Rattle.rounding.specs.Outcome.{NormalAt}
 use Rattle.rounding.proofs.Held.{Guards}
 use Rattle.significand.proofs.Tail.{Room}
-use Rattle.adder.specs.declared.Below as below
-use Rattle.adder.specs.declared.Below.TheVariants.{Bits, NoBits}
 use Rattle.adder.specs.Below.{finite_below}
 use Rattle.adder.proofs.Aligned.{makes, below_bits, below_none}
 use Rattle.fit.specs.Fit.{BelowMeets}
@@ -80,10 +79,10 @@ module _ (F : Format) (x y : record_of.Finite) (units : (unit_of y.exponent).0 �
   abbrev made : ℕ
   made = makes F x y units ok cx cy q G (guards_of_lem G (guards_pos D) like) (below_more G (guards_pos D) like)
 
-  bits : (D.mask.care ≡ 0 → ⊥) → NormalAt q F.f (unit_of x.exponent) made → finite_below F D.g x y ≡ Bits (dropped_word F D.g made)
+  bits : (D.mask.care ≡ 0 → ⊥) → NormalAt q F.f (unit_of x.exponent) made → finite_below F D.g x y ≡ Some (dropped_word F D.g made)
   bits fixed n = below_bits F x y units ok cx cy q G (guards_of_lem G (guards_pos D) like) (below_more G (guards_pos D) like) D.g (guards_cover D fixed) le n
 
-  none : (D.mask.care ≡ 0 → ⊥) → (NormalAt q F.f (unit_of x.exponent) made → ⊥) → finite_below F D.g x y ≡ NoBits
+  none : (D.mask.care ≡ 0 → ⊥) → (NormalAt q F.f (unit_of x.exponent) made → ⊥) → finite_below F D.g x y ≡ None
   none fixed n = below_none F x y units ok cx cy q G (guards_of_lem G (guards_pos D) like) (below_more G (guards_pos D) like) D.g (guards_cover D fixed) le n
 
   pub drops_of : BelowMeets (finite_below F D.g x y) D.mask → DropsAs F q (unit_of x.exponent) D made
@@ -91,12 +90,12 @@ module _ (F : Format) (x y : record_of.Finite) (units : (unit_of y.exponent).0 �
     where
       go : Dec (D.mask.care ≡ 0) → Dec (NormalAt q F.f (unit_of x.exponent) made) → DropsAs F q (unit_of x.exponent) D made
       go (yes z) d = inl z
-      go (no fixed) (yes n) = inr (n, subst (λ (b : below.Below). BelowMeets b D.mask) (bits fixed n) met)
-      go (no fixed) (no n) = inl (subst (λ (b : below.Below). BelowMeets b D.mask) (none fixed n) met)
+      go (no fixed) (yes n) = inr (n, subst (λ (b : Option ℕ). BelowMeets b D.mask) (bits fixed n) met)
+      go (no fixed) (no n) = inl (subst (λ (b : Option ℕ). BelowMeets b D.mask) (none fixed n) met)
 
   pub drops_back : DropsAs F q (unit_of x.exponent) D made → BelowMeets (finite_below F D.g x y) D.mask
   drops_back drops = go (ℕ_discrete D.mask.care 0)
     where
       go : Dec (D.mask.care ≡ 0) → BelowMeets (finite_below F D.g x y) D.mask
       go (yes z) = unfixed_met (finite_below F D.g x y) D.mask valid.mask.inside z
-      go (no fixed) = ⊎_elim (λ z. absurd (fixed z)) (λ p. subst (λ (b : below.Below). BelowMeets b D.mask) (sym (bits fixed p.0)) p.1) drops
+      go (no fixed) = ⊎_elim (λ z. absurd (fixed z)) (λ p. subst (λ (b : Option ℕ). BelowMeets b D.mask) (sym (bits fixed p.0)) p.1) drops

@@ -1,5 +1,6 @@
 -- A pair of finite exponent fields admits a case exactly when the fields meet their masks and some two signs pose one: the words a and b are
 -- their signs, fields and fractions. Assumes nothing.
+use Rattle.std.specs.Prelude.{Option, Some}
 use mathlib.Core.Logic.{◌↔◌}
 use mathlib.Core.Path.{◌≡◌, refl, sym, ap, ap₂, ◌∙◌, subst}
 use Prim.Native.Nat.{ℕ, ◌+◌, ◌*◌, ◌/◌, ◌^◌, ◌<◌}
@@ -13,10 +14,7 @@ use Rattle.job.specs.declared.Job.{Job}
 use Rattle.job.specs.Job.{Valid}
 use Rattle.word.specs.declared.Biased.{Biased}
 use Rattle.word.specs.declared.Finite as record_of
-use Rattle.adder.specs.declared.Row as row
-use Rattle.adder.specs.declared.Below as below
 use Rattle.adder.specs.Below.{finite_below}
-use Rattle.adder.specs.declared.Row.TheVariants.{Carries}
 use Rattle.word.specs.Word.{fraction, biased, sign, signed, all_ones}
 use Rattle.word.specs.Operand.{finite_of}
 use Rattle.adder.specs.Result.{finite_sum, result_of}
@@ -67,8 +65,8 @@ module _ (j : Job) (valid : Valid j) (ea eb : Biased) (fin : FinitePair j.settin
           q_lt = mod-lt b (pow_pos F.f);
           p_meets = ma.2;
           q_meets = mb.2;
-          row_meets_lem = subst (λ (r : row.Row). RowMeets r j.carries) (row_finite F j.setting.operation j.setting.mode a b na nb ∙ ap₂ (λ (x y : record_of.Finite). Carries (finite_row F x y)) x_is y_is) P.fits.satisfies.row;
-          below_meets_lem = subst (λ (r : below.Below). BelowMeets r j.dropped.mask) (below_finite F j.setting.operation j.setting.mode a b na nb j.dropped.g ∙ ap₂ (finite_below F j.dropped.g) x_is y_is) P.fits.satisfies.dropped;
+          row_meets_lem = subst (λ (r : Option ℕ). RowMeets r j.carries) (row_finite F j.setting.operation j.setting.mode a b na nb ∙ ap₂ (λ (x y : record_of.Finite). Some (finite_row F x y)) x_is y_is) P.fits.satisfies.row;
+          below_meets_lem = subst (λ (r : Option ℕ). BelowMeets r j.dropped.mask) (below_finite F j.setting.operation j.setting.mode a b na nb j.dropped.g ∙ ap₂ (finite_below F j.dropped.g) x_is y_is) P.fits.satisfies.dropped;
           sum_meets = subst (λ (n : ℕ). Meets n j.c.mask) (P.fits.right.sum ∙ result_finite F j.setting.operation j.setting.mode a b na nb ∙ ap₂ (finite_sum F j.setting.mode) x_is y_is) P.fits.satisfies.c_allowed.mask;
         });
       };
@@ -122,8 +120,8 @@ module _ (j : Job) (valid : Valid j) (ea eb : Biased) (fin : FinitePair j.settin
         a_allowed = record { mask = (meets_fields F.w F.f j.a.mask valid.a.mask a).1 (rw a_sign msa, rw a_exponent ma, rw a_fraction N.p_meets); within = tt };
         b_allowed = record { mask = (meets_fields F.w F.f j.b.mask valid.b.mask b).1 (rw b_sign msb, rw b_exponent mb, rw b_fraction N.q_meets); within = tt };
         c_allowed = record { mask = subst (λ (n : ℕ). Meets n j.c.mask) (sym (result_finite F j.setting.operation j.setting.mode a b na nb ∙ ap₂ (finite_sum F j.setting.mode) x_is y_is)) N.sum_meets; within = tt };
-        row = subst (λ (r : row.Row). RowMeets r j.carries) (sym (row_finite F j.setting.operation j.setting.mode a b na nb ∙ ap₂ (λ (x y : record_of.Finite). Carries (finite_row F x y)) x_is y_is)) N.row_meets_lem;
-        dropped = subst (λ (r : below.Below). BelowMeets r j.dropped.mask) (sym (below_finite F j.setting.operation j.setting.mode a b na nb j.dropped.g ∙ ap₂ (finite_below F j.dropped.g) x_is y_is)) N.below_meets_lem;
+        row = subst (λ (r : Option ℕ). RowMeets r j.carries) (sym (row_finite F j.setting.operation j.setting.mode a b na nb ∙ ap₂ (λ (x y : record_of.Finite). Some (finite_row F x y)) x_is y_is)) N.row_meets_lem;
+        dropped = subst (λ (r : Option ℕ). BelowMeets r j.dropped.mask) (sym (below_finite F j.setting.operation j.setting.mode a b na nb j.dropped.g ∙ ap₂ (finite_below F j.dropped.g) x_is y_is)) N.below_meets_lem;
       };
     };
     a_exponent = ap field_is a_exponent;

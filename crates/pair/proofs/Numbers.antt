@@ -1,5 +1,6 @@
 -- Two finite numbers with the signs and the exponent fields of two sides, whose fractions meet the sides' masks, have a sum, a row and
 -- dropped bits that meet the job's masks exactly when aligned significands make such, with the one or the other side as the larger. Assumes nothing.
+use Rattle.std.specs.Prelude.{Option}
 use mathlib.Core.Path.{◌≡◌, refl, sym, ap, ap₂, ◌∙◌, subst}
 use mathlib.Core.Bool.{Bool, true, false, not, cond, false≢true}
 use mathlib.Core.Logic.{◌↔◌, inl, inr, ⊎_elim}
@@ -31,7 +32,6 @@ use Rattle.rounding.proofs.Held.{Guards}
 use Rattle.rounding.proofs.Widths.{aligned_width}
 use Rattle.adder.specs.Result.{finite_sum}
 use Rattle.adder.specs.Row.{finite_row}
-use Rattle.adder.specs.declared.Below as below
 use Rattle.adder.specs.Below.{finite_below}
 use Rattle.fit.specs.Fit.{BelowMeets}
 use Rattle.word.proofs.Canonical.{significand_bounds, exponent_le}
@@ -90,7 +90,7 @@ exchange j x y other N =
       p_meets = N.q_meets;
       q_meets = N.p_meets;
       row_meets_lem = subst (λ (n : ℕ). Meets n j.carries) (first_same x.lhs y.lhs other (finite_row F X Y) (finite_row F Y X)) N.row_meets_lem;
-      below_meets_lem = subst (λ (b : below.Below). BelowMeets b j.dropped.mask) (below_exchanged F j.dropped.g X Y) N.below_meets_lem;
+      below_meets_lem = subst (λ (b : Option ℕ). BelowMeets b j.dropped.mask) (below_exchanged F j.dropped.g X Y) N.below_meets_lem;
       sum_meets = subst (λ (n : ℕ). Meets n j.c.mask) (sum_exchanged F j.setting.mode X Y) N.sum_meets;
     }
 

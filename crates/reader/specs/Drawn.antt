@@ -1,16 +1,16 @@
 -- What a reader of a job file draws (document 01, "Job files": "The listing program draws its jobs through a reader that carries the lent
 -- file along"): what stands at an offset of the file, and the offset after it. Assumes nothing.
+use Rattle.std.specs.Prelude.{Option, Some, None, Result, Ok, Err}
+use Rattle.format.specs.declared.cause.Cause.{Cause}
 use Rattle.std.specs.Prelude.{ℕ, ◌+◌, List, drop}
 use Rattle.records.specs.Record.{first_in}
-use Rattle.records.specs.declared.First.{First}
-use Rattle.records.specs.declared.First.TheVariants as found
 use Rattle.reader.specs.declared.Drawn.{Drawn}
 
 -- how many bytes what stands first takes: a record its length, an end or a refused record none ("the rest .. begins at the refused record")
-abbrev pub taken : First → ℕ
-taken found.End = 0
-taken (found.Job e n) = n
-taken (found.Refused k) = 0
+abbrev pub taken : Result (Option (Entry × ℕ)) Cause → ℕ
+taken (Ok None) = 0
+taken ((Ok (Some (e, n)))) = n
+taken (Err k) = 0
 
 -- what stands at the offset `at` of a file, and the offset after it
 abbrev pub drawn_at : List ℕ → ℕ → Drawn

@@ -1,5 +1,6 @@
 -- What it means that no cause stands against an entry: the job is valid and the random words have their width, so every number fits its
 -- byte count. And what a reply of reading says of the bytes. Assumes nothing.
+use Rattle.std.specs.Prelude.{Ok, Err}
 use Rattle.bounds.specs.declared.Ends.{Ends}
 use Rattle.std.specs.Prelude.{Option, Some, None}
 use mathlib.Core.Path.{◌≡◌, refl, sym, ap, ap₂, ◌∙◌}
@@ -31,7 +32,6 @@ use Rattle.numbers.specs.Numbers.{number_bytes}
 use Rattle.layout.specs.Fields.{word_bytes, map_width, with_default, layout, ends_of, field_numbers, normalised_entry, entry_numbers, field_sizes, entry_word, entry_map, says_absence}
 use Rattle.records.specs.Record.{record_cause, record_bytes, map_in, record_length, entry_in, read_cause, read_reply, format_in, first_with, first_in}
 use Rattle.layout.specs.declared.Entry.{Entry}
-use Rattle.records.specs.declared.First.TheVariants as found
 use Rattle.numbers.proofs.BySizes.{Fits, none, more, length_bytes}
 use Rattle.layout.proofs.ByMap.{counts, fits_map}
 use Rattle.layout.proofs.JobLayout.{by_width, total_most}
@@ -111,7 +111,7 @@ record_most e ok = omega (arith, record_length_lem e ok, total_most e.job.settin
 
 -- ---- replies
 
-pub reply_refused : (k : ℕ) (e : Entry) (n : ℕ) → (k ≡ 0 → ⊥) → found.Refused k ≡ read_reply k e n
+pub reply_refused : (k : ℕ) (e : Entry) (n : ℕ) → (k ≡ 0 → ⊥) → Err k ≡ read_reply k e n
 reply_refused zero e n h = absurd (h refl)
 reply_refused (suc k) e n h = refl
 
@@ -159,43 +159,43 @@ module _ (bits word : ℕ) where
     pub entry : entry_in word s ≡ e
     pub count : record_length word (map_in s) ≡ n
 
-  pub job_with : (s : List ℕ) (e : Entry) (n : ℕ) → first_with bits word s ≡ found.Job e n → Taken s e n
+  pub job_with : (s : List ℕ) (e : Entry) (n : ℕ) → first_with bits word s ≡ (Ok (Some (e, n))) → Taken s e n
   unfolding first_with
   job_with [] e n q = absurd (let z : ◌≡◌ {A = ℕ} 0 1 = cc in omega arith)
   job_with (b ∷ bs) e n q = go (read_cause bits word (b ∷ bs)) refl q
     where
-      go : (k : ℕ) → read_cause bits word (b ∷ bs) ≡ k → read_reply k (entry_in word (b ∷ bs)) (record_length word (map_in (b ∷ bs))) ≡ found.Job e n → Taken (b ∷ bs) e n
+      go : (k : ℕ) → read_cause bits word (b ∷ bs) ≡ k → read_reply k (entry_in word (b ∷ bs)) (record_length word (map_in (b ∷ bs))) ≡ (Ok (Some (e, n))) → Taken (b ∷ bs) e n
       go zero z q = record { readable = (read_none (b ∷ bs)).0 z; entry = cc; count = cc }
       go (suc k) z q = absurd (let z : ◌≡◌ {A = ℕ} 0 1 = cc in omega arith)
 
   -- and back
-  pub taken_job : (s : List ℕ) (e : Entry) (n : ℕ) → Taken s e n → first_with bits word s ≡ found.Job e n
+  pub taken_job : (s : List ℕ) (e : Entry) (n : ℕ) → Taken s e n → first_with bits word s ≡ (Ok (Some (e, n)))
   unfolding first_with record_length
   taken_job [] e n t = absurd (omega (arith, t.readable.whole))
   taken_job (b ∷ bs) e n t =
-      ap (λ (k : ℕ). read_reply k (entry_in word (b ∷ bs)) (record_length word (map_in (b ∷ bs)))) ((read_none (b ∷ bs)).1 t.readable) ∙ ap₂ found.Job t.entry t.count
+      ap (λ (k : ℕ). read_reply k (entry_in word (b ∷ bs)) (record_length word (map_in (b ∷ bs)))) ((read_none (b ∷ bs)).1 t.readable) ∙ ap₂ (Ok (Some (t.entry, t.count)))
 
-  pub end_with : (s : List ℕ) → first_with bits word s ≡ found.End → s ≡ []
+  pub end_with : (s : List ℕ) → first_with bits word s ≡ (Ok None) → s ≡ []
   unfolding first_with
   end_with [] q = refl
   end_with (b ∷ bs) q = go (read_cause bits word (b ∷ bs)) q
     where
-      go : (k : ℕ) → read_reply k (entry_in word (b ∷ bs)) (record_length word (map_in (b ∷ bs))) ≡ found.End → b ∷ bs ≡ []
+      go : (k : ℕ) → read_reply k (entry_in word (b ∷ bs)) (record_length word (map_in (b ∷ bs))) ≡ (Ok None) → b ∷ bs ≡ []
       go zero q = absurd (let z : ◌≡◌ {A = ℕ} 0 1 = cc in omega arith)
       go (suc k) q = absurd (let z : ◌≡◌ {A = ℕ} 0 1 = cc in omega arith)
 
   -- the number of a refusal is not 0
-  pub refused_with : (s : List ℕ) (k : ℕ) → first_with bits word s ≡ found.Refused k → 0 < k
+  pub refused_with : (s : List ℕ) (k : ℕ) → first_with bits word s ≡ Err k → 0 < k
   unfolding first_with
   refused_with [] k q = absurd (let z : ◌≡◌ {A = ℕ} 0 1 = cc in omega arith)
   refused_with (b ∷ bs) k q = go (read_cause bits word (b ∷ bs)) q
     where
-      go : (j : ℕ) → read_reply j (entry_in word (b ∷ bs)) (record_length word (map_in (b ∷ bs))) ≡ found.Refused k → 0 < k
+      go : (j : ℕ) → read_reply j (entry_in word (b ∷ bs)) (record_length word (map_in (b ∷ bs))) ≡ Err k → 0 < k
       go zero q = absurd (let z : ◌≡◌ {A = ℕ} 0 1 = cc in omega arith)
       go (suc j) q = let p : suc j ≡ k = cc in omega arith
 
   -- ---- reading, test by test
-  pub none_left_with : (s : List ℕ) → length s ≡ 0 → first_with bits word s ≡ found.End
+  pub none_left_with : (s : List ℕ) → length s ≡ 0 → first_with bits word s ≡ (Ok None)
   unfolding first_with
   none_left_with [] e = refl
   none_left_with (b ∷ bs) e = absurd (omega arith)
@@ -217,7 +217,7 @@ module _ (bits word : ℕ) where
     by_cause : (k : ℕ) → read_cause bits word s ≡ k → first_with bits word s ≡ read_reply k (entry_in word s) (record_length word (map_in s))
     by_cause k e = first_some_left s some ∙ ap (λ (j : ℕ). read_reply j (entry_in word s) (record_length word (map_in s))) e
 
-    pub early_with : (early_cause s ≡ 0 → ⊥) → first_with bits word s ≡ found.Refused (early_cause s)
+    pub early_with : (early_cause s ≡ 0 → ⊥) → first_with bits word s ≡ Err (early_cause s)
     early_with h =
         by_cause (early_cause s) (cause_split s ∙ first_some (early_cause s) (late_cause word s) h)
         ∙ sym (reply_refused (early_cause s) (entry_in word s) (record_length word (map_in s)) h)
@@ -238,18 +238,18 @@ module _ (bits word : ℕ) where
 abbrev pub word_in : List ℕ → ℕ
 word_in s = word_bytes (format_in s)
 
-pub first_job : (s : List ℕ) (e : Entry) (n : ℕ) → first_in s ≡ found.Job e n → Taken map_width (word_in s) s e n
+pub first_job : (s : List ℕ) (e : Entry) (n : ℕ) → first_in s ≡ (Ok (Some (e, n))) → Taken map_width (word_in s) s e n
 unfolding first_in
 first_job s = job_with map_width (word_in s) s
 
-pub first_end : (s : List ℕ) → first_in s ≡ found.End → s ≡ []
+pub first_end : (s : List ℕ) → first_in s ≡ (Ok None) → s ≡ []
 unfolding first_in
 first_end s = end_with map_width (word_in s) s
 
-pub first_refused : (s : List ℕ) (k : ℕ) → first_in s ≡ found.Refused k → 0 < k
+pub first_refused : (s : List ℕ) (k : ℕ) → first_in s ≡ Err k → 0 < k
 unfolding first_in
 first_refused s = refused_with map_width (word_in s) s
 
-pub first_none_left : (s : List ℕ) → length s ≡ 0 → first_in s ≡ found.End
+pub first_none_left : (s : List ℕ) → length s ≡ 0 → first_in s ≡ (Ok None)
 unfolding first_in
 first_none_left s = none_left_with map_width (word_in s) s

@@ -1,6 +1,8 @@
 -- One record: what was written, followed by any bytes, reads as the entry with those bytes as the rest, its g taken as 0 where no dropped
 -- bit is fixed, and bytes that read as an entry are what writing that entry gives. So entries that are not taken alike have different
 -- records, and no record is the start of another. Assumes nothing.
+use Rattle.std.specs.Prelude.{Option, Some, Result, Ok}
+use Rattle.format.specs.declared.cause.Cause.{Cause}
 use mathlib.Core.Path.{◌≡◌, sym, ap, ap₂, ◌∙◌}
 use mathlib.Core.Bool.{Bool, not}
 use Prim.Native.Nat.{ℕ, ◌+◌, ◌^◌, ◌≤◌, ◌<◌}
@@ -25,8 +27,6 @@ use Rattle.layout.proofs.ByMap.{Absent, neither, read_absent}
 use Rattle.layout.proofs.Maps.{entry_map_lt, absence_map, own_absence}
 use Rattle.layout.proofs.Entries.{entry_back, numbers_again, entry_same, numbers_same, read_announces, numbers_read, entry_absent, read_normalised}
 use Rattle.records.specs.Record.{map_bytes, header_bytes, headed, record_cause, record_bytes, map_in, record_length, format_in, operation_in, numbers_in, entry_in, first_with, first_in, rest, rest_after}
-use Rattle.records.specs.declared.First.{First}
-use Rattle.records.specs.declared.First.TheVariants as found
 use Rattle.records.proofs.Headers.{map_headed, format_headed, entry_headed, take_headed, entry_map_fits, map_fits, headed_back}
 use Rattle.records.proofs.Causes.{record_fits, record_length_lem, Readable, Taken, taken_job, word_in, first_job, late_cause}
 
@@ -73,7 +73,7 @@ module _ (e : Entry) (t : List ℕ) (ok : record_cause e ≡ 0) where
         count = long;
       }
 
-  pub read_written : first_in (record_bytes e ++ t) ≡ found.Job (normalised_entry e) (length (record_bytes e))
+  pub read_written : first_in (record_bytes e ++ t) ≡ (Ok (Some ((normalised_entry e), (length (record_bytes e)))))
   unfolding first_in
   read_written =
       ap (λ (word : ℕ). first_with map_width word (record_bytes e ++ t)) same_word
@@ -82,7 +82,7 @@ module _ (e : Entry) (t : List ℕ) (ok : record_cause e ≡ 0) where
   -- the bytes that follow are the rest
   pub rest_written : rest (record_bytes e ++ t) ≡ t
   unfolding rest
-  rest_written = ap (λ (r : First). rest_after r (record_bytes e ++ t)) read_written ∙ drop-append_seam (record_bytes e) t
+  rest_written = ap (λ (r : Result (Option (Entry × ℕ)) Cause). rest_after r (record_bytes e ++ t)) read_written ∙ drop-append_seam (record_bytes e) t
 
 -- ---- read and written back
 
@@ -133,7 +133,7 @@ record_read s b r =
     ∙ sym (take_headed m (format_in s) (operation_in s) t n) ∙ ap (take (header_bytes m + n)) (headed_back s b (omega (arith, r.whole)))
 
 -- bytes that read as an entry are the record of that entry, against which no cause stands
-pub written_read : (s : List ℕ) → Bytes s → (e : Entry) (n : ℕ) → first_in s ≡ found.Job e n
+pub written_read : (s : List ℕ) → Bytes s → (e : Entry) (n : ℕ) → first_in s ≡ (Ok (Some (e, n)))
     → (record_cause e ≡ 0) × (record_bytes e ≡ take n s) × (n ≤ length s)
 written_read s b e n q =
     let taken = first_job s e n q in (
@@ -143,7 +143,7 @@ written_read s b e n q =
     )
 
 -- and the entry is as it is written
-pub read_same : (s : List ℕ) (e : Entry) (n : ℕ) → first_in s ≡ found.Job e n → normalised_entry e ≡ e
+pub read_same : (s : List ℕ) (e : Entry) (n : ℕ) → first_in s ≡ (Ok (Some (e, n))) → normalised_entry e ≡ e
 read_same s e n q =
     let taken = first_job s e n q in
     ap normalised_entry (sym taken.entry) ∙ entry_same (entry_in (word_in s) s) (read_taken map_width (word_in s) s taken.readable) ∙ taken.entry
@@ -155,11 +155,11 @@ pub no_prefix : (e d : Entry) (t : List ℕ) → record_cause e ≡ 0 → record
     → (normalised_entry e ≡ normalised_entry d) × (t ≡ [])
 no_prefix e d t p q same =
     let whole : record_bytes e ++ t ≡ record_bytes d ++ [] = same ∙ sym (append-nil (record_bytes d)) in
-    let one : found.Job (normalised_entry e) (length (record_bytes e)) ≡ found.Job (normalised_entry d) (length (record_bytes d)) =
+    let one : (Ok (Some ((normalised_entry e), (length (record_bytes e))))) ≡ (Ok (Some ((normalised_entry d), (length (record_bytes d))))) =
     sym (read_written e t p) ∙ ap first_in whole ∙ read_written d [] q in
     (job_same one, sym (rest_written e t p) ∙ ap rest whole ∙ rest_written d [] q)
   where
-    job_same : {x y : Entry} {k n : ℕ} → found.Job x k ≡ found.Job y n → x ≡ y
+    job_same : {x y : Entry} {k n : ℕ} → (Ok (Some (x, k))) ≡ (Ok (Some (y, n))) → x ≡ y
     job_same r = cc
 
 pub record_injective : (e d : Entry) → record_cause e ≡ 0 → record_cause d ≡ 0 → record_bytes e ≡ record_bytes d → normalised_entry e ≡ normalised_entry d

@@ -1,5 +1,7 @@
 -- Job records (document 01, "Job files", "Causes and replies"; document 02, W-202, W-206, W-207): the bytes of a job's record, what stands first in a list of bytes and
 -- the rest after it, and what writing does to a buffer. An entry is a job with its two random words. Assumes nothing.
+use Rattle.std.specs.Prelude.{Option, Some, None, Result, Ok, Err}
+use Rattle.format.specs.declared.cause.Cause.{Cause}
 use Rattle.std.specs.Prelude.{not, ℕ, zero, suc, ◌+◌, ◌^◌, List, [], ◌∷◌, ◌++◌, length, get_or, take, drop, leb, ltb}
 use Rattle.bits.specs.Bit.{bit}
 use Rattle.format.specs.declared.cause.Cause.TheVariants as cause
@@ -11,10 +13,6 @@ use Rattle.numbers.specs.Numbers.{total, number_bytes, numbers}
 use Rattle.layout.specs.declared.Entry.{Entry}
 use Rattle.layout.specs.Fields.{announcing, entry_numbers, entry_with, field_sizes, entry_word, entry_map, says_absence}
 use Rattle.records.specs.Version.{Version, current}
-use Rattle.records.specs.declared.First.{First}
-use Rattle.records.specs.declared.First.TheVariants as found
-use Rattle.records.specs.declared.Writing.{Writing}
-use Rattle.records.specs.declared.Writing.TheVariants as reply
 
 -- ---- the record's bytes
 
@@ -73,27 +71,27 @@ read_cause bits word s =
     (first (record_cause (entry_in word s)) (unless (not (says_absence word (map_in s) (entry_numbers (entry_in word s)))) cause.DefaultField)))
 
 -- a job where no cause stands, else the cause's number
-abbrev pub read_reply : ℕ → Entry → ℕ → First
-read_reply zero e n = found.Job e n
-read_reply (suc k) e n = found.Refused (suc k)
+abbrev pub read_reply : ℕ → Entry → ℕ → Result (Option (Entry × ℕ)) Cause
+read_reply zero e n = (Ok (Some (e, n)))
+read_reply (suc k) e n = Err (suc k)
 
 -- what stands first, with words of `word` bytes: "with no byte left it says end", else a job with its length, or the number of a refusal
-unfoldable pub first_with : ℕ → ℕ → List ℕ → First
-first_with bits word [] = found.End
+unfoldable pub first_with : ℕ → ℕ → List ℕ → Result (Option (Entry × ℕ)) Cause
+first_with bits word [] = (Ok None)
 first_with bits word (b ∷ bs) = read_reply (read_cause bits word (b ∷ bs)) (entry_in word (b ∷ bs)) (record_length word (map_in (b ∷ bs)))
 
 -- the same for a version of the job files, whose words are as long as w and f say; and for this one
-abbrev pub first_by : Version → List ℕ → First
+abbrev pub first_by : Version → List ℕ → Result (Option (Entry × ℕ)) Cause
 first_by v s = first_with v.bits (v.word (format_in s)) s
 
-unfoldable pub first_in : List ℕ → First
+unfoldable pub first_in : List ℕ → Result (Option (Entry × ℕ)) Cause
 first_in s = first_by current s
 
 -- "the reader hands back the rest of the file"; on a refusal "the rest .. begins at the refused record"
-abbrev pub rest_after : First → List ℕ → List ℕ
-rest_after found.End s = []
-rest_after (found.Job e n) s = drop n s
-rest_after (found.Refused k) s = s
+abbrev pub rest_after : Result (Option (Entry × ℕ)) Cause → List ℕ → List ℕ
+rest_after (Ok None) s = []
+rest_after ((Ok (Some (e, n)))) s = drop n s
+rest_after (Err k) s = s
 
 -- the bytes after what stands first
 unfoldable pub rest : List ℕ → List ℕ
@@ -106,12 +104,12 @@ unfoldable pub write_cause : Entry → ℕ → ℕ
 write_cause e n = first (record_cause e) (unless (leb (length (record_bytes e)) n) cause.Buffer)
 
 -- the byte count where no cause stands, else the cause's number
-abbrev pub write_reply : ℕ → ℕ → Writing
-write_reply zero n = reply.Written n
-write_reply (suc k) n = reply.Refused (suc k)
+abbrev pub write_reply : ℕ → ℕ → Result ℕ Cause
+write_reply zero n = Ok n
+write_reply (suc k) n = Err (suc k)
 
 -- the reply: "it returns the byte count"
-unfoldable pub writing : Entry → List ℕ → Writing
+unfoldable pub writing : Entry → List ℕ → Result ℕ Cause
 writing e s = write_reply (write_cause e (length s)) (length (record_bytes e))
 
 -- the buffer after writing: the record, and "bytes after the record are untouched"; where a cause stands, "the whole buffer" as it was

@@ -1,5 +1,6 @@
 -- Words of one sign and one exponent field whose fractions are both 0 or both not are of one kind. Where an operand is infinite or a NaN
 -- there is no row, and operands of one kind have one rounded result; so have any two finite operands beside it. Assumes nothing.
+use Rattle.std.specs.Prelude.{None}
 use mathlib.Core.Path.{◌≡◌, refl, sym, ap, ap₂, ◌∙◌}
 use mathlib.Core.Logic.{◌⊎◌, inl, inr}
 use mathlib.Core.Bool.{Bool, true, false, cond}
@@ -11,12 +12,10 @@ use Rattle.format.specs.declared.Format.{Format}
 use Rattle.word.specs.declared.Finite as record_of
 use Rattle.word.specs.declared.Operand as kind
 use Rattle.word.specs.declared.Operand.TheVariants.{Finite, Infinite, Nan}
-use Rattle.adder.specs.declared.Row.TheVariants.{NoRow}
 use Rattle.word.specs.Word.{fraction, biased, sign, all_ones, effective}
 use Rattle.word.specs.Operand.{finite_of, operand_of}
 use Rattle.adder.specs.Result.{infinite_sum, kind_sum, result_of}
 use Rattle.adder.specs.Row.{kind_row, row_of}
-use Rattle.adder.specs.declared.Below.TheVariants.{NoBits}
 use Rattle.adder.specs.Below.{kind_below, below_of}
 use Rattle.word.proofs.Fields.{effective_sign_lem, effective_biased, effective_fraction}
 use Rattle.word.proofs.Canonical.{operand_finite}
@@ -49,13 +48,13 @@ sum_second F mode (Finite y) n u v = absurd n
 sum_second F mode (Infinite t) n u v = refl
 sum_second F mode Nan n u v = refl
 
-row_first : (F : Format) (x y : kind.Operand) → NotFinite x → kind_row F x y ≡ NoRow
+row_first : (F : Format) (x y : kind.Operand) → NotFinite x → kind_row F x y ≡ None
 unfolding kind_row
 row_first F (Finite x) y n = absurd n
 row_first F (Infinite s) y n = refl
 row_first F Nan y n = refl
 
-row_second : (F : Format) (x y : kind.Operand) → NotFinite y → kind_row F x y ≡ NoRow
+row_second : (F : Format) (x y : kind.Operand) → NotFinite y → kind_row F x y ≡ None
 unfolding kind_row
 row_second F (Finite x) (Finite y) n = absurd n
 row_second F (Finite x) (Infinite t) n = refl
@@ -64,19 +63,19 @@ row_second F (Infinite s) y n = refl
 row_second F Nan y n = refl
 
 -- there is no row
-pub special_row : (F : Format) (operation a b : ℕ) → ((biased F a).0 ≡ all_ones F) ⊎ ((biased F b).0 ≡ all_ones F) → row_of F operation a b ≡ NoRow
+pub special_row : (F : Format) (operation a b : ℕ) → ((biased F a).0 ≡ all_ones F) ⊎ ((biased F b).0 ≡ all_ones F) → row_of F operation a b ≡ None
 unfolding row_of
 special_row F operation a b (inl e) = row_first F (operand_of F a) (operand_of F (effective F operation b)) (not_finite F a e)
 special_row F operation a b (inr e) =
     row_second F (operand_of F a) (operand_of F (effective F operation b)) (not_finite F (effective F operation b) (effective_biased F operation b ∙ e))
 
-below_first : (F : Format) (g : ℕ) (x y : kind.Operand) → NotFinite x → kind_below F g x y ≡ NoBits
+below_first : (F : Format) (g : ℕ) (x y : kind.Operand) → NotFinite x → kind_below F g x y ≡ None
 unfolding kind_below
 below_first F g (Finite x) y n = absurd n
 below_first F g (Infinite s) y n = refl
 below_first F g Nan y n = refl
 
-below_second : (F : Format) (g : ℕ) (x y : kind.Operand) → NotFinite y → kind_below F g x y ≡ NoBits
+below_second : (F : Format) (g : ℕ) (x y : kind.Operand) → NotFinite y → kind_below F g x y ≡ None
 unfolding kind_below
 below_second F g (Finite x) (Finite y) n = absurd n
 below_second F g (Finite x) (Infinite t) n = refl
@@ -85,7 +84,7 @@ below_second F g (Infinite s) y n = refl
 below_second F g Nan y n = refl
 
 -- nor a bit below the last
-pub special_below : (F : Format) (operation g a b : ℕ) → ((biased F a).0 ≡ all_ones F) ⊎ ((biased F b).0 ≡ all_ones F) → below_of F operation g a b ≡ NoBits
+pub special_below : (F : Format) (operation g a b : ℕ) → ((biased F a).0 ≡ all_ones F) ⊎ ((biased F b).0 ≡ all_ones F) → below_of F operation g a b ≡ None
 unfolding below_of
 special_below F operation g a b (inl e) = below_first F g (operand_of F a) (operand_of F (effective F operation b)) (not_finite F a e)
 special_below F operation g a b (inr e) =

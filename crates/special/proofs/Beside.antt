@@ -1,5 +1,6 @@
 -- Beside an infinite operand or a NaN a finite one may have any exponent field of finite numbers that meets its mask: a case with the one
 -- field gives a case with the other. Assumes nothing.
+use Rattle.std.specs.Prelude.{Option}
 use mathlib.Core.Path.{◌≡◌, sym, ap, ◌∙◌, subst}
 use mathlib.Core.Logic.{inl, inr}
 use Prim.Native.Nat.{ℕ, ◌+◌, ◌/◌, ◌^◌, ◌<◌}
@@ -17,8 +18,6 @@ use Rattle.word.specs.declared.Biased.{Biased}
 use Rattle.word.specs.Word.{sign, biased, fraction, all_ones, word_of}
 use Rattle.word.specs.Masks.{exponent_mask}
 use Rattle.word.proofs.Fields.{signed_lt, together_lt, together_sign, together_biased, together_fraction}
-use Rattle.adder.specs.declared.Row as row
-use Rattle.adder.specs.declared.Below as below
 use Rattle.fit.specs.Fit.{RowMeets, row_in, below_in, BelowMeets}
 use Rattle.special.specs.Asked.{field_is, PairFits}
 use Rattle.special.specs.Special.{Special, Unfixed}
@@ -66,10 +65,10 @@ module _ (j : Job) (valid : Valid j) (E e g : Biased) (ones : E.0 ≡ all_ones j
   all_ones_lem x is = ap (λ (n : Biased). n.0) is ∙ ones
 
   rowless : (a b : ℕ) → Special F (biased F a) (biased F b) → Unfixed j → RowMeets (row_in j.setting a b) j.carries
-  rowless a b special free = subst (λ (r : row.Row). RowMeets r j.carries) (sym (special_row F j.setting.operation a b special)) free.carries
+  rowless a b special free = subst (λ (r : Option ℕ). RowMeets r j.carries) (sym (special_row F j.setting.operation a b special)) free.carries
 
   bitless : (a b : ℕ) → Special F (biased F a) (biased F b) → Unfixed j → BelowMeets (below_in j.setting j.dropped.g a b) j.dropped.mask
-  bitless a b special free = subst (λ (r : below.Below). BelowMeets r j.dropped.mask) (sym (special_below F j.setting.operation j.dropped.g a b special)) free.dropped
+  bitless a b special free = subst (λ (r : Option ℕ). BelowMeets r j.dropped.mask) (sym (special_below F j.setting.operation j.dropped.g a b special)) free.dropped
 
   pub beside_a : Meets g.0 (exponent_mask F j.b.mask) → PairFits j E e → PairFits j E g
   beside_a met p = record {

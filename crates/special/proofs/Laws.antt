@@ -1,5 +1,6 @@
 -- The tries of the representatives settle the pair: where one succeeds a case fits, and where a case fits, the representatives of its
 -- operands' kinds go together. Assumes nothing.
+use Rattle.std.specs.Prelude.{Option, Ok}
 use mathlib.Core.Path.{◌≡◌, refl, sym, ap, ◌∙◌, subst, subst₂}
 use mathlib.Core.Logic.{◌↔◌, inl, inr}
 use mathlib.Core.Bool.{Bool, true, false, ◌&&◌, and-eq-true_iff}
@@ -16,9 +17,6 @@ use Rattle.job.specs.declared.Job.{Job}
 use Rattle.job.specs.Job.{Valid}
 use Rattle.word.specs.declared.Biased.{Biased}
 use Rattle.word.specs.Word.{biased}
-use Rattle.adder.specs.declared.Row as row
-use Rattle.adder.specs.declared.Below as below
-use Rattle.adder.specs.declared.Reply.TheVariants.{Word}
 use Rattle.adder.specs.Result.{result_reply}
 use Rattle.adder.proofs.Causes.{result_word}
 use Rattle.adder.proofs.ResultLaws.{result_lt}
@@ -37,7 +35,7 @@ some_none n test e f = rw (e, f)
 module _ (j : Job) (valid : Valid j) where
   -- the reply about two of them is their rounded result
   pub result_replied : (a b : ℕ) → a < 2 ^ word_bits j.setting.format → b < 2 ^ word_bits j.setting.format
-      → result_reply j.setting.format j.setting.operation j.setting.mode a b ≡ Word (result_in j.setting a b)
+      → result_reply j.setting.format j.setting.operation j.setting.mode a b ≡ Ok (result_in j.setting a b)
   result_replied a b ha hb = result_word j.setting.format j.setting.operation j.setting.mode a b (words_fit j.setting valid.setting a b ha hb) valid.setting.mode
 
   -- a test of three words
@@ -66,8 +64,8 @@ module _ (j : Job) (valid : Valid j) where
           a_allowed = record { mask = m.0; within = tt };
           b_allowed = record { mask = m.1; within = tt };
           c_allowed = record { mask = m.2; within = tt };
-          row = subst (λ (r : row.Row). RowMeets r j.carries) (sym (special_row j.setting.format j.setting.operation a b special)) free.carries;
-          dropped = subst (λ (r : below.Below). BelowMeets r j.dropped.mask) (sym (special_below j.setting.format j.setting.operation j.dropped.g a b special)) free.dropped;
+          row = subst (λ (r : Option ℕ). RowMeets r j.carries) (sym (special_row j.setting.format j.setting.operation a b special)) free.carries;
+          dropped = subst (λ (r : Option ℕ). BelowMeets r j.dropped.mask) (sym (special_below j.setting.format j.setting.operation j.dropped.g a b special)) free.dropped;
         };
       }
 

@@ -1,5 +1,6 @@
 -- Where x, y and the carry in are fixed and nothing else is, one case fits, the sum, and the reply is that case whatever the random words.
 -- Assumes nothing.
+use Rattle.std.specs.Prelude.{Ok}
 use mathlib.Core.Path.{◌≡◌, sym, ap, ap₂, ◌∙◌}
 use mathlib.Core.Logic.{inr}
 use Prim.Native.Nat.{ℕ, ◌+◌, ◌-◌, ◌*◌, ◌%◌, ◌^◌, ◌≤◌, ◌<◌}
@@ -15,7 +16,6 @@ use Rattle.columns.specs.Carry.{carry}
 use Rattle.columns.proofs.Carry.{carry_zero, sum_total, carries_bit, carries_lt}
 use Rattle.whole.specs.declared.Words.{Words}
 use Rattle.whole.specs.declared.Case.{Case}
-use Rattle.whole.specs.declared.Reply.TheVariants.{Found}
 use Rattle.whole.specs.Fits.{Adds, Fits}
 use Rattle.whole.specs.Sum.{all_fixed, addends}
 use Rattle.whole.specs.Reply.{Replied}
@@ -75,7 +75,7 @@ module _ (n x y c : ℕ) (least : least_length ≤ n) (hx : x < 2 ^ n) (hy : y <
       )
 
   pub sum_replied : n ≤ most_length → (w : Words) → w.x < 2 ^ n → w.y < 2 ^ n → w.z < 2 ^ n
-      → Replied (record { length = n; masks = addends n x y c; words = w }) (Found (sum_case n x y c))
+      → Replied (record { length = n; masks = addends n x y c; words = w }) (Ok (sum_case n x y c))
   sum_replied most w wx wy wz = (
     (job_none (record { length = n; masks = addends n x y c; words = w })).1 (record {
       least = least;

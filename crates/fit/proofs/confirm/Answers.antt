@@ -1,13 +1,13 @@
 -- `fit::confirm` meets its contract. Assumes nothing.
+use Rattle.std.specs.Prelude.{Err}
 use mathlib.Core.Path.{◌≡◌, refl, sym, ap, ◌∙◌}
 use Prim.Native.Nat.{ℕ, zero, suc}
 use mathlib.Core.Bool.{Bool}
-use Rattle.fit.specs.declared.Confirmed.TheVariants.{Refused}
 use Rattle.fit.specs.Fit.{fits, answer, answer_for}
 use Rattle.fit.proofs.Laws.{case_none}
 use Rattle.fit.proofs.confirm.Goals as goal
 
-refused : (n : ℕ) (t : Bool) → (n ≡ 0 → ⊥) → Refused n ≡ answer_for n t
+refused : (n : ℕ) (t : Bool) → (n ≡ 0 → ⊥) → Err n ≡ answer_for n t
 refused zero t ne = absurd (ne refl)
 refused (suc n) t ne = refl
 

@@ -1,6 +1,6 @@
 -- `fit::dropped_meet` meets its contract: a mask that fixes no bit is met whatever the bits are. Assumes nothing.
+use Rattle.std.specs.Prelude.{Option}
 use mathlib.Core.Path.{sym, ap, ◌∙◌}
-use Rattle.adder.specs.declared.Below.{Below}
 use Rattle.fit.specs.Fit.{below_in, below_meets}
 use Rattle.fit.proofs.Laws.{below_meets_true, unfixed_met}
 use Rattle.fit.proofs.dropped_meet.Goals as goal
@@ -15,4 +15,4 @@ returns-then-dropped-eq0 c =
 pub returns : goal.returns
 returns c =
     let below = c.below_last-below.ensures.0 (c.requires.0.format, c.requires.1.g_most) in
-    c.below_meets.ensures ∙ ap (λ (b : Below). below_meets b c.args.dropped.mask) below
+    c.below_meets.ensures ∙ ap (λ (b : Option ℕ). below_meets b c.args.dropped.mask) below

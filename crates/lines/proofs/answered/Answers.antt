@@ -1,7 +1,7 @@
 -- `lines::answered` meets its contract. Assumes nothing.
+use Rattle.std.specs.Prelude.{Some}
 use mathlib.Core.Path.{ap}
 use mathlib.Core.Bool.{Bool}
-use Rattle.lines.specs.declared.Then.TheVariants.{On}
 use Rattle.lines.proofs.answered.Goals as goal
 
 pub returns : goal.returns
@@ -11,5 +11,5 @@ returns c =
       reply = c.generate-reply.result;
       replied = c.generate-reply.ensures;
       says = c.reply_line-line.ensures;
-      then = ap (λ (t : Bool). On (record { at = a.next; lines = a.n; stopped = t })) c.stops-stopped.ensures;
+      then = ap (λ (t : Bool). Some (record { at = a.next; lines = a.n; stopped = t })) c.stops-stopped.ensures;
     }

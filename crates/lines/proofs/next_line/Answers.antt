@@ -1,4 +1,6 @@
 -- `lines::next_line` meets its contract: each way out is one of the listing's lines. Assumes nothing.
+use Rattle.std.specs.Prelude.{Option, Some, Result, Ok}
+use Rattle.format.specs.declared.cause.Cause.{Cause}
 use mathlib.Core.Path.{◌≡◌, sym, ap, ◌∙◌, subst}
 use mathlib.Core.Logic.{inl, inr, ⊎_elim}
 use Prim.Native.Nat.{ℕ, ◌+◌, ◌≤◌}
@@ -8,33 +10,29 @@ use lib.ListN.{length, drop}
 use borrow.Author.Tests.{not-true, not-false}
 use Rattle.records.specs.Record.{first_in}
 use Rattle.layout.specs.declared.Entry.{Entry}
-use Rattle.records.specs.declared.First.{First}
-use Rattle.records.specs.declared.First.TheVariants as found
 use Rattle.reader.specs.Drawn.{taken}
 use Rattle.reader.specs.declared.Drawn.{Drawn}
 use Rattle.lines.specs.Text.{text, Says}
 use Rattle.lines.specs.Listing.{longest, stops, Reading, Lists, long, end, refused, answered}
 use Rattle.lines.specs.Step.{Steps, Answers}
 use Rattle.lines.specs.declared.Place.{Place}
-use Rattle.lines.specs.declared.Then.{Then}
-use Rattle.lines.specs.declared.Then.TheVariants.{On}
 use Rattle.lines.specs.declared.Step.{Step}
 use Rattle.lines.specs.declared.text.Line.{Line}
 use Rattle.lines.proofs.next_line.Goals as goal
 
 -- a line that says what the listing has next
-steps : {s : List ℕ} {p : Place} {l : Line} {bs : List ℕ} {x : Then} → Says l bs → Lists s p bs x → Steps s p (record { line = l; then = x })
+steps : {s : List ℕ} {p : Place} {l : Line} {bs : List ℕ} {x : Option Place} → Says l bs → Lists s p bs x → Steps s p (record { line = l; then = x })
 steps {s} {p} {l} {bs} {x} said lists = record { most = said.most; lists = subst (λ (t : List ℕ). Lists s p t x) (sym said.text) lists }
 
 -- an answer to the job that stands at the place
-answer : {s : List ℕ} {p : Place} {e : Entry} {n next : ℕ} {r : Step} → length s ≤ longest → Reading p → first_in (drop p.at s) ≡ found.Job e n → next ≡ p.at + n
+answer : {s : List ℕ} {p : Place} {e : Entry} {n next : ℕ} {r : Step} → length s ≤ longest → Reading p → first_in (drop p.at s) ≡ (Ok (Some (e, n))) → next ≡ p.at + n
     → Answers e (p.lines + 1) next r → Steps s p r
 answer {s} {p} {e} {n} {next} {r} short reads_on job at a =
-    let on : On (record { at = p.at + n; lines = p.lines + 1; stopped = stops a.reply }) ≡ r.then =
-    ap (λ (m : ℕ). On (record { at = m; lines = p.lines + 1; stopped = stops a.reply })) (sym at) ∙ sym a.then in
+    let on : Some (record { at = p.at + n; lines = p.lines + 1; stopped = stops a.reply }) ≡ r.then =
+    ap (λ (m : ℕ). Some (record { at = m; lines = p.lines + 1; stopped = stops a.reply })) (sym at) ∙ sym a.then in
     record {
       most = a.says.most;
-      lists = subst (λ (x : Then). Lists s p (text r.line) x) on (steps a.says (answered a.reply short reads_on job a.replied)).lists;
+      lists = subst (λ (x : Option Place). Lists s p (text r.line) x) on (steps a.says (answered a.reply short reads_on job a.replied)).lists;
     }
 
 pub returns-then-file-gt-LONGEST : goal.returns-then-file-gt-LONGEST
@@ -56,12 +54,12 @@ returns-in-End c =
     let stands : first_in (drop c.args.place.at c.args.file.now) ≡ c.draw-drawn.result.first = sym (ap (λ (d : Drawn). d.first) c.draw-drawn.ensures) in
     steps c.end_line-in-End.ensures (end (short) (inr (inr (stands ∙ c.in-End.is))))
 
-pub returns-in-Refused : goal.returns-in-Refused
-returns-in-Refused c =
+pub returns-in-Err : goal.returns-in-Err
+returns-in-Err c =
     let short : length c.args.file.now ≤ longest = c.if-file-gt-LONGEST.false in
     let reads_on : Reading c.args.place = c.reading.ensures.0 (not-false c.reading.result c.if-not-reading.false-raw) in
     let stands : first_in (drop c.args.place.at c.args.file.now) ≡ c.draw-drawn.result.first = sym (ap (λ (d : Drawn). d.first) c.draw-drawn.ensures) in
-    steps c.refused_line.ensures (refused (short) (reads_on) (stands ∙ c.in-Refused.is))
+    steps c.refused_line.ensures (refused (short) (reads_on) (stands ∙ c.in-Err.is))
 
 pub returns-in-Job : goal.returns-in-Job
 returns-in-Job c =
@@ -70,5 +68,5 @@ returns-in-Job c =
     let stands : first_in (drop c.args.place.at c.args.file.now) ≡ c.draw-drawn.result.first = sym (ap (λ (d : Drawn). d.first) c.draw-drawn.ensures) in
     let p = c.args.place in
     let job = stands ∙ c.in-Job.is in
-    let next = ap (λ (x : Drawn). x.next) c.draw-drawn.ensures ∙ ap (λ (x : First). p.at + taken x) job in
+    let next = ap (λ (x : Drawn). x.next) c.draw-drawn.ensures ∙ ap (λ (x : Result (Option (Entry × ℕ)) Cause). p.at + taken x) job in
     answer (short) (reads_on) job next c.answered.ensures

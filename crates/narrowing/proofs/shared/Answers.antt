@@ -11,12 +11,12 @@ use Rattle.narrowing.proofs.shared.Goals as goal
 pub overflow_cast-l : goal.overflow_cast-l
 overflow_cast-l c = omega (arith, leading_le 64 (bit_xor c.args.l c.args.h))
 
-pub returns-in-Mask : goal.returns-in-Mask
-returns-in-Mask c =
+pub returns-in-Ok : goal.returns-in-Ok
+returns-in-Ok c =
     let a = c.args in
     λ room le hh.
-    joined_shares a.place a.l a.h room le hh c.minus-apart.result c.minus-apart.ensures a.mask c.in-Mask.m
+    joined_shares a.place a.l a.h room le hh c.minus-apart.result c.minus-apart.ensures a.mask c.in-Ok.m
     (record { care = c.without_low.result; value = c.without_low-2.result })
     (c.without_low.ensures
     ∙ ap (λ (n : ℕ). n - n % 2 ^ c.minus-apart.result) (c.minus.ensures ∙ ap (λ (n : ℕ). n - 1) (c.power.ensures ∙ power_exact a.place room)))
-    c.without_low-2.ensures (sym c.join-joined.ensures ∙ c.in-Mask.is)
+    c.without_low-2.ensures (sym c.join-joined.ensures ∙ c.in-Ok.is)

@@ -1,5 +1,7 @@
 -- `reader::drawn_at` meets its contract: the part from the offset on is what is left of the file there, and a record that stands first in
 -- it lies in it. Assumes nothing.
+use Rattle.std.specs.Prelude.{Option, Some, None, Result, Ok}
+use Rattle.format.specs.declared.cause.Cause.{Cause}
 use mathlib.Core.Path.{◌≡◌, refl, sym, ap, ◌∙◌}
 use Prim.Native.Nat.{ℕ, ◌+◌, ◌-◌}
 use native.Mathlib.Nat.{le_of_eq}
@@ -8,22 +10,20 @@ use mathlib.Core.List.{List}
 use lib.ListN.{length, drop, length-drop}
 use lib.Seq.{take_all}
 use Rattle.records.specs.Record.{first_in}
-use Rattle.records.specs.declared.First.{First}
-use Rattle.records.specs.declared.First.TheVariants as found
 use Rattle.records.proofs.Causes.{first_job, first_none_left}
 use Rattle.reader.specs.Drawn.{taken, drawn_at}
 use Rattle.reader.proofs.drawn_at.Goals as goal
 
 -- what is drawn, of what stands first
-drawn : (s : List ℕ) (at : ℕ) (x : First) → x ≡ first_in (drop at s) → record { first = x; next = at + taken x } ≡ drawn_at s at
-drawn s at x q = ap (λ (y : First). record { first = y; next = at + taken y }) q
+drawn : (s : List ℕ) (at : ℕ) (x : Result (Option (Entry × ℕ)) Cause) → x ≡ first_in (drop at s) → record { first = x; next = at + taken x } ≡ drawn_at s at
+drawn s at x q = ap (λ (y : Result (Option (Entry × ℕ)) Cause). record { first = y; next = at + taken y }) q
 
 -- what takes no byte
-drawn_none : (s : List ℕ) (at : ℕ) (x : First) → x ≡ first_in (drop at s) → taken x ≡ 0 → record { first = x; next = at } ≡ drawn_at s at
+drawn_none : (s : List ℕ) (at : ℕ) (x : Result (Option (Entry × ℕ)) Cause) → x ≡ first_in (drop at s) → taken x ≡ 0 → record { first = x; next = at } ≡ drawn_at s at
 drawn_none s at x q none = ap (λ (n : ℕ). record { first = x; next = n }) (let z : at ≡ at + taken x = omega (arith, none) in z) ∙ drawn s at x q
 
-drawn_end : (s : List ℕ) (at : ℕ) → length (drop at s) ≡ 0 → record { first = found.End; next = at } ≡ drawn_at s at
-drawn_end s at none = drawn_none s at found.End (sym (first_none_left (drop at s) none)) refl
+drawn_end : (s : List ℕ) (at : ℕ) → length (drop at s) ≡ 0 → record { first = (Ok None); next = at } ≡ drawn_at s at
+drawn_end s at none = drawn_none s at (Ok None) (sym (first_none_left (drop at s) none)) refl
 
 -- past the last byte nothing is left
 pub returns-then-file-at : goal.returns-then-file-at
@@ -38,7 +38,7 @@ overflow_add-end c =
     let s : List ℕ = a.file.now in
     c.read-first.ensures ∙ ap first_in (take_all (length s - a.at) (drop a.at s) (le_of_eq (length-drop a.at s))) in
     let job : first_in (drop c.args.at c.args.file.now)
-    ≡ found.Job c.in-Job.field-0 c.in-Job.n = sym (stands) ∙ c.in-Job.is in
+    ≡ (Ok (Some (c.in-Job.field-0, c.in-Job.n))) = sym (stands) ∙ c.in-Job.is in
     let a = c.args in
     let s : List ℕ = a.file.now in
     let t = first_job (drop a.at s) c.in-Job.field-0 c.in-Job.n (job) in
@@ -50,17 +50,17 @@ returns-in-Job c =
     let s : List ℕ = a.file.now in
     c.read-first.ensures ∙ ap first_in (take_all (length s - a.at) (drop a.at s) (le_of_eq (length-drop a.at s))) in
     let job : first_in (drop c.args.at c.args.file.now)
-    ≡ found.Job c.in-Job.field-0 c.in-Job.n = sym (stands) ∙ c.in-Job.is in
+    ≡ (Ok (Some (c.in-Job.field-0, c.in-Job.n))) = sym (stands) ∙ c.in-Job.is in
     let a = c.args in
-    drawn a.file.now a.at (found.Job c.in-Job.field-0 c.in-Job.n) (sym (job))
+    drawn a.file.now a.at ((Ok (Some (c.in-Job.field-0, c.in-Job.n)))) (sym (job))
 
-pub returns-in-Refused : goal.returns-in-Refused
-returns-in-Refused c =
+pub returns-in-Err : goal.returns-in-Err
+returns-in-Err c =
     let stands : c.read-first.result ≡ first_in (drop c.args.at c.args.file.now) = let a = c.args in
     let s : List ℕ = a.file.now in
     c.read-first.ensures ∙ ap first_in (take_all (length s - a.at) (drop a.at s) (le_of_eq (length-drop a.at s))) in
     let a = c.args in
-    drawn_none a.file.now a.at c.read-first.result (stands) (ap taken c.in-Refused.is)
+    drawn_none a.file.now a.at c.read-first.result (stands) (ap taken c.in-Err.is)
 
 pub returns-in-End : goal.returns-in-End
 returns-in-End c =

@@ -1,4 +1,5 @@
 -- `records::read` meets its contract: the tests stand in the order of `read_cause`, the first two before the fields are read. Assumes nothing.
+use Rattle.std.specs.Prelude.{Err}
 use mathlib.Core.Path.{◌≡◌, sym, ap, ap₂, ◌∙◌, subst}
 use Prim.Native.Nat.{ℕ, ◌^◌, ◌<◌}
 use native.Mathlib.Omega.{arith}
@@ -11,7 +12,6 @@ use Rattle.format.specs.Cause.{first, unless}
 use Rattle.format.specs.declared.Format.{Format}
 use Rattle.layout.specs.Fields.{word_bytes, map_width, entry_map}
 use Rattle.records.specs.Record.{map_bytes, record_cause, map_in, record_length, entry_in, read_reply, first_in}
-use Rattle.records.specs.declared.First.TheVariants as found
 use Rattle.records.proofs.Causes.{word_in, first_none_left, early_cause, early_with, late_with, early_none}
 use Rattle.records.proofs.RoundTrip.{entry_default}
 use Rattle.records.proofs.read.Goals as goal
@@ -34,7 +34,7 @@ returns-then-early-gt0 c =
     (c.unless-bits.ensures ∙ ap (λ (m : ℕ). unless (ltb m (2 ^ map_width)) cause.MapBits) c.map_in-map.ensures.0)
     (c.unless-cut.ensures ∙ ap (λ (n : ℕ). unless (leb n (length s)) cause.Cut) (count))) in
     let s : List ℕ = c.args.s.now in
-    ap found.Refused (early) ∙ sym (early_with map_width (word_in s) s c.if-s-eq0.false (λ e. omega (arith, early, e, c.if-early-gt0.true)))
+    ap Err (early) ∙ sym (early_with map_width (word_in s) s c.if-s-eq0.false (λ e. omega (arith, early, e, c.if-early-gt0.true)))
 
 pub entry_in-requires : goal.entry_in-requires
 entry_in-requires c =

@@ -1,4 +1,5 @@
 -- `records::write` meets its contract: each return is one of the tests of `write_cause`, in its order. Assumes nothing.
+use Rattle.std.specs.Prelude.{Ok, Err}
 use mathlib.Core.Path.{◌≡◌, ap, ◌∙◌}
 use Prim.Native.Nat.{ℕ}
 use native.Mathlib.Omega.{arith}
@@ -6,7 +7,6 @@ use mathlib.Core.List.{List}
 use lib.ListN.{length}
 use Rattle.layout.specs.Fields.{entry_word}
 use Rattle.records.specs.Record.{record_cause, record_bytes, record_length}
-use Rattle.records.specs.declared.Writing.TheVariants as reply
 use Rattle.records.proofs.Causes.{record_length_lem}
 use Rattle.records.proofs.Replies.{write_refused, write_short, write_whole}
 use Rattle.records.proofs.write.Goals as goal
@@ -17,7 +17,7 @@ returns-then-cause-gt0 c =
     let s : List ℕ = c.args.buffer.now in
     let it = c.entry_cause-cause.ensures in
     let both = write_refused e s (λ q. omega (arith, it, c.if-cause-gt0.true)) in
-    record { value = ap reply.Refused it ∙ both.0; buffer_after = both.1 }
+    record { value = ap Err it ∙ both.0; buffer_after = both.1 }
 
 pub returns-then-buffer-n : goal.returns-then-buffer-n
 returns-then-buffer-n c =
@@ -44,4 +44,4 @@ returns c =
     let e = c.args.entry in
     let s : List ℕ = c.args.buffer.now in
     let both = write_whole e s (sound) (omega (arith, count, c.if-buffer-n.false)) in
-    record { value = ap reply.Written (count) ∙ both.0; buffer_after = c.put_record.ensures ∙ both.1 }
+    record { value = ap Ok (count) ∙ both.0; buffer_after = c.put_record.ensures ∙ both.1 }

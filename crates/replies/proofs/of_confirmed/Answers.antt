@@ -3,5 +3,5 @@ use mathlib.Core.Path.{sym, ap}
 use Rattle.replies.specs.Replies.{of_confirmed}
 use Rattle.replies.proofs.of_confirmed.Goals as goal
 
-pub returns-in-Refused : goal.returns-in-Refused
-returns-in-Refused c = ap of_confirmed (sym c.in-Refused.is)
+pub returns-in-Err : goal.returns-in-Err
+returns-in-Err c = ap of_confirmed (sym c.in-Err.is)

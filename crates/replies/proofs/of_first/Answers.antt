@@ -6,5 +6,5 @@ use Rattle.replies.proofs.of_first.Goals as goal
 pub returns-in-Job : goal.returns-in-Job
 returns-in-Job c = ap of_first (sym c.in-Job.is)
 
-pub returns-in-Refused : goal.returns-in-Refused
-returns-in-Refused c = ap of_first (sym c.in-Refused.is)
+pub returns-in-Err : goal.returns-in-Err
+returns-in-Err c = ap of_first (sym c.in-Err.is)

@@ -3,8 +3,8 @@ use mathlib.Core.Path.{sym, ap}
 use Rattle.replies.specs.Replies.{of_joined}
 use Rattle.replies.proofs.of_joined.Goals as goal
 
-pub returns-in-Mask : goal.returns-in-Mask
-returns-in-Mask c = ap of_joined (sym c.in-Mask.is)
+pub returns-in-Ok : goal.returns-in-Ok
+returns-in-Ok c = ap of_joined (sym c.in-Ok.is)
 
-pub returns-in-Refused : goal.returns-in-Refused
-returns-in-Refused c = ap of_joined (sym c.in-Refused.is)
+pub returns-in-Err : goal.returns-in-Err
+returns-in-Err c = ap of_joined (sym c.in-Err.is)

@@ -3,8 +3,8 @@ use mathlib.Core.Path.{sym, ap}
 use Rattle.replies.specs.Replies.{of_result}
 use Rattle.replies.proofs.of_result.Goals as goal
 
-pub returns-in-Word : goal.returns-in-Word
-returns-in-Word c = ap of_result (sym c.in-Word.is)
+pub returns-in-Ok : goal.returns-in-Ok
+returns-in-Ok c = ap of_result (sym c.in-Ok.is)
 
-pub returns-in-Refused : goal.returns-in-Refused
-returns-in-Refused c = ap of_result (sym c.in-Refused.is)
+pub returns-in-Err : goal.returns-in-Err
+returns-in-Err c = ap of_result (sym c.in-Err.is)

@@ -3,8 +3,8 @@ use mathlib.Core.Path.{sym, ap, ◌∙◌}
 use Rattle.replies.specs.Replies.{of_row}
 use Rattle.replies.proofs.of_row.Goals as goal
 
-pub returns-in-Row : goal.returns-in-Row
-returns-in-Row c = c.row_numbers.ensures ∙ ap of_row (sym c.in-Row.is)
+pub returns-in-Ok : goal.returns-in-Ok
+returns-in-Ok c = c.row_numbers.ensures ∙ ap of_row (sym c.in-Ok.is)
 
-pub returns-in-Refused : goal.returns-in-Refused
-returns-in-Refused c = ap of_row (sym c.in-Refused.is)
+pub returns-in-Err : goal.returns-in-Err
+returns-in-Err c = ap of_row (sym c.in-Err.is)

@@ -3,8 +3,8 @@ use mathlib.Core.Path.{sym, ap}
 use Rattle.replies.specs.Replies.{of_whole}
 use Rattle.replies.proofs.of_whole.Goals as goal
 
-pub returns-in-Found : goal.returns-in-Found
-returns-in-Found c = ap of_whole (sym c.in-Found.is)
+pub returns-in-Ok : goal.returns-in-Ok
+returns-in-Ok c = ap of_whole (sym c.in-Ok.is)
 
-pub returns-in-Refused : goal.returns-in-Refused
-returns-in-Refused c = ap of_whole (sym c.in-Refused.is)
+pub returns-in-Err : goal.returns-in-Err
+returns-in-Err c = ap of_whole (sym c.in-Err.is)

@@ -1,4 +1,5 @@
 -- `adder::below_last::held_below` meets its contract: what holds a magnitude has its dropped bits and as many digits more. Assumes nothing.
+use Rattle.std.specs.Prelude.{Some, None}
 use mathlib.Core.Path.{◌≡◌, sym, ap, ◌∙◌, subst}
 use Prim.Native.Nat.{ℕ, ◌+◌, ◌^◌, ◌≤◌, ◌<◌}
 use native.Mathlib.Nat.{lt_of_lt_of_le}
@@ -15,7 +16,6 @@ use Rattle.rounding.specs.Sticky.{Held}
 use Rattle.rounding.proofs.Size.{size_between}
 use Rattle.rounding.proofs.Held.{Guards, held_zero, held_pos}
 use Rattle.rounding.proofs.Dropped.{dropped_held, normal_held}
-use Rattle.adder.specs.declared.Below.TheVariants.{Bits, NoBits}
 use Rattle.adder.specs.Below.{magnitude_below}
 use Rattle.adder.proofs.BelowLaws.{normal_below, small_below}
 use Rattle.adder.proofs.below_last.held_below.Goals as goal
@@ -32,7 +32,7 @@ zeros : (x : ℕ) → (x ≡ 0 → ⊥) → x < 2 ^ 64 → count_leading_zeros 6
 zeros x ne fits = let t = leading_top 64 x (omega (arith, ne)) fits in omega (arith, size_between x t.0 t.2 t.3, t.1)
 
 module _ (F : Format) (g x u X : ℕ) (few : g ≤ most_dropped) (held : Held F (most_dropped + 2) most_dropped X x u) where
-  nothing : x ≡ 0 → NoBits ≡ magnitude_below F g X
+  nothing : x ≡ 0 → None ≡ magnitude_below F g X
   nothing z =
       let e = held_zero F (most_dropped + 2) most_dropped X u (subst (λ (n : ℕ). Held F (most_dropped + 2) most_dropped X n u) z held) in
       sym (small_below F g X (omega (arith, e, pow_pos F.f)))
@@ -41,16 +41,16 @@ module _ (F : Format) (g x u X : ℕ) (few : g ≤ most_dropped) (held : Held F 
     pos : 0 < X
     pos = held_pos F (most_dropped + 2) most_dropped X x u held ne
 
-    small : 64 + u < F.f + 1 + (most_dropped + 2) + count_leading_zeros 64 x → NoBits ≡ magnitude_below F g X
+    small : 64 + u < F.f + 1 + (most_dropped + 2) + count_leading_zeros 64 x → None ≡ magnitude_below F g X
     small lt = sym (small_below F g X (go (dec_lt X (2 ^ F.f))))
       where
         go : Dec (X < 2 ^ F.f) → X < 2 ^ F.f
         go (yes h) = h
         go (no h) = absurd (omega (arith, ((normal_held F (most_dropped + 2) most_dropped X x u guards pos held).0 (omega arith)).reaches, zeros x ne fits))
 
-    normal : F.f + 1 + (most_dropped + 2) + count_leading_zeros 64 x ≤ 64 + u → Bits (dropped_word F g x) ≡ magnitude_below F g X
+    normal : F.f + 1 + (most_dropped + 2) + count_leading_zeros 64 x ≤ 64 + u → Some (dropped_word F g x) ≡ magnitude_below F g X
     normal le =
-        ap Bits (dropped_held F (most_dropped + 2) most_dropped X x u guards pos held g few)
+        ap Some (dropped_held F (most_dropped + 2) most_dropped X x u guards pos held g few)
         ∙ sym (normal_below F g X ((normal_held F (most_dropped + 2) most_dropped X x u guards pos held).1
         (record { some = omega (arith, ne); reaches = omega (arith, zeros x ne fits) })))
 
@@ -74,5 +74,5 @@ returns-then-u-format c X held =
 
 pub returns : goal.returns
 returns c X held =
-    ap Bits c.dropped_word.ensures
+    ap Some c.dropped_word.ensures
     ∙ normal c.args.format c.args.g c.args.x c.args.u.0 X c.requires.1 held c.if-x-eq0.false c.ranges.x.fits (omega (arith, c.if-u-format.false))

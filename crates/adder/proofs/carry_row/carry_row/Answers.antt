@@ -1,34 +1,24 @@
 -- `adder::carry_row::carry_row` meets its contract. Assumes nothing.
-use mathlib.Core.Path.{◌≡◌, refl, sym, ap, ap₂, ◌∙◌}
-use Prim.Native.Nat.{ℕ, zero, suc}
-use Rattle.adder.specs.declared.Row as row
-use Rattle.adder.specs.declared.RowReply.TheVariants.{Row, Refused}
+use Rattle.std.proofs.Common.{rules, ◌≡◌, ◌∙◌, ap, ap₂}
+use Rattle.std.specs.Prelude.{Ok}
+use Rattle.format.specs.Cause.{clear}
 use Rattle.word.specs.Word.{effective}
-use Rattle.adder.specs.Row.{kind_row, row_of, reply_for}
 use Rattle.word.proofs.Canonical.{operand_sound}
+use Rattle.adder.specs.Row.{kind_row, row_of, row_cause}
 use Rattle.adder.proofs.Causes.{row_none}
 use Rattle.adder.proofs.carry_row.carry_row.Goals as goal
 
-refused : (n : ℕ) (r : row.Row) → (n ≡ 0 → ⊥) → Refused n ≡ reply_for n r
-refused zero r ne = absurd (ne refl)
-refused (suc n) r ne = refl
-
-pub returns-then-cause-ne0 : goal.returns-then-cause-ne0
-returns-then-cause-ne0 c =
-    let r = row_of c.args.format c.args.operation c.args.a c.args.b in
-    refused c.row_cause-cause.result r c.if-cause-ne0.true ∙ ap (λ (n : ℕ). reply_for n r) c.row_cause-cause.ensures
-
 pub kind_row-requires : goal.kind_row-requires
 kind_row-requires c =
-    let F = c.args.format in
-    let fit = (row_none F c.args.operation c.args.a c.args.b).0 (sym c.row_cause-cause.ensures ∙ c.if-cause-ne0.false) in
-    (fit.supported, rw (c.operands-pair.ensures.0 fit.supported).0 (operand_sound F c.args.a), rw (c.operands-pair.ensures.0 fit.supported).1 (operand_sound F (effective F c.args.operation c.args.b)))
+    let a = c.args in
+    let fit = (row_none a.format a.operation a.a a.b).0 (search rules) in
+    let both = c.operands-pair.ensures.0 fit.supported in
+    (fit.supported, rw both.0 (operand_sound a.format a.a), rw both.1 (operand_sound a.format (effective a.format a.operation a.b)))
 
 pub returns : goal.returns
 unfolding row_of
 returns c =
-    let F = c.args.format in
-    let fit = (row_none F c.args.operation c.args.a c.args.b).0 (sym c.row_cause-cause.ensures ∙ c.if-cause-ne0.false) in
-    let both = c.operands-pair.ensures.0 fit.supported in
-    rw (sym c.row_cause-cause.ensures ∙ c.if-cause-ne0.false)
-    (ap Row (c.kind_row.ensures ∙ ap₂ (kind_row F) both.0 both.1))
+    let a = c.args in
+    let none : row_cause a.format a.operation a.a a.b ≡ clear = search rules in
+    let both = c.operands-pair.ensures.0 ((row_none a.format a.operation a.a a.b).0 none).supported in
+    rw none (ap Ok (c.kind_row.ensures ∙ ap₂ (kind_row a.format) both.0 both.1))

@@ -1,33 +1,24 @@
 -- `adder::result::rounded_result` meets its contract. Assumes nothing.
-use mathlib.Core.Path.{◌≡◌, refl, sym, ap, ap₂, ◌∙◌}
-use Prim.Native.Nat.{ℕ, zero, suc}
-use Rattle.adder.specs.declared.Reply.TheVariants.{Word, Refused}
+use Rattle.std.proofs.Common.{rules, ◌≡◌, ◌∙◌, ap, ap₂}
+use Rattle.std.specs.Prelude.{Ok}
+use Rattle.format.specs.Cause.{clear}
 use Rattle.word.specs.Word.{effective}
-use Rattle.adder.specs.Result.{kind_sum, result_of, reply_for}
 use Rattle.word.proofs.Canonical.{operand_sound}
+use Rattle.adder.specs.Result.{kind_sum, result_of, result_cause}
 use Rattle.adder.proofs.Causes.{result_none}
 use Rattle.adder.proofs.result.rounded_result.Goals as goal
 
-refused : (n c : ℕ) → (n ≡ 0 → ⊥) → Refused n ≡ reply_for n c
-refused zero c ne = absurd (ne refl)
-refused (suc n) c ne = refl
-
-pub returns-then-cause-ne0 : goal.returns-then-cause-ne0
-returns-then-cause-ne0 c =
-    refused c.result_cause-cause.result (result_of c.args.format c.args.operation c.args.mode c.args.a c.args.b) c.if-cause-ne0.true
-    ∙ ap (λ (n : ℕ). reply_for n (result_of c.args.format c.args.operation c.args.mode c.args.a c.args.b)) c.result_cause-cause.ensures
-
 pub kind_sum-requires : goal.kind_sum-requires
 kind_sum-requires c =
-    let F = c.args.format in
-    let fit = ((result_none F c.args.operation c.args.mode c.args.a c.args.b).0 (sym c.result_cause-cause.ensures ∙ c.if-cause-ne0.false)).0 in
-    (fit.supported, rw (c.operands-pair.ensures.0 fit.supported).0 (operand_sound F c.args.a), rw (c.operands-pair.ensures.0 fit.supported).1 (operand_sound F (effective F c.args.operation c.args.b)))
+    let a = c.args in
+    let fit = ((result_none a.format a.operation a.mode a.a a.b).0 (search rules)).0 in
+    let both = c.operands-pair.ensures.0 fit.supported in
+    (fit.supported, rw both.0 (operand_sound a.format a.a), rw both.1 (operand_sound a.format (effective a.format a.operation a.b)))
 
 pub returns : goal.returns
 unfolding result_of
 returns c =
-    let F = c.args.format in
-    let fit = ((result_none F c.args.operation c.args.mode c.args.a c.args.b).0 (sym c.result_cause-cause.ensures ∙ c.if-cause-ne0.false)).0 in
-    let both = c.operands-pair.ensures.0 fit.supported in
-    rw (sym c.result_cause-cause.ensures ∙ c.if-cause-ne0.false)
-    (ap Word (c.kind_sum.ensures ∙ ap₂ (kind_sum F c.args.mode) both.0 both.1))
+    let a = c.args in
+    let none : result_cause a.format a.operation a.mode a.a a.b ≡ clear = search rules in
+    let both = c.operands-pair.ensures.0 ((result_none a.format a.operation a.mode a.a a.b).0 none).0.supported in
+    rw none (ap Ok (c.kind_sum.ensures ∙ ap₂ (kind_sum a.format a.mode) both.0 both.1))

@@ -13,18 +13,18 @@ pub returns-then-k-eq-NO_CASE : goal.returns-then-k-eq-NO_CASE
 returns-then-k-eq-NO_CASE c =
     let F : Format = c.args.format in
     let n : ℕ = c.args.n in
-    subst (Says c.none_line.result) (sym (ap (reply_line F n) c.in-Refused.is ∙ reply_none F n c.in-Refused.k c.if-k-eq-NO_CASE.true)) c.none_line.ensures
+    subst (Says c.none_line.result) (sym (ap (reply_line F n) c.in-Err.is ∙ reply_none F n c.in-Err.k c.if-k-eq-NO_CASE.true)) c.none_line.ensures
 
-pub returns-in-Found : goal.returns-in-Found
+pub returns-in-Ok : goal.returns-in-Ok
 unfolding reply_line
-returns-in-Found c =
+returns-in-Ok c =
     let F : Format = c.args.format in
     let n : ℕ = c.args.n in
-    let line = ap (λ (k : ℕ). found_line k n c.in-Found.x) c.word_digits.ensures.0 in
-    subst (Says c.found_line.result) (line ∙ sym (ap (reply_line F n) c.in-Found.is)) c.found_line.ensures
+    let line = ap (λ (k : ℕ). found_line k n c.in-Ok.x) c.word_digits.ensures.0 in
+    subst (Says c.found_line.result) (line ∙ sym (ap (reply_line F n) c.in-Ok.is)) c.found_line.ensures
 
 pub returns-else-k-eq-NO_CASE : goal.returns-else-k-eq-NO_CASE
 returns-else-k-eq-NO_CASE c =
     let F : Format = c.args.format in
     let n : ℕ = c.args.n in
-    subst (Says c.refused_line.result) (sym (ap (reply_line F n) c.in-Refused.is ∙ reply_refused F n c.in-Refused.k c.if-k-eq-NO_CASE.false)) c.refused_line.ensures
+    subst (Says c.refused_line.result) (sym (ap (reply_line F n) c.in-Err.is ∙ reply_refused F n c.in-Err.k c.if-k-eq-NO_CASE.false)) c.refused_line.ensures

@@ -1,20 +1,20 @@
 -- `lines::say::with_row` meets its contract. Assumes nothing.
-use Rattle.adder.specs.declared.Row.{Row}
+use Rattle.std.specs.Prelude.{Option}
 use mathlib.Core.Path.{sym, subst}
 use Prim.Native.Nat.{ℕ}
 use Rattle.lines.specs.Text.{row_text, Grown}
 use Rattle.lines.proofs.say.with_row.Goals as goal
 
-pub returns-in-Carries : goal.returns-in-Carries
+pub returns-in-Some : goal.returns-in-Some
 unfolding row_text
-returns-in-Carries c =
+returns-in-Some c =
     let line = c.args.line in
     let k : ℕ = c.args.k in
-    subst (λ (row : Row). Grown line c.with_word.result (row_text k row)) (sym c.in-Carries.is) c.with_word.ensures
+    subst (λ (row : Option ℕ). Grown line c.with_word.result (row_text k row)) (sym c.in-Some.is) c.with_word.ensures
 
-pub returns-in-NoRow : goal.returns-in-NoRow
+pub returns-in-None : goal.returns-in-None
 unfolding row_text
-returns-in-NoRow c =
+returns-in-None c =
     let line = c.args.line in
     let k : ℕ = c.args.k in
-    subst (λ (row : Row). Grown line c.with_text.result (row_text k row)) (sym c.in-NoRow.is) c.with_text.ensures
+    subst (λ (row : Option ℕ). Grown line c.with_text.result (row_text k row)) (sym c.in-None.is) c.with_text.ensures

@@ -1,5 +1,6 @@
 -- `making::ask::ask_last` meets its contract: the mask of the last kept bit is joined to the number's; where they clash no number
 -- meets both. Assumes nothing.
+use Rattle.std.specs.Prelude.{Ok, Err}
 use mathlib.Core.Logic.{◌↔◌}
 use mathlib.Core.Path.{◌≡◌, sym, ap₂, ◌∙◌}
 use mathlib.Core.Bool.{Bool, true, false}
@@ -9,7 +10,6 @@ use lib.Pow.{shl_exact}
 use Rattle.bits.specs.Bit.{bit}
 use Rattle.bits.proofs.Laws.{one_shl}
 use Rattle.mask.specs.declared.Mask.{Mask}
-use Rattle.mask.specs.declared.Joined.TheVariants as reply
 use Rattle.mask.specs.Join.{join}
 use Rattle.making.specs.declared.Aligned as pair
 use Rattle.making.specs.Making.{Making}
@@ -24,7 +24,7 @@ kept j b l h x = ap₂ (λ (s t : ℕ). join x (record { care = s; value = t }))
 
 -- the question with the joined mask is the question
 module _ (f : ℕ) (A : pair.Aligned) (x z : Mask) (j b constant carry : ℕ) (h : b < 2) where
-  met : (m : Mask) → join x (one_bit j b) ≡ reply.Mask m → (r : Bool)
+  met : (m : Mask) → join x (one_bit j b) ≡ Ok m → (r : Bool)
       → ((r ≡ true) ↔ Making f A (Added f A m z constant carry))
       → (r ≡ true) ↔ Making f A (λ (n : ℕ). (bit n j ≡ b) × Added f A x z constant carry n)
   met m e r asks =
@@ -36,7 +36,7 @@ module _ (f : ℕ) (A : pair.Aligned) (x z : Mask) (j b constant carry : ℕ) (h
       ))
       asks
 
-  clash : (k : ℕ) → join x (one_bit j b) ≡ reply.Refused k → (false ≡ true) ↔ Making f A (λ (n : ℕ). (bit n j ≡ b) × Added f A x z constant carry n)
+  clash : (k : ℕ) → join x (one_bit j b) ≡ Err k → (false ≡ true) ↔ Making f A (λ (n : ℕ). (bit n j ≡ b) × Added f A x z constant carry n)
   clash k e =
       none_made f A (λ (n : ℕ). (bit n j ≡ b) × Added f A x z constant carry n)
       (λ m. last_refused j b h x k e m.x m.holds.1.number m.holds.0)
@@ -44,15 +44,15 @@ module _ (f : ℕ) (A : pair.Aligned) (x z : Mask) (j b constant carry : ℕ) (h
 pub ask-requires : goal.ask-requires
 ask-requires c = (c.requires.0, c.requires.3)
 
-pub returns-in-Mask : goal.returns-in-Mask
-returns-in-Mask c =
+pub returns-in-Ok : goal.returns-in-Ok
+returns-in-Ok c =
     let a = c.args in
-    λ formed none. met a.f a.aligned a.x a.z a.j a.last a.constant a.carry c.requires.2 c.in-Mask.m
-    (sym (kept a.j a.last c.requires.1 c.requires.2 a.x) ∙ sym c.join-joined.ensures ∙ c.in-Mask.is)
+    λ formed none. met a.f a.aligned a.x a.z a.j a.last a.constant a.carry c.requires.2 c.in-Ok.m
+    (sym (kept a.j a.last c.requires.1 c.requires.2 a.x) ∙ sym c.join-joined.ensures ∙ c.in-Ok.is)
     c.ask.result (c.ask.ensures formed none)
 
-pub returns-in-Refused : goal.returns-in-Refused
-returns-in-Refused c =
+pub returns-in-Err : goal.returns-in-Err
+returns-in-Err c =
     let a = c.args in
-    λ formed none. clash a.f a.aligned a.x a.z a.j a.last a.constant a.carry c.requires.2 c.in-Refused.field-0
-    (sym (kept a.j a.last c.requires.1 c.requires.2 a.x) ∙ sym c.join-joined.ensures ∙ c.in-Refused.is)
+    λ formed none. clash a.f a.aligned a.x a.z a.j a.last a.constant a.carry c.requires.2 c.in-Err.field-0
+    (sym (kept a.j a.last c.requires.1 c.requires.2 a.x) ∙ sym c.join-joined.ensures ∙ c.in-Err.is)

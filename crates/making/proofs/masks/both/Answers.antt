@@ -7,14 +7,14 @@ use lib.Bits.{and_zero_r}
 use Rattle.mask.proofs.Replies.{join_meets, join_refused}
 use Rattle.making.proofs.masks.both.Goals as goal
 
-pub returns-in-Mask : goal.returns-in-Mask
-returns-in-Mask c = λ x.
+pub returns-in-Ok : goal.returns-in-Ok
+returns-in-Ok c = λ x.
     let a = c.args in
-    join_meets a.m a.n c.in-Mask.whole x (sym c.join-joined.ensures ∙ c.in-Mask.is)
+    join_meets a.m a.n c.in-Ok.whole x (sym c.join-joined.ensures ∙ c.in-Ok.is)
 
-pub returns-in-Refused : goal.returns-in-Refused
-returns-in-Refused c = λ x.
+pub returns-in-Err : goal.returns-in-Err
+returns-in-Err c = λ x.
     let a = c.args in (
       λ met. let e : ◌≡◌ {A = ℕ} 0 1 = sym (and_zero_r x) ∙ met in absurd (omega (arith, e)),
-      λ p. absurd (join_refused a.m a.n x c.in-Refused.field-0 (sym c.join-joined.ensures ∙ c.in-Refused.is) p.0 p.1),
+      λ p. absurd (join_refused a.m a.n x c.in-Err.field-0 (sym c.join-joined.ensures ∙ c.in-Err.is) p.0 p.1),
     )
