@@ -21,18 +21,15 @@ use Rattle.job.specs.declared.Job.{Job}
 use Rattle.job.specs.Job.{ValidSetting, Valid}
 use Rattle.job.proofs.Laws.{with_none}
 use Rattle.adder.proofs.Causes.{Fit}
-use Rattle.fit.specs.Fit.{result_in, row_in, below_in, Allowed, allowed, RowMeets, row_meets, BelowMeets, below_meets, Satisfies, satisfies, Fits, fits, case_cause}
+use Rattle.format.specs.Cause.{clear}
+use Rattle.fit.specs.Fit.{result_in, row_in, below_in, Allowed, allowed, PartMeets, part_meets, Satisfies, satisfies, Fits, fits, case_cause}
 
-pub row_meets_true : (r : Option ℕ) (m : Mask) → row_meets r m ≡ true ↔ RowMeets r m
-row_meets_true (Some r) m = meets_true r m
-row_meets_true None m = (λ e. eqb-true m.care 0 e, λ e. eq-eqb m.care 0 e)
-
-pub below_meets_true : (r : Option ℕ) (m : Mask) → below_meets r m ≡ true ↔ BelowMeets r m
-below_meets_true (Some r) m = meets_true r m
-below_meets_true None m = (λ e. eqb-true m.care 0 e, λ e. eq-eqb m.care 0 e)
+pub part_meets_true : (r : Option ℕ) (m : Mask) → part_meets r m ≡ true ↔ PartMeets r m
+part_meets_true (Some r) m = meets_true r m
+part_meets_true None m = (λ e. eqb-true m.care 0 e, λ e. eq-eqb m.care 0 e)
 
 -- dropped bits, and that there are none, meet a mask that fixes no bit
-pub unfixed_met : (r : Option ℕ) (m : Mask) → Inside m → m.care ≡ 0 → BelowMeets r m
+pub unfixed_met : (r : Option ℕ) (m : Mask) → Inside m → m.care ≡ 0 → PartMeets r m
 unfixed_met (Some r) m inside none = free_meets r m inside none
 unfixed_met None m inside none = none
 
@@ -55,14 +52,14 @@ satisfies_true j a b c = (
         a_allowed = (allowed_true F a j.a).0 o.0;
         b_allowed = (allowed_true F b j.b).0 o.1;
         c_allowed = (allowed_true F c j.c).0 q.1;
-        row = (row_meets_true (row_in j.setting a b) j.carries).0 p.1;
-        dropped = (below_meets_true (below_in j.setting j.dropped.g a b) j.dropped.mask).0 d.1;
+        row = (part_meets_true (row_in j.setting a b) j.carries).0 p.1;
+        dropped = (part_meets_true (below_in j.setting j.dropped.g a b) j.dropped.mask).0 d.1;
       },
   λ h.
       let o = (and-eq-true_iff A B).1 ((allowed_true F a j.a).1 h.a_allowed, (allowed_true F b j.b).1 h.b_allowed) in
       let q = (and-eq-true_iff (A && B) C).1 (o, (allowed_true F c j.c).1 h.c_allowed) in
-      let p = (and-eq-true_iff (A && B && C) R).1 (q, (row_meets_true (row_in j.setting a b) j.carries).1 h.row) in
-      (and-eq-true_iff (A && B && C && R) D).1 (p, (below_meets_true (below_in j.setting j.dropped.g a b) j.dropped.mask).1 h.dropped),
+      let p = (and-eq-true_iff (A && B && C) R).1 (q, (part_meets_true (row_in j.setting a b) j.carries).1 h.row) in
+      (and-eq-true_iff (A && B && C && R) D).1 (p, (part_meets_true (below_in j.setting j.dropped.g a b) j.dropped.mask).1 h.dropped),
 )
   where
     F : Format
@@ -78,10 +75,10 @@ satisfies_true j a b c = (
     C = allowed F c j.c
 
     R : Bool
-    R = row_meets (row_in j.setting a b) j.carries
+    R = part_meets (row_in j.setting a b) j.carries
 
     D : Bool
-    D = below_meets (below_in j.setting j.dropped.g a b) j.dropped.mask
+    D = part_meets (below_in j.setting j.dropped.g a b) j.dropped.mask
 
 -- three words of a format
 pub record Words (F : Format) (a b c : ℕ) : Type 0 where
@@ -107,7 +104,7 @@ fits_true j a b c words = (
 pub words_fit : (S : Setting) → ValidSetting S → (a b : ℕ) → a < 2 ^ word_bits S.format → b < 2 ^ word_bits S.format → Fit S.format S.operation a b
 words_fit S valid a b ha hb = record { supported = valid.format; operation_fits = valid.operation; a_fits = ha; b_fits = hb }
 
-pub case_none : (j : Job) (a b c : ℕ) → case_cause j a b c ≡ 0 ↔ (Valid j × Words j.setting.format a b c)
+pub case_none : (j : Job) (a b c : ℕ) → case_cause j a b c ≡ clear ↔ (Valid j × Words j.setting.format a b c)
 unfolding case_cause
 case_none j a b c =
     let width = word_bits j.setting.format in

@@ -13,17 +13,17 @@ use Rattle.job.specs.declared.Job.{Job}
 use Rattle.job.specs.Dropped.{normalised, normalised_job}
 use Rattle.job.proofs.DroppedLaws.{normalised_some, normalised_mask}
 use Rattle.adder.proofs.BelowLaws.{below_any}
-use Rattle.fit.specs.Fit.{below_in, BelowMeets, Satisfies, Fits}
+use Rattle.fit.specs.Fit.{below_in, PartMeets, Satisfies, Fits}
 
 -- with a mask that fixes no bit g plays no part
-below_free : (m : Mask) → m.care ≡ 0 → (S : Setting) (g k a b : ℕ) → BelowMeets (below_in S g a b) m → BelowMeets (below_in S k a b) m
+below_free : (m : Mask) → m.care ≡ 0 → (S : Setting) (g k a b : ℕ) → PartMeets (below_in S g a b) m → PartMeets (below_in S k a b) m
 below_free m none S g k a b h =
-    below_any (λ (r : Option ℕ). BelowMeets r m)
+    below_any (λ (r : Option ℕ). PartMeets r m)
     (λ r s e. ap (bit_and s) none ∙ and_zero_r s ∙ sym (and_zero_r r) ∙ sym (ap (bit_and r) none) ∙ e) S.format S.operation g k a b h
 
 -- the dropped bits of two words are as wanted
 abbrev DroppedMeets : Setting → Dropped → ℕ → ℕ → Type 0
-DroppedMeets S D a b = BelowMeets (below_in S D.g a b) D.mask
+DroppedMeets S D a b = PartMeets (below_in S D.g a b) D.mask
 
 normalised_meets : (S : Setting) (D : Dropped) (a b : ℕ) → DroppedMeets S D a b ↔ DroppedMeets S (normalised D) a b
 normalised_meets S D a b = (there (ℕ_discrete D.mask.care 0), back (ℕ_discrete D.mask.care 0))

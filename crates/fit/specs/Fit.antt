@@ -6,7 +6,7 @@ use Rattle.std.specs.Prelude.{Option, Some, None, Result, Ok, Err}
 use Rattle.format.specs.declared.cause.Cause.{Cause}
 use Rattle.std.specs.Prelude.{◌≡◌, Bool, true, false, ◌&&◌, ℕ, zero, suc, ◌^◌, ◌<◌, eqb}
 use Rattle.format.specs.declared.Format.{Format}
-use Rattle.format.specs.Cause.{first}
+use Rattle.format.specs.Cause.{Check, first}
 use Rattle.format.specs.Format.{word_bits, word_cause}
 use Rattle.mask.specs.declared.Mask.{Mask}
 use Rattle.mask.specs.Mask.{Meets, meets}
@@ -50,37 +50,29 @@ pub record Allowed (F : Format) (x : ℕ) (W : Wanted) : Type 0 where
 abbrev pub allowed : Format → ℕ → Wanted → Bool
 allowed F x W = meets x W.mask && within F x W.bounds
 
--- the row agrees with every fixed bit; where there is no row, only a carry mask that fixes no bit is met ("The carry row")
-abbrev pub RowMeets : Option ℕ → Mask → Type 0
-RowMeets (Some r) m = Meets r m
-RowMeets None m = m.care ≡ 0
+-- what a case may lack, its row or its dropped bits with their sticky bit, agrees with every fixed bit; where it is lacking, only a mask that
+-- fixes no bit is met ("The carry row": the carry mask; document 02, W-206: "Other results meet only a mask that fixes nothing")
+abbrev pub PartMeets : Option ℕ → Mask → Type 0
+PartMeets (Some r) m = Meets r m
+PartMeets None m = m.care ≡ 0
 
-abbrev pub row_meets : Option ℕ → Mask → Bool
-row_meets (Some r) m = meets r m
-row_meets None m = eqb m.care 0
-
--- the same of the dropped bits and their sticky bit (document 02, W-206): "Other results meet only a mask that fixes nothing"
-abbrev pub BelowMeets : Option ℕ → Mask → Type 0
-BelowMeets (Some r) m = Meets r m
-BelowMeets None m = m.care ≡ 0
-
-abbrev pub below_meets : Option ℕ → Mask → Bool
-below_meets (Some r) m = meets r m
-below_meets None m = eqb m.care 0
+abbrev pub part_meets : Option ℕ → Mask → Bool
+part_meets (Some r) m = meets r m
+part_meets None m = eqb m.care 0
 
 -- "its words and its row agree with every fixed bit", and from W-206 on "the case meets everything that its job states"
 pub record Satisfies (j : Job) (a b c : ℕ) : Type 0 where
   pub a_allowed : Allowed j.setting.format a j.a
   pub b_allowed : Allowed j.setting.format b j.b
   pub c_allowed : Allowed j.setting.format c j.c
-  pub row : RowMeets (row_in j.setting a b) j.carries
-  pub dropped : BelowMeets (below_in j.setting j.dropped.g a b) j.dropped.mask
+  pub row : PartMeets (row_in j.setting a b) j.carries
+  pub dropped : PartMeets (below_in j.setting j.dropped.g a b) j.dropped.mask
 
 -- the same as a test
 unfoldable pub satisfies : Job → ℕ → ℕ → ℕ → Bool
 satisfies j a b c =
     allowed j.setting.format a j.a && allowed j.setting.format b j.b && allowed j.setting.format c j.c
-    && row_meets (row_in j.setting a b) j.carries && below_meets (below_in j.setting j.dropped.g a b) j.dropped.mask
+    && part_meets (row_in j.setting a b) j.carries && part_meets (below_in j.setting j.dropped.g a b) j.dropped.mask
 
 -- ---- fits
 
@@ -100,20 +92,12 @@ fits j a b c = eqb (result_in j.setting a b) c && satisfies j a b c
 -- ---- the reply
 
 -- what stands against the job and three proposed words
-unfoldable pub case_cause : Job → ℕ → ℕ → ℕ → ℕ
+unfoldable pub case_cause : Job → ℕ → ℕ → ℕ → Check
 case_cause j a b c =
     cause_with j
     (first (word_cause (word_bits j.setting.format) a)
     (first (word_cause (word_bits j.setting.format) b) (word_cause (word_bits j.setting.format) c)))
 
-abbrev pub answer : Bool → Result Bool Cause
-answer true = (Ok true)
-answer false = (Ok false)
-
 -- "A confirmed case is a yes, one that doesn't fit a no"
-abbrev pub answer_for : ℕ → Bool → Result Bool Cause
-answer_for zero t = answer t
-answer_for (suc n) t = Err (suc n)
-
 abbrev pub confirmed_reply : Job → ℕ → ℕ → ℕ → Result Bool Cause
-confirmed_reply j a b c = answer_for (case_cause j a b c) (fits j a b c)
+confirmed_reply j a b c = first (case_cause j a b c) (Ok (fits j a b c))

@@ -27,7 +27,7 @@ use Rattle.rounding.proofs.Held.{Guards}
 use Rattle.significand.proofs.Tail.{Room}
 use Rattle.adder.specs.Below.{finite_below}
 use Rattle.adder.proofs.Aligned.{makes, below_bits, below_none}
-use Rattle.fit.specs.Fit.{BelowMeets}
+use Rattle.fit.specs.Fit.{PartMeets}
 use Rattle.fit.proofs.Laws.{unfixed_met}
 use Rattle.outcome.specs.Outcome.{DropsAs}
 use Rattle.pair.specs.Pair.{bits_below}
@@ -85,17 +85,17 @@ module _ (F : Format) (x y : record_of.Finite) (units : (unit_of y.exponent).0 �
   none : (D.mask.care ≡ 0 → ⊥) → (NormalAt q F.f (unit_of x.exponent) made → ⊥) → finite_below F D.g x y ≡ None
   none fixed n = below_none F x y units ok cx cy q G (guards_of_lem G (guards_pos D) like) (below_more G (guards_pos D) like) D.g (guards_cover D fixed) le n
 
-  pub drops_of : BelowMeets (finite_below F D.g x y) D.mask → DropsAs F q (unit_of x.exponent) D made
+  pub drops_of : PartMeets (finite_below F D.g x y) D.mask → DropsAs F q (unit_of x.exponent) D made
   drops_of met = go (ℕ_discrete D.mask.care 0) (normal_dec q F.f (unit_of x.exponent) made)
     where
       go : Dec (D.mask.care ≡ 0) → Dec (NormalAt q F.f (unit_of x.exponent) made) → DropsAs F q (unit_of x.exponent) D made
       go (yes z) d = inl z
-      go (no fixed) (yes n) = inr (n, subst (λ (b : Option ℕ). BelowMeets b D.mask) (bits fixed n) met)
-      go (no fixed) (no n) = inl (subst (λ (b : Option ℕ). BelowMeets b D.mask) (none fixed n) met)
+      go (no fixed) (yes n) = inr (n, subst (λ (b : Option ℕ). PartMeets b D.mask) (bits fixed n) met)
+      go (no fixed) (no n) = inl (subst (λ (b : Option ℕ). PartMeets b D.mask) (none fixed n) met)
 
-  pub drops_back : DropsAs F q (unit_of x.exponent) D made → BelowMeets (finite_below F D.g x y) D.mask
+  pub drops_back : DropsAs F q (unit_of x.exponent) D made → PartMeets (finite_below F D.g x y) D.mask
   drops_back drops = go (ℕ_discrete D.mask.care 0)
     where
-      go : Dec (D.mask.care ≡ 0) → BelowMeets (finite_below F D.g x y) D.mask
+      go : Dec (D.mask.care ≡ 0) → PartMeets (finite_below F D.g x y) D.mask
       go (yes z) = unfixed_met (finite_below F D.g x y) D.mask valid.mask.inside z
-      go (no fixed) = ⊎_elim (λ z. absurd (fixed z)) (λ p. subst (λ (b : Option ℕ). BelowMeets b D.mask) (sym (bits fixed p.0)) p.1) drops
+      go (no fixed) = ⊎_elim (λ z. absurd (fixed z)) (λ p. subst (λ (b : Option ℕ). PartMeets b D.mask) (sym (bits fixed p.0)) p.1) drops

@@ -22,7 +22,7 @@ use Rattle.adder.specs.Row.{finite_row}
 use Rattle.word.proofs.Fields.{together_sign, together_biased, together_fraction, together_lt, signed_lt}
 use Rattle.adder.proofs.ResultLaws.{result_lt}
 use Rattle.adder.proofs.Aligned.{below_finite, turned_of, result_finite, row_finite}
-use Rattle.fit.specs.Fit.{RowMeets, BelowMeets}
+use Rattle.fit.specs.Fit.{PartMeets}
 use Rattle.word.specs.Masks.{sign_mask, exponent_mask, fraction_mask}
 use Rattle.special.specs.Asked.{field_is, PairFits}
 use Rattle.pair.specs.Pair.{FiniteSide, side_a, side_b, SomeSigns, FinitePair}
@@ -65,8 +65,8 @@ module _ (j : Job) (valid : Valid j) (ea eb : Biased) (fin : FinitePair j.settin
           q_lt = mod-lt b (pow_pos F.f);
           p_meets = ma.2;
           q_meets = mb.2;
-          row_meets_lem = subst (λ (r : Option ℕ). RowMeets r j.carries) (row_finite F j.setting.operation j.setting.mode a b na nb ∙ ap₂ (λ (x y : record_of.Finite). Some (finite_row F x y)) x_is y_is) P.fits.satisfies.row;
-          below_meets_lem = subst (λ (r : Option ℕ). BelowMeets r j.dropped.mask) (below_finite F j.setting.operation j.setting.mode a b na nb j.dropped.g ∙ ap₂ (finite_below F j.dropped.g) x_is y_is) P.fits.satisfies.dropped;
+          row_meets_lem = subst (λ (r : Option ℕ). PartMeets r j.carries) (row_finite F j.setting.operation j.setting.mode a b na nb ∙ ap₂ (λ (x y : record_of.Finite). Some (finite_row F x y)) x_is y_is) P.fits.satisfies.row;
+          below_meets_lem = subst (λ (r : Option ℕ). PartMeets r j.dropped.mask) (below_finite F j.setting.operation j.setting.mode a b na nb j.dropped.g ∙ ap₂ (finite_below F j.dropped.g) x_is y_is) P.fits.satisfies.dropped;
           sum_meets = subst (λ (n : ℕ). Meets n j.c.mask) (P.fits.right.sum ∙ result_finite F j.setting.operation j.setting.mode a b na nb ∙ ap₂ (finite_sum F j.setting.mode) x_is y_is) P.fits.satisfies.c_allowed.mask;
         });
       };
@@ -120,8 +120,8 @@ module _ (j : Job) (valid : Valid j) (ea eb : Biased) (fin : FinitePair j.settin
         a_allowed = record { mask = (meets_fields F.w F.f j.a.mask valid.a.mask a).1 (rw a_sign msa, rw a_exponent ma, rw a_fraction N.p_meets); within = tt };
         b_allowed = record { mask = (meets_fields F.w F.f j.b.mask valid.b.mask b).1 (rw b_sign msb, rw b_exponent mb, rw b_fraction N.q_meets); within = tt };
         c_allowed = record { mask = subst (λ (n : ℕ). Meets n j.c.mask) (sym (result_finite F j.setting.operation j.setting.mode a b na nb ∙ ap₂ (finite_sum F j.setting.mode) x_is y_is)) N.sum_meets; within = tt };
-        row = subst (λ (r : Option ℕ). RowMeets r j.carries) (sym (row_finite F j.setting.operation j.setting.mode a b na nb ∙ ap₂ (λ (x y : record_of.Finite). Some (finite_row F x y)) x_is y_is)) N.row_meets_lem;
-        dropped = subst (λ (r : Option ℕ). BelowMeets r j.dropped.mask) (sym (below_finite F j.setting.operation j.setting.mode a b na nb j.dropped.g ∙ ap₂ (finite_below F j.dropped.g) x_is y_is)) N.below_meets_lem;
+        row = subst (λ (r : Option ℕ). PartMeets r j.carries) (sym (row_finite F j.setting.operation j.setting.mode a b na nb ∙ ap₂ (λ (x y : record_of.Finite). Some (finite_row F x y)) x_is y_is)) N.row_meets_lem;
+        dropped = subst (λ (r : Option ℕ). PartMeets r j.dropped.mask) (sym (below_finite F j.setting.operation j.setting.mode a b na nb j.dropped.g ∙ ap₂ (finite_below F j.dropped.g) x_is y_is)) N.below_meets_lem;
       };
     };
     a_exponent = ap field_is a_exponent;

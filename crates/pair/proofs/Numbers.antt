@@ -33,7 +33,7 @@ use Rattle.rounding.proofs.Widths.{aligned_width}
 use Rattle.adder.specs.Result.{finite_sum}
 use Rattle.adder.specs.Row.{finite_row}
 use Rattle.adder.specs.Below.{finite_below}
-use Rattle.fit.specs.Fit.{BelowMeets}
+use Rattle.fit.specs.Fit.{PartMeets}
 use Rattle.word.proofs.Canonical.{significand_bounds, exponent_le}
 use Rattle.significand.proofs.Significand.{significand_formed, significand_meets}
 use Rattle.significand.proofs.Tail.{Room, tail_sound, tail_complete}
@@ -63,7 +63,7 @@ pub record Numbers (j : Job) (x y : Side) : Type 0 where
   pub p_meets : Meets p x.fraction
   pub q_meets : Meets q y.fraction
   pub row_meets_lem : Meets (row_from j.setting.format y (number j.setting.format x p) (number j.setting.format y q)) j.carries
-  pub below_meets_lem : BelowMeets (finite_below j.setting.format j.dropped.g (number j.setting.format x p) (number j.setting.format y q)) j.dropped.mask
+  pub below_meets_lem : PartMeets (finite_below j.setting.format j.dropped.g (number j.setting.format x p) (number j.setting.format y q)) j.dropped.mask
   pub sum_meets : Meets (finite_sum j.setting.format j.setting.mode (number j.setting.format x p) (number j.setting.format y q)) j.c.mask
 
 pub number_canonical : (F : Format) (x : Side) → FiniteSide F x → (t : ℕ) → t < 2 ^ F.f → Canonical F (number F x t)
@@ -90,7 +90,7 @@ exchange j x y other N =
       p_meets = N.q_meets;
       q_meets = N.p_meets;
       row_meets_lem = subst (λ (n : ℕ). Meets n j.carries) (first_same x.lhs y.lhs other (finite_row F X Y) (finite_row F Y X)) N.row_meets_lem;
-      below_meets_lem = subst (λ (b : Option ℕ). BelowMeets b j.dropped.mask) (below_exchanged F j.dropped.g X Y) N.below_meets_lem;
+      below_meets_lem = subst (λ (b : Option ℕ). PartMeets b j.dropped.mask) (below_exchanged F j.dropped.g X Y) N.below_meets_lem;
       sum_meets = subst (λ (n : ℕ). Meets n j.c.mask) (sum_exchanged F j.setting.mode X Y) N.sum_meets;
     }
 

@@ -18,7 +18,7 @@ use Rattle.word.specs.declared.Biased.{Biased}
 use Rattle.word.specs.Word.{sign, biased, fraction, all_ones, word_of}
 use Rattle.word.specs.Masks.{exponent_mask}
 use Rattle.word.proofs.Fields.{signed_lt, together_lt, together_sign, together_biased, together_fraction}
-use Rattle.fit.specs.Fit.{RowMeets, row_in, below_in, BelowMeets}
+use Rattle.fit.specs.Fit.{PartMeets, row_in, below_in}
 use Rattle.special.specs.Asked.{field_is, PairFits}
 use Rattle.special.specs.Special.{Special, Unfixed}
 use Rattle.special.proofs.Alike.{special_row, special_below, finite_second, finite_first}
@@ -64,11 +64,11 @@ module _ (j : Job) (valid : Valid j) (E e g : Biased) (ones : E.0 ≡ all_ones j
   all_ones_lem : (x : ℕ) → biased F x ≡ E → (biased F x).0 ≡ all_ones F
   all_ones_lem x is = ap (λ (n : Biased). n.0) is ∙ ones
 
-  rowless : (a b : ℕ) → Special F (biased F a) (biased F b) → Unfixed j → RowMeets (row_in j.setting a b) j.carries
-  rowless a b special free = subst (λ (r : Option ℕ). RowMeets r j.carries) (sym (special_row F j.setting.operation a b special)) free.carries
+  rowless : (a b : ℕ) → Special F (biased F a) (biased F b) → Unfixed j → PartMeets (row_in j.setting a b) j.carries
+  rowless a b special free = subst (λ (r : Option ℕ). PartMeets r j.carries) (sym (special_row F j.setting.operation a b special)) free.carries
 
-  bitless : (a b : ℕ) → Special F (biased F a) (biased F b) → Unfixed j → BelowMeets (below_in j.setting j.dropped.g a b) j.dropped.mask
-  bitless a b special free = subst (λ (r : Option ℕ). BelowMeets r j.dropped.mask) (sym (special_below F j.setting.operation j.dropped.g a b special)) free.dropped
+  bitless : (a b : ℕ) → Special F (biased F a) (biased F b) → Unfixed j → PartMeets (below_in j.setting j.dropped.g a b) j.dropped.mask
+  bitless a b special free = subst (λ (r : Option ℕ). PartMeets r j.dropped.mask) (sym (special_below F j.setting.operation j.dropped.g a b special)) free.dropped
 
   pub beside_a : Meets g.0 (exponent_mask F j.b.mask) → PairFits j E e → PairFits j E g
   beside_a met p = record {

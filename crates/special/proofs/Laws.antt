@@ -21,7 +21,7 @@ use Rattle.adder.specs.Result.{result_reply}
 use Rattle.adder.proofs.Causes.{result_word}
 use Rattle.adder.proofs.ResultLaws.{result_lt}
 use Rattle.fit.proofs.Laws.{words_fit}
-use Rattle.fit.specs.Fit.{result_in, RowMeets, BelowMeets, Fits}
+use Rattle.fit.specs.Fit.{result_in, PartMeets, Fits}
 use Rattle.special.specs.Asked.{InRange, PairFits}
 use Rattle.special.specs.Special.{Special, Unfixed, representative, together, partnered, admitted}
 use Rattle.special.proofs.Alike.{special_row, special_below, alike_result}
@@ -64,8 +64,8 @@ module _ (j : Job) (valid : Valid j) where
           a_allowed = record { mask = m.0; within = tt };
           b_allowed = record { mask = m.1; within = tt };
           c_allowed = record { mask = m.2; within = tt };
-          row = subst (λ (r : Option ℕ). RowMeets r j.carries) (sym (special_row j.setting.format j.setting.operation a b special)) free.carries;
-          dropped = subst (λ (r : Option ℕ). BelowMeets r j.dropped.mask) (sym (special_below j.setting.format j.setting.operation j.dropped.g a b special)) free.dropped;
+          row = subst (λ (r : Option ℕ). PartMeets r j.carries) (sym (special_row j.setting.format j.setting.operation a b special)) free.carries;
+          dropped = subst (λ (r : Option ℕ). PartMeets r j.dropped.mask) (sym (special_below j.setting.format j.setting.operation j.dropped.g a b special)) free.dropped;
         };
       }
 

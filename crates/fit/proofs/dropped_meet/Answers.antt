@@ -1,8 +1,9 @@
 -- `fit::dropped_meet` meets its contract: a mask that fixes no bit is met whatever the bits are. Assumes nothing.
+use Rattle.std.specs.Prelude.{ℕ}
 use Rattle.std.specs.Prelude.{Option}
 use mathlib.Core.Path.{sym, ap, ◌∙◌}
-use Rattle.fit.specs.Fit.{below_in, below_meets}
-use Rattle.fit.proofs.Laws.{below_meets_true, unfixed_met}
+use Rattle.fit.specs.Fit.{below_in, part_meets}
+use Rattle.fit.proofs.Laws.{part_meets_true, unfixed_met}
 use Rattle.fit.proofs.dropped_meet.Goals as goal
 
 pub returns-then-dropped-eq0 : goal.returns-then-dropped-eq0
@@ -10,9 +11,9 @@ returns-then-dropped-eq0 c =
     let a = c.args in
     let m = a.dropped.mask in
     let below = below_in a.setting a.dropped.g a.a a.b in
-    sym ((below_meets_true below m).1 (unfixed_met below m c.requires.1.mask.inside c.if-dropped-eq0.true))
+    sym ((part_meets_true below m).1 (unfixed_met below m c.requires.1.mask.inside c.if-dropped-eq0.true))
 
 pub returns : goal.returns
 returns c =
     let below = c.below_last-below.ensures.0 (c.requires.0.format, c.requires.1.g_most) in
-    c.below_meets.ensures ∙ ap (λ (b : Option ℕ). below_meets b c.args.dropped.mask) below
+    c.part_meets.ensures ∙ ap (λ (b : Option ℕ). part_meets b c.args.dropped.mask) below

@@ -1,4 +1,5 @@
 -- `replies::of_case` meets its contract: each arm is what the reply says. Assumes nothing.
+use Rattle.std.specs.Prelude.{ℕ}
 use Rattle.std.specs.Prelude.{Option}
 use mathlib.Core.Path.{sym, ap}
 use mathlib.Core.List.{◌∷◌}

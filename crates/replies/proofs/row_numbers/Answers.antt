@@ -1,4 +1,5 @@
 -- `replies::row_numbers` meets its contract: each arm is what the reply says. Assumes nothing.
+use Rattle.std.specs.Prelude.{ℕ}
 use Rattle.std.specs.Prelude.{Option}
 use mathlib.Core.Path.{sym, ap}
 use Rattle.delivery.specs.Answer.{numbers}
