@@ -20,12 +20,12 @@ err_ok e = mathlib.Core.Bool.false≢true (ap is_ok e)
 
 -- a check that says Ok is clear
 pub ok_clear : {r : Check} → is_ok r ≡ true → r ≡ clear
-ok_clear {r = Ok tt} e = refl
+ok_clear {r = Ok u} e = refl
 ok_clear {r = Err c} e = absurd (mathlib.Core.Bool.false≢true e)
 
 -- the first of two causes is none exactly when both checks are clear
 pub first_none : (m n : Check) → first m n ≡ clear ↔ ((m ≡ clear) × (n ≡ clear))
-first_none (Ok tt) n = (λ e. (refl, e), λ b. b.1)
+first_none (Ok u) n = (λ e. (refl, e), λ b. b.1)
 first_none (Err c) n = (λ e. absurd (err_ok e), λ b. absurd (err_ok b.0))
 
 -- two checks, each with what it means that it is clear
@@ -37,7 +37,7 @@ both_none m n p q = (
 
 -- where the first check names a cause, the later ones do not count
 pub first_some : (m n : Check) → (m ≡ clear → ⊥) → first m n ≡ m
-first_some (Ok tt) n h = absurd (h refl)
+first_some (Ok u) n h = absurd (h refl)
 first_some (Err c) n h = refl
 
 -- a test names no cause exactly when it holds

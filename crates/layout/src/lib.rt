@@ -7,7 +7,7 @@ ghost use Rattle.layout.specs.Layout.{map_of};
 ghost use Rattle.layout.specs.Fields.{word_bytes, with_default, layout, field_sizes, ends_of, entry_numbers, presence, second_map, entry_map, mask_at, bounds_at, job_with, entry_with};
 
 use bits::bit_at;
-use bounds::{Bounds, Ends};
+use bounds::Ends;
 use format::Format;
 use job::below::normalised;
 use job::{Dropped, Job, Setting, Wanted};
@@ -138,11 +138,7 @@ fn map_of(word: usize, numbers: [u64; NUMBERS]) -> u64
 fn ends_of(w: Wanted) -> Ends
     ensures { result ≡ ends_of w.bounds }
 {
-    let bounds = w.bounds;
-    match bounds {
-        None => Ends { low: 0, high: 0 },
-        Some(ends) => ends,
-    }
+    w.bounds.unwrap_or(Ends { low: 0, high: 0 })
 }
 
 // The numbers of an entry, in the order of the layout; g is 0 where none of the dropped bits is fixed.
@@ -181,11 +177,7 @@ pub fn entry_numbers(entry: Entry) -> [u64; NUMBERS]
 fn presence(w: Wanted) -> u64
     ensures { result ≡ presence w.bounds }
 {
-    let bounds = w.bounds;
-    match bounds {
-        None => 0,
-        Some(_) => 1,
-    }
+    w.bounds.is_some() as u64
 }
 
 // The second map byte: which of a, b and c have bounds.
@@ -222,7 +214,7 @@ fn mask_at(numbers: [u64; NUMBERS], i: usize) -> Mask
 }
 
 // The bounds of a field, the low one of which is number i.
-fn bounds_at(map: u64, numbers: [u64; NUMBERS], field: u64, i: usize) -> Bounds
+fn bounds_at(map: u64, numbers: [u64; NUMBERS], field: u64, i: usize) -> Option<Ends>
     requires { i + 1 < 20 }
     ensures { result ≡ bounds_at map numbers field i }
 {

@@ -1,5 +1,5 @@
 -- Numbers as bytes, low byte first, and bytes put into a buffer (document 01, "Job files"). Assumes nothing.
-use Rattle.std.specs.Prelude.{ℕ, zero, suc, ◌+◌, ◌*◌, ◌/◌, ◌%◌, ◌<◌, List, [], ◌∷◌, ◌++◌, length, get_or, take, drop, leb, cond, ◌&&◌}
+use Rattle.std.specs.Prelude.{ℕ, zero, suc, ◌+◌, ◌*◌, ◌/◌, ◌%◌, ◌<◌, List, [], ◌∷◌, ◌++◌, length, get_or, take, drop, leb, cond, ◌&&◌, Result, Ok, Err}
 
 -- every element is a byte
 abbrev pub Bytes : List ℕ → Type 0
@@ -27,7 +27,7 @@ put s at bs = take at s ++ (bs ++ drop (at + length bs) s)
 unfoldable pub put_within : List ℕ → ℕ → List ℕ → List ℕ
 put_within s at bs = cond (leb (at + length bs) (length s)) (put s at bs) s
 
--- the buffer with these bytes at its front and what stood after them, where no cause stands against that; else as it was
-abbrev pub buffer_after : ℕ → List ℕ → List ℕ → List ℕ
-buffer_after zero bs s = bs ++ drop (length bs) s
-buffer_after (suc k) bs s = s
+-- the buffer with these bytes at its front and what stood after them, where that was taken; on a refusal as it was
+abbrev pub buffer_after : {T E : Type 0} → Result T E → List ℕ → List ℕ → List ℕ
+buffer_after (Ok x) bs s = bs ++ drop (length bs) s
+buffer_after (Err e) bs s = s

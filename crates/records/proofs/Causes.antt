@@ -14,8 +14,9 @@ use mathlib.Core.List.{List, [], ◌∷◌}
 use lib.ListN.{length}
 use lib.Dec.{leb, ltb}
 use lib.Pow.{pow_mono, pow_pos}
+use Rattle.format.specs.declared.cause.Cause.{Cause}
 use Rattle.format.specs.declared.cause.Cause.TheVariants as cause
-use Rattle.format.specs.Cause.{unless, first}
+use Rattle.format.specs.Cause.{Check, clear, unless, first}
 use Rattle.format.specs.Format.{word_bits, precision, Supported}
 use Rattle.format.specs.declared.Format.{Format}
 use Rattle.format.proofs.Laws.{first_none, both_none, unless_none, first_some}
@@ -30,7 +31,7 @@ use Rattle.job.specs.Job.{Request}
 use Rattle.job.proofs.Laws.{request_none, normalised_request}
 use Rattle.numbers.specs.Numbers.{number_bytes}
 use Rattle.layout.specs.Fields.{word_bytes, map_width, with_default, layout, ends_of, field_numbers, normalised_entry, entry_numbers, field_sizes, entry_word, entry_map, says_absence}
-use Rattle.records.specs.Record.{record_cause, record_bytes, map_in, record_length, entry_in, read_cause, read_reply, format_in, first_with, first_in}
+use Rattle.records.specs.Record.{record_cause, record_bytes, map_in, record_length, entry_in, read_cause, First, read_reply, format_in, first_with, first_in}
 use Rattle.layout.specs.declared.Entry.{Entry}
 use Rattle.numbers.proofs.BySizes.{Fits, none, more, length_bytes}
 use Rattle.layout.proofs.ByMap.{counts, fits_map}
@@ -92,12 +93,12 @@ unfolding entry_numbers
 entry_fits e v = fields_fit (normalised_entry e) (normalised_request e.job e.r1 e.r2 v)
 
 -- in a record it has these bytes, or it is 0
-pub record_fits : (e : Entry) → record_cause e ≡ 0 → Fits (field_sizes (entry_word e) (entry_map e)) (entry_numbers e)
+pub record_fits : (e : Entry) → record_cause e ≡ clear → Fits (field_sizes (entry_word e) (entry_map e)) (entry_numbers e)
 record_fits e ok =
     fits_map (entry_map e) (layout (entry_word e)) (entry_numbers e) (entry_fits e ((request_none e.job e.r1 e.r2).0 ok)) (entry_map_absent e)
 
 -- the length by the map is the record's length
-pub record_length_lem : (e : Entry) → record_cause e ≡ 0 → record_length (entry_word e) (entry_map e) ≡ length (record_bytes e)
+pub record_length_lem : (e : Entry) → record_cause e ≡ clear → record_length (entry_word e) (entry_map e) ≡ length (record_bytes e)
 unfolding record_length record_bytes
 record_length_lem e ok =
     let S = e.job.setting in
@@ -105,22 +106,33 @@ record_length_lem e ok =
     omega (arith, length_bytes (record_fits e ok), length_headed (entry_map e) S.format S.operation fields)
 
 -- the longest record has 139 bytes
-pub record_most : (e : Entry) → record_cause e ≡ 0 → length (record_bytes e) ≤ 139
+pub record_most : (e : Entry) → record_cause e ≡ clear → length (record_bytes e) ≤ 139
 unfolding record_length
 record_most e ok = omega (arith, record_length_lem e ok, total_most e.job.setting.format (entry_map e))
 
 -- ---- replies
 
-pub reply_refused : (k : ℕ) (e : Entry) (n : ℕ) → (k ≡ 0 → ⊥) → Err k ≡ read_reply k e n
-reply_refused zero e n h = absurd (h refl)
-reply_refused (suc k) e n h = refl
+-- one entry and one length are read
+entry_of : Entry → First → Entry
+entry_of d (Ok (Some p)) = p.0
+entry_of d (Ok None) = d
+entry_of d (Err k) = d
 
-first_assoc : (k m n : ℕ) → first k (first m n) ≡ first (first k m) n
-first_assoc zero m n = refl
-first_assoc (suc k) m n = refl
+length_of : First → ℕ
+length_of (Ok (Some p)) = p.1
+length_of (Ok None) = 0
+length_of (Err k) = 0
+
+pub job_same : {e d : Entry} {n k : ℕ} → ◌≡◌ {A = First} (Ok (Some (e, n))) (Ok (Some (d, k))) → (e ≡ d) × (n ≡ k)
+unfolding entry_of length_of
+job_same {e} q = (ap (entry_of e) q, ap length_of q)
+
+first_assoc : (k m n : Check) → first k (first m n) ≡ first (first k m) n
+first_assoc (Ok u) m n = refl
+first_assoc (Err k) m n = refl
 
 -- a cause other than a map with a bit that has no meaning or a record that is cut short
-abbrev pub late_cause : ℕ → List ℕ → ℕ
+abbrev pub late_cause : ℕ → List ℕ → Check
 late_cause word s = first (record_cause (entry_in word s)) (unless (not (says_absence word (map_in s) (entry_numbers (entry_in word s)))) cause.DefaultField)
 
 -- ---- what reading says, where so many map bits have a meaning and a word has so many bytes
@@ -129,19 +141,19 @@ module _ (bits word : ℕ) where
   pub record Readable (s : List ℕ) : Type 0 where
     pub map : map_in s < 2 ^ bits
     pub whole : record_length word (map_in s) ≤ length s
-    pub sound : record_cause (entry_in word s) ≡ 0
+    pub sound : record_cause (entry_in word s) ≡ clear
     pub no_default : says_absence word (map_in s) (entry_numbers (entry_in word s)) ≡ false
 
-  pub read_none : (s : List ℕ) → (read_cause bits word s ≡ 0) ↔ Readable s
+  pub read_none : (s : List ℕ) → (read_cause bits word s ≡ clear) ↔ Readable s
   unfolding read_cause
   read_none s =
       let m : ℕ = map_in s in
       let d : Bool = says_absence word m (entry_numbers (entry_in word s)) in
       let n : ℕ = record_length word m in
-      let k : ℕ = record_cause (entry_in word s) in
-      let itself : (k ≡ 0) ↔ (k ≡ 0) = ((λ e. e), λ e. e) in
-      let last = both_none _ _ itself (unless_none (not d) 9) in
-      let law = both_none _ _ (unless_none (ltb m (2 ^ bits)) 8) (both_none _ _ (unless_none (leb n (length s)) 7) last) in (
+      let k : Check = record_cause (entry_in word s) in
+      let itself : (k ≡ clear) ↔ (k ≡ clear) = ((λ e. e), λ e. e) in
+      let last = both_none _ _ itself (unless_none (not d) cause.DefaultField) in
+      let law = both_none _ _ (unless_none (ltb m (2 ^ bits)) cause.MapBits) (both_none _ _ (unless_none (leb n (length s)) cause.Cut) last) in (
         (λ z.
             let y = law.0 z in
             record {
@@ -159,43 +171,33 @@ module _ (bits word : ℕ) where
     pub entry : entry_in word s ≡ e
     pub count : record_length word (map_in s) ≡ n
 
-  pub job_with : (s : List ℕ) (e : Entry) (n : ℕ) → first_with bits word s ≡ (Ok (Some (e, n))) → Taken s e n
+  pub job_with : (s : List ℕ) (e : Entry) (n : ℕ) → first_with bits word s ≡ Ok (Some (e, n)) → Taken s e n
   unfolding first_with
   job_with [] e n q = absurd (let z : ◌≡◌ {A = ℕ} 0 1 = cc in omega arith)
   job_with (b ∷ bs) e n q = go (read_cause bits word (b ∷ bs)) refl q
     where
-      go : (k : ℕ) → read_cause bits word (b ∷ bs) ≡ k → read_reply k (entry_in word (b ∷ bs)) (record_length word (map_in (b ∷ bs))) ≡ (Ok (Some (e, n))) → Taken (b ∷ bs) e n
-      go zero z q = record { readable = (read_none (b ∷ bs)).0 z; entry = cc; count = cc }
-      go (suc k) z q = absurd (let z : ◌≡◌ {A = ℕ} 0 1 = cc in omega arith)
+      go : (k : Check) → read_cause bits word (b ∷ bs) ≡ k → read_reply k (entry_in word (b ∷ bs)) (record_length word (map_in (b ∷ bs))) ≡ Ok (Some (e, n)) → Taken (b ∷ bs) e n
+      go (Ok u) z q = let same = job_same q in record { readable = (read_none (b ∷ bs)).0 z; entry = same.0; count = same.1 }
+      go (Err k) z q = absurd (let z : ◌≡◌ {A = ℕ} 0 1 = cc in omega arith)
 
   -- and back
-  pub taken_job : (s : List ℕ) (e : Entry) (n : ℕ) → Taken s e n → first_with bits word s ≡ (Ok (Some (e, n)))
+  pub taken_job : (s : List ℕ) (e : Entry) (n : ℕ) → Taken s e n → first_with bits word s ≡ Ok (Some (e, n))
   unfolding first_with record_length
   taken_job [] e n t = absurd (omega (arith, t.readable.whole))
   taken_job (b ∷ bs) e n t =
-      ap (λ (k : ℕ). read_reply k (entry_in word (b ∷ bs)) (record_length word (map_in (b ∷ bs)))) ((read_none (b ∷ bs)).1 t.readable) ∙ ap₂ (Ok (Some (t.entry, t.count)))
+      ap (λ (k : Check). read_reply k (entry_in word (b ∷ bs)) (record_length word (map_in (b ∷ bs)))) ((read_none (b ∷ bs)).1 t.readable) ∙ ap₂ (λ (d : Entry) (k : ℕ). Ok (Some (d, k))) t.entry t.count
 
-  pub end_with : (s : List ℕ) → first_with bits word s ≡ (Ok None) → s ≡ []
+  pub end_with : (s : List ℕ) → first_with bits word s ≡ Ok None → s ≡ []
   unfolding first_with
   end_with [] q = refl
   end_with (b ∷ bs) q = go (read_cause bits word (b ∷ bs)) q
     where
-      go : (k : ℕ) → read_reply k (entry_in word (b ∷ bs)) (record_length word (map_in (b ∷ bs))) ≡ (Ok None) → b ∷ bs ≡ []
-      go zero q = absurd (let z : ◌≡◌ {A = ℕ} 0 1 = cc in omega arith)
-      go (suc k) q = absurd (let z : ◌≡◌ {A = ℕ} 0 1 = cc in omega arith)
-
-  -- the number of a refusal is not 0
-  pub refused_with : (s : List ℕ) (k : ℕ) → first_with bits word s ≡ Err k → 0 < k
-  unfolding first_with
-  refused_with [] k q = absurd (let z : ◌≡◌ {A = ℕ} 0 1 = cc in omega arith)
-  refused_with (b ∷ bs) k q = go (read_cause bits word (b ∷ bs)) q
-    where
-      go : (j : ℕ) → read_reply j (entry_in word (b ∷ bs)) (record_length word (map_in (b ∷ bs))) ≡ Err k → 0 < k
-      go zero q = absurd (let z : ◌≡◌ {A = ℕ} 0 1 = cc in omega arith)
-      go (suc j) q = let p : suc j ≡ k = cc in omega arith
+      go : (k : Check) → read_reply k (entry_in word (b ∷ bs)) (record_length word (map_in (b ∷ bs))) ≡ Ok None → b ∷ bs ≡ []
+      go (Ok u) q = absurd (let z : ◌≡◌ {A = ℕ} 0 1 = cc in omega arith)
+      go (Err k) q = absurd (let z : ◌≡◌ {A = ℕ} 0 1 = cc in omega arith)
 
   -- ---- reading, test by test
-  pub none_left_with : (s : List ℕ) → length s ≡ 0 → first_with bits word s ≡ (Ok None)
+  pub none_left_with : (s : List ℕ) → length s ≡ 0 → first_with bits word s ≡ Ok None
   unfolding first_with
   none_left_with [] e = refl
   none_left_with (b ∷ bs) e = absurd (omega arith)
@@ -206,7 +208,7 @@ module _ (bits word : ℕ) where
   first_some_left (b ∷ bs) h = refl
 
   -- a map with a bit that has no meaning, or a record that is cut short
-  abbrev pub early_cause : List ℕ → ℕ
+  abbrev pub early_cause : List ℕ → Check
   early_cause s = first (unless (ltb (map_in s) (2 ^ bits)) cause.MapBits) (unless (leb (record_length word (map_in s)) (length s)) cause.Cut)
 
   cause_split : (s : List ℕ) → read_cause bits word s ≡ first (early_cause s) (late_cause word s)
@@ -214,23 +216,21 @@ module _ (bits word : ℕ) where
   cause_split s = first_assoc (unless (ltb (map_in s) (2 ^ bits)) cause.MapBits) (unless (leb (record_length word (map_in s)) (length s)) cause.Cut) (late_cause word s)
 
   module _ (s : List ℕ) (some : length s ≡ 0 → ⊥) where
-    by_cause : (k : ℕ) → read_cause bits word s ≡ k → first_with bits word s ≡ read_reply k (entry_in word s) (record_length word (map_in s))
-    by_cause k e = first_some_left s some ∙ ap (λ (j : ℕ). read_reply j (entry_in word s) (record_length word (map_in s))) e
+    by_cause : (k : Check) → read_cause bits word s ≡ k → first_with bits word s ≡ read_reply k (entry_in word s) (record_length word (map_in s))
+    by_cause k e = first_some_left s some ∙ ap (λ (j : Check). read_reply j (entry_in word s) (record_length word (map_in s))) e
 
-    pub early_with : (early_cause s ≡ 0 → ⊥) → first_with bits word s ≡ Err (early_cause s)
-    early_with h =
-        by_cause (early_cause s) (cause_split s ∙ first_some (early_cause s) (late_cause word s) h)
-        ∙ sym (reply_refused (early_cause s) (entry_in word s) (record_length word (map_in s)) h)
+    pub early_refused : (k : Cause) → early_cause s ≡ Err k → first_with bits word s ≡ Err k
+    early_refused k e = by_cause (Err k) (cause_split s ∙ ap (λ (j : Check). first j (late_cause word s)) e)
 
-    pub late_with : early_cause s ≡ 0 → first_with bits word s ≡ read_reply (late_cause word s) (entry_in word s) (record_length word (map_in s))
-    late_with e = by_cause (late_cause word s) (cause_split s ∙ ap (λ (k : ℕ). first k (late_cause word s)) e)
+    pub late_with : early_cause s ≡ clear → first_with bits word s ≡ read_reply (late_cause word s) (entry_in word s) (record_length word (map_in s))
+    late_with e = by_cause (late_cause word s) (cause_split s ∙ ap (λ (k : Check). first k (late_cause word s)) e)
 
-  pub early_none : (s : List ℕ) → early_cause s ≡ 0 → (map_in s < 2 ^ bits) × (record_length word (map_in s) ≤ length s)
+  pub early_none : (s : List ℕ) → early_cause s ≡ clear → (map_in s < 2 ^ bits) × (record_length word (map_in s) ≤ length s)
   early_none s e =
       let m : ℕ = map_in s in
       let n : ℕ = record_length word m in
       let both = (first_none (unless (ltb m (2 ^ bits)) cause.MapBits) (unless (leb n (length s)) cause.Cut)).0 e in
-      (ltb-true m (2 ^ bits) ((unless_none (ltb m (2 ^ bits)) 8).0 both.0), leb-true n (length s) ((unless_none (leb n (length s)) 7).0 both.1))
+      (ltb-true m (2 ^ bits) ((unless_none (ltb m (2 ^ bits)) cause.MapBits).0 both.0), leb-true n (length s) ((unless_none (leb n (length s)) cause.Cut).0 both.1))
 
 -- ---- the same for this version of the job files
 
@@ -238,18 +238,14 @@ module _ (bits word : ℕ) where
 abbrev pub word_in : List ℕ → ℕ
 word_in s = word_bytes (format_in s)
 
-pub first_job : (s : List ℕ) (e : Entry) (n : ℕ) → first_in s ≡ (Ok (Some (e, n))) → Taken map_width (word_in s) s e n
+pub first_job : (s : List ℕ) (e : Entry) (n : ℕ) → first_in s ≡ Ok (Some (e, n)) → Taken map_width (word_in s) s e n
 unfolding first_in
 first_job s = job_with map_width (word_in s) s
 
-pub first_end : (s : List ℕ) → first_in s ≡ (Ok None) → s ≡ []
+pub first_end : (s : List ℕ) → first_in s ≡ Ok None → s ≡ []
 unfolding first_in
 first_end s = end_with map_width (word_in s) s
 
-pub first_refused : (s : List ℕ) (k : ℕ) → first_in s ≡ Err k → 0 < k
-unfolding first_in
-first_refused s = refused_with map_width (word_in s) s
-
-pub first_none_left : (s : List ℕ) → length s ≡ 0 → first_in s ≡ (Ok None)
+pub first_none_left : (s : List ℕ) → length s ≡ 0 → first_in s ≡ Ok None
 unfolding first_in
 first_none_left s = none_left_with map_width (word_in s) s

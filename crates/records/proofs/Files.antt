@@ -1,5 +1,6 @@
 -- Whole files: entries that are written read back as those entries, each g taken as 0 where no dropped bit is fixed, and then end, and a
 -- file that is accepted to its end is what writing its entries gives. By induction, record by record. Assumes nothing.
+use Rattle.records.proofs.Causes.{job_same}
 use Rattle.std.specs.Prelude.{Some, Ok}
 use mathlib.Core.Path.{◌≡◌, refl, sym, ap₂, ◌∙◌, subst}
 use native.Mathlib.Omega.{arith}
@@ -45,7 +46,6 @@ file_unique end end = refl
 file_unique end (next q rest) = absurd (let z : ◌≡◌ {A = ℕ} 0 1 = cc in omega arith)
 file_unique (next q rest) end = absurd (let z : ◌≡◌ {A = ℕ} 0 1 = cc in omega arith)
 file_unique (next {s = s} {e = e} {n = n} {es = es} q rest) (next {e = d} {n = k} {es = ds} r more') =
-    let one : (Ok (Some (e, n))) ≡ (Ok (Some (d, k))) = sym q ∙ r in
-    let same : n ≡ k = cc in
-    ap₂ (λ (x : Entry) (xs : List Entry). x ∷ xs) (let z : e ≡ d = cc in z)
-    (file_unique rest (subst (λ (j : ℕ). Reads (drop j s) ds) (sym same) more'))
+    let same = job_same (sym q ∙ r) in
+    ap₂ (λ (x : Entry) (xs : List Entry). x ∷ xs) same.0
+    (file_unique rest (subst (λ (j : ℕ). Reads (drop j s) ds) (sym same.1) more'))

@@ -13,7 +13,7 @@ use lib.Dec.{eqb}
 use lib.ListN.{length, take, drop, length-append, length-drop}
 use lib.Seq.{drop-append_seam}
 use Rattle.format.specs.declared.cause.Cause.TheVariants as cause
-use Rattle.format.specs.Cause.{unless, first}
+use Rattle.format.specs.Cause.{clear, unless, first}
 use Rattle.numbers.specs.Number.{Bytes, little_endian}
 use Rattle.numbers.specs.Numbers.{total, number_bytes, numbers}
 use Rattle.numbers.proofs.Numbers.{bytes_drop}
@@ -26,12 +26,12 @@ use Rattle.layout.specs.declared.Entry.{Entry}
 use Rattle.layout.proofs.ByMap.{Absent, neither, read_absent}
 use Rattle.layout.proofs.Maps.{entry_map_lt, absence_map, own_absence}
 use Rattle.layout.proofs.Entries.{entry_back, numbers_again, entry_same, numbers_same, read_announces, numbers_read, entry_absent, read_normalised}
-use Rattle.records.specs.Record.{map_bytes, header_bytes, headed, record_cause, record_bytes, map_in, record_length, format_in, operation_in, numbers_in, entry_in, first_with, first_in, rest, rest_after}
+use Rattle.records.specs.Record.{First, map_bytes, header_bytes, headed, record_cause, record_bytes, map_in, record_length, format_in, operation_in, numbers_in, entry_in, first_with, first_in, rest, rest_after}
 use Rattle.records.proofs.Headers.{map_headed, format_headed, entry_headed, take_headed, entry_map_fits, map_fits, headed_back}
-use Rattle.records.proofs.Causes.{record_fits, record_length_lem, Readable, Taken, taken_job, word_in, first_job, late_cause}
+use Rattle.records.proofs.Causes.{job_same, record_fits, record_length_lem, Readable, Taken, taken_job, word_in, first_job, late_cause}
 
 -- ---- written and read back
-module _ (e : Entry) (t : List ℕ) (ok : record_cause e ≡ 0) where
+module _ (e : Entry) (t : List ℕ) (ok : record_cause e ≡ clear) where
   -- the bytes of the fields, and what follows
   tail : List ℕ
   tail = number_bytes (field_sizes (entry_word e) (entry_map e)) (entry_numbers e) ++ t
@@ -54,7 +54,7 @@ module _ (e : Entry) (t : List ℕ) (ok : record_cause e ≡ 0) where
       ap (entry_in (entry_word e)) whole_record ∙ entry_headed (entry_map e) S.format S.operation tail (entry_map_fits e) (entry_word e)
       ∙ ap (entry_with S.format S.operation (entry_map e)) (numbers_back (record_fits e ok) t) ∙ entry_back e
 
-  same_cause : record_cause (normalised_entry e) ≡ 0
+  same_cause : record_cause (normalised_entry e) ≡ clear
   same_cause =
       (request_none (normalised_job e.job) e.r1 e.r2).1
       (normalised_request e.job e.r1 e.r2 ((request_none e.job e.r1 e.r2).0 ok))
@@ -73,7 +73,7 @@ module _ (e : Entry) (t : List ℕ) (ok : record_cause e ≡ 0) where
         count = long;
       }
 
-  pub read_written : first_in (record_bytes e ++ t) ≡ (Ok (Some ((normalised_entry e), (length (record_bytes e)))))
+  pub read_written : first_in (record_bytes e ++ t) ≡ Ok (Some (normalised_entry e, length (record_bytes e)))
   unfolding first_in
   read_written =
       ap (λ (word : ℕ). first_with map_width word (record_bytes e ++ t)) same_word
@@ -133,8 +133,8 @@ record_read s b r =
     ∙ sym (take_headed m (format_in s) (operation_in s) t n) ∙ ap (take (header_bytes m + n)) (headed_back s b (omega (arith, r.whole)))
 
 -- bytes that read as an entry are the record of that entry, against which no cause stands
-pub written_read : (s : List ℕ) → Bytes s → (e : Entry) (n : ℕ) → first_in s ≡ (Ok (Some (e, n)))
-    → (record_cause e ≡ 0) × (record_bytes e ≡ take n s) × (n ≤ length s)
+pub written_read : (s : List ℕ) → Bytes s → (e : Entry) (n : ℕ) → first_in s ≡ Ok (Some (e, n))
+    → (record_cause e ≡ clear) × (record_bytes e ≡ take n s) × (n ≤ length s)
 written_read s b e n q =
     let taken = first_job s e n q in (
       ap record_cause (sym taken.entry) ∙ taken.readable.sound,
@@ -143,7 +143,7 @@ written_read s b e n q =
     )
 
 -- and the entry is as it is written
-pub read_same : (s : List ℕ) (e : Entry) (n : ℕ) → first_in s ≡ (Ok (Some (e, n))) → normalised_entry e ≡ e
+pub read_same : (s : List ℕ) (e : Entry) (n : ℕ) → first_in s ≡ Ok (Some (e, n)) → normalised_entry e ≡ e
 read_same s e n q =
     let taken = first_job s e n q in
     ap normalised_entry (sym taken.entry) ∙ entry_same (entry_in (word_in s) s) (read_taken map_width (word_in s) s taken.readable) ∙ taken.entry
@@ -151,16 +151,13 @@ read_same s e n q =
 -- ---- records tell entries apart
 
 -- no record is the start of another, and entries that are not taken alike have different records
-pub no_prefix : (e d : Entry) (t : List ℕ) → record_cause e ≡ 0 → record_cause d ≡ 0 → record_bytes e ++ t ≡ record_bytes d
+pub no_prefix : (e d : Entry) (t : List ℕ) → record_cause e ≡ clear → record_cause d ≡ clear → record_bytes e ++ t ≡ record_bytes d
     → (normalised_entry e ≡ normalised_entry d) × (t ≡ [])
 no_prefix e d t p q same =
     let whole : record_bytes e ++ t ≡ record_bytes d ++ [] = same ∙ sym (append-nil (record_bytes d)) in
-    let one : (Ok (Some ((normalised_entry e), (length (record_bytes e))))) ≡ (Ok (Some ((normalised_entry d), (length (record_bytes d))))) =
+    let one : ◌≡◌ {A = First} (Ok (Some (normalised_entry e, length (record_bytes e)))) (Ok (Some (normalised_entry d, length (record_bytes d)))) =
     sym (read_written e t p) ∙ ap first_in whole ∙ read_written d [] q in
-    (job_same one, sym (rest_written e t p) ∙ ap rest whole ∙ rest_written d [] q)
-  where
-    job_same : {x y : Entry} {k n : ℕ} → (Ok (Some (x, k))) ≡ (Ok (Some (y, n))) → x ≡ y
-    job_same r = cc
+    ((job_same one).0, sym (rest_written e t p) ∙ ap rest whole ∙ rest_written d [] q)
 
-pub record_injective : (e d : Entry) → record_cause e ≡ 0 → record_cause d ≡ 0 → record_bytes e ≡ record_bytes d → normalised_entry e ≡ normalised_entry d
+pub record_injective : (e d : Entry) → record_cause e ≡ clear → record_cause d ≡ clear → record_bytes e ≡ record_bytes d → normalised_entry e ≡ normalised_entry d
 record_injective e d p q same = (no_prefix e d [] p q (append-nil (record_bytes e) ∙ same)).0

@@ -1,6 +1,7 @@
 -- "Old job files that were accepted read as before" (document 02, W-202, W-206, W-207): a version that knows what another knows reads as the same
 -- entries whatever that one accepts, record by record and file by file. What is read depends on the version only by the test for map bits
 -- and by the byte count of a word, and both versions agree on these. Assumes nothing.
+use Rattle.format.specs.Cause.{clear}
 use Rattle.std.specs.Prelude.{Some, Ok}
 use mathlib.Core.Path.{◌≡◌, refl, sym, ap, ◌∙◌, subst}
 use mathlib.Core.Logic.{◌↔◌}
@@ -48,7 +49,7 @@ module _ {earlier later : Version} (more : Extends earlier later) where
   takes_more t = record { w_most = omega (arith, t.w_most, more.widths.w_most); f_most = omega (arith, t.f_most, more.widths.f_most) }
 
   -- a record
-  pub read_as_before : (s : List ℕ) (e : Entry) (n : ℕ) → Takes earlier e.job.setting.format → first_by earlier s ≡ (Ok (Some (e, n))) → first_by later s ≡ (Ok (Some (e, n)))
+  pub read_as_before : (s : List ℕ) (e : Entry) (n : ℕ) → Takes earlier e.job.setting.format → first_by earlier s ≡ Ok (Some (e, n)) → first_by later s ≡ Ok (Some (e, n))
   read_as_before s e n takes q =
       let t = job_with earlier.bits (earlier.word (format_in s)) s e n q in
       let same : format_in s ≡ e.job.setting.format = entry_format (earlier.word (format_in s)) s e t.entry in
@@ -61,10 +62,10 @@ module _ {earlier later : Version} (more : Extends earlier later) where
   file_as_before (next {s = s} {e = e} {n = n} q takes rest) = next (read_as_before s e n takes q) (takes_more takes) (file_as_before rest)
 
 -- what this version accepts is in a supported format, so that it takes it
-current_takes : (s : List ℕ) (e : Entry) (n : ℕ) → first_in s ≡ (Ok (Some (e, n))) → Takes current e.job.setting.format
+current_takes : (s : List ℕ) (e : Entry) (n : ℕ) → first_in s ≡ Ok (Some (e, n)) → Takes current e.job.setting.format
 current_takes s e n q =
     let t = first_job s e n q in
-    let ok : record_cause e ≡ 0 = ap record_cause (sym t.entry) ∙ t.readable.sound in
+    let ok : record_cause e ≡ clear = ap record_cause (sym t.entry) ∙ t.readable.sound in
     let h = ((request_none e.job e.r1 e.r2).0 ok).valid.setting.format in
     record { w_most = h.w_most; f_most = h.f_most }
 
@@ -109,7 +110,7 @@ pub before_bounds_read : {s : List ℕ} {es : List Entry} → ReadsBy before_bou
 before_bounds_read r = current_file.0 (file_as_before before_bounds_extended r)
 
 -- what a file before W-206 accepts wants nothing of the dropped bits
-pub before_free : (v : Version) → v.bits ≤ 6 → (s : List ℕ) (e : Entry) (n : ℕ) → first_by v s ≡ (Ok (Some (e, n))) → e.job.dropped ≡ free_dropped
+pub before_free : (v : Version) → v.bits ≤ 6 → (s : List ℕ) (e : Entry) (n : ℕ) → first_by v s ≡ Ok (Some (e, n)) → e.job.dropped ≡ free_dropped
 before_free v few s e n q =
     let t = job_with v.bits (v.word (format_in s)) s e n q in
     let word = v.word (format_in s) in
@@ -117,7 +118,7 @@ before_free v few s e n q =
     ap (λ (d : Entry). d.job.dropped) (sym t.entry) ∙ dropped_absent (map_in s) word (entry_in word s) (fields_absent word s) low
 
 -- and what a file before W-207 accepts states no bounds
-pub before_unbounded : (v : Version) → v.bits ≤ 7 → (s : List ℕ) (e : Entry) (n : ℕ) → first_by v s ≡ (Ok (Some (e, n))) → unbounded e.job ≡ e.job
+pub before_unbounded : (v : Version) → v.bits ≤ 7 → (s : List ℕ) (e : Entry) (n : ℕ) → first_by v s ≡ Ok (Some (e, n)) → unbounded e.job ≡ e.job
 unfolding entry_in
 before_unbounded v few s e n q =
     let t = job_with v.bits (v.word (format_in s)) s e n q in

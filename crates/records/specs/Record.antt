@@ -5,7 +5,7 @@ use Rattle.format.specs.declared.cause.Cause.{Cause}
 use Rattle.std.specs.Prelude.{not, ℕ, zero, suc, ◌+◌, ◌^◌, List, [], ◌∷◌, ◌++◌, length, get_or, take, drop, leb, ltb}
 use Rattle.bits.specs.Bit.{bit}
 use Rattle.format.specs.declared.cause.Cause.TheVariants as cause
-use Rattle.format.specs.Cause.{unless, first}
+use Rattle.format.specs.Cause.{Check, unless, first}
 use Rattle.format.specs.declared.Format.{Format}
 use Rattle.job.specs.Job.{request_cause}
 use Rattle.numbers.specs.Number.{little_endian, number, buffer_after}
@@ -29,7 +29,7 @@ abbrev pub headed : ℕ → Format → ℕ → List ℕ → List ℕ
 headed m F operation t = little_endian (map_bytes m) m ++ (F.w ∷ F.f ∷ operation ∷ t)
 
 -- 1 to 6, with 14 to 16 (W-203) and 17 (W-206) after 5 and 18 (W-207) after 6: the cause against the job and its random words
-abbrev pub record_cause : Entry → ℕ
+abbrev pub record_cause : Entry → Check
 record_cause e = request_cause e.job e.r1 e.r2
 
 -- the header, "Then, in bit order, only the fields whose bit stands"
@@ -64,33 +64,36 @@ entry_in word s = entry_with (format_in s) (operation_in s) (map_in s) (numbers_
 -- "Reading checks 9, 8, then 1 to 6, then 10", where so many map bits have a meaning and a word has so many bytes; a map with no bit above
 -- these is below 2 to their count. 10 is asked of the numbers as they would be written: W-206, "A mask with care 0 says its default",
 -- whatever its g
-unfoldable pub read_cause : ℕ → ℕ → List ℕ → ℕ
+unfoldable pub read_cause : ℕ → ℕ → List ℕ → Check
 read_cause bits word s =
     first (unless (ltb (map_in s) (2 ^ bits)) cause.MapBits)
     (first (unless (leb (record_length word (map_in s)) (length s)) cause.Cut)
     (first (record_cause (entry_in word s)) (unless (not (says_absence word (map_in s) (entry_numbers (entry_in word s)))) cause.DefaultField)))
 
--- a job where no cause stands, else the cause's number
-abbrev pub read_reply : ℕ → Entry → ℕ → Result (Option (Entry × ℕ)) Cause
-read_reply zero e n = (Ok (Some (e, n)))
-read_reply (suc k) e n = Err (suc k)
+-- what stands first in bytes: nothing more, or an entry with the length of its record; else a refusal
+abbrev pub First : Type 0
+First = Result (Option (Entry × ℕ)) Cause
+
+-- an entry where no cause stands
+abbrev pub read_reply : Check → Entry → ℕ → First
+read_reply check e n = first check (Ok (Some (e, n)))
 
 -- what stands first, with words of `word` bytes: "with no byte left it says end", else a job with its length, or the number of a refusal
-unfoldable pub first_with : ℕ → ℕ → List ℕ → Result (Option (Entry × ℕ)) Cause
-first_with bits word [] = (Ok None)
+unfoldable pub first_with : ℕ → ℕ → List ℕ → First
+first_with bits word [] = Ok None
 first_with bits word (b ∷ bs) = read_reply (read_cause bits word (b ∷ bs)) (entry_in word (b ∷ bs)) (record_length word (map_in (b ∷ bs)))
 
 -- the same for a version of the job files, whose words are as long as w and f say; and for this one
-abbrev pub first_by : Version → List ℕ → Result (Option (Entry × ℕ)) Cause
+abbrev pub first_by : Version → List ℕ → First
 first_by v s = first_with v.bits (v.word (format_in s)) s
 
-unfoldable pub first_in : List ℕ → Result (Option (Entry × ℕ)) Cause
+unfoldable pub first_in : List ℕ → First
 first_in s = first_by current s
 
 -- "the reader hands back the rest of the file"; on a refusal "the rest .. begins at the refused record"
-abbrev pub rest_after : Result (Option (Entry × ℕ)) Cause → List ℕ → List ℕ
+abbrev pub rest_after : First → List ℕ → List ℕ
 rest_after (Ok None) s = []
-rest_after ((Ok (Some (e, n)))) s = drop n s
+rest_after (Ok (Some (e, n))) s = drop n s
 rest_after (Err k) s = s
 
 -- the bytes after what stands first
@@ -100,13 +103,12 @@ rest s = rest_after (first_in s) s
 -- ---- writing
 
 -- "Writing checks 1 to 6, then 11": the record is longer than the buffer of n bytes
-unfoldable pub write_cause : Entry → ℕ → ℕ
+unfoldable pub write_cause : Entry → ℕ → Check
 write_cause e n = first (record_cause e) (unless (leb (length (record_bytes e)) n) cause.Buffer)
 
--- the byte count where no cause stands, else the cause's number
-abbrev pub write_reply : ℕ → ℕ → Result ℕ Cause
-write_reply zero n = Ok n
-write_reply (suc k) n = Err (suc k)
+-- the byte count where no cause stands
+abbrev pub write_reply : Check → ℕ → Result ℕ Cause
+write_reply check n = first check (Ok n)
 
 -- the reply: "it returns the byte count"
 unfoldable pub writing : Entry → List ℕ → Result ℕ Cause

@@ -4,15 +4,15 @@
 mod fields;
 
 ghost use Rattle.std.specs.Prelude.{◌≡◌, ◌≤◌, ◌<◌, ◌^◌, ◌++◌, eqb, length, get_or, drop};
-ghost use Rattle.format.specs.Cause as cause;
-ghost use Rattle.format.specs.Cause.{first, unless};
+ghost use Rattle.format.specs.declared.cause.Cause.TheVariants as cause;
+ghost use Rattle.format.specs.Cause.{clear, first, unless};
 ghost use Rattle.numbers.specs.Numbers.{total, numbers};
 ghost use Rattle.layout.specs.Fields.{word_bytes, entry_with, field_sizes, entry_map};
 ghost use Rattle.records.specs.Record.{map_bytes, header_bytes, record_cause, record_bytes, map_in, record_length, format_in, entry_in, read_reply, first_in, rest, writing, written};
 
 use bits::bit_at;
 use fields::{put_numbers, read_numbers, total};
-use format::{Format, Cause, first, unless};
+use format::{Cause, Format, unless};
 use job::request_cause;
 use layout::{
     ANNOUNCING, Entry, MAP_WIDTH, NUMBERS, entry_map, entry_numbers, entry_with, field_sizes,
@@ -25,23 +25,8 @@ const SETTING: usize = 3;
 // A map with a bit that has no meaning is this or more.
 const MAPS: u64 = 1 << MAP_WIDTH;
 
-// What stands first in bytes: their end, a job and the length of its record, or the number of a refusal.
-#[derive(Clone, Copy)]
-pub enum First {
-    End,
-    Job(Entry, usize),
-    Refused(u64),
-}
-
-// What writing a record gives: the count of bytes written, or the number of a refusal.
-#[derive(Clone, Copy)]
-pub enum Writing {
-    Written(usize),
-    Refused(u64),
-}
-
-// The first of the causes 1 to 6, with 14 to 17 after 5 and 18 after 6, that stands against the entry, 0 for none.
-pub fn entry_cause(entry: Entry) -> u64
+// The first of the causes 1 to 6, with 14 to 17 after 5 and 18 after 6, that stands against the entry.
+pub fn entry_cause(entry: Entry) -> Result<(), Cause>
     ensures { result ≡ record_cause entry }
 {
     request_cause(entry.job, entry.r1, entry.r2)
@@ -127,35 +112,26 @@ fn entry_in(s: &[u8], map: u64, format: Format) -> Entry
 
 // The reply to an entry whose record has this map and this length. A field that says its default, or an empty second map, would not be
 // written, so the maps differ exactly where there is one.
-fn read_reply(entry: Entry, map: u64, n: usize) -> First
-    ensures { result ≡ read_reply (first (record_cause entry) (unless (eqb (entry_map entry) map) cause.default_field)) entry n }
+fn read_reply(entry: Entry, map: u64, n: usize) -> Result<Option<(Entry, usize)>, Cause>
+    ensures { result ≡ read_reply (first (record_cause entry) (unless (eqb (entry_map entry) map) cause.DefaultField)) entry n }
 {
-    let same = entry_map(entry) == map;
-    let found = entry_cause(entry);
-    let said = unless(same, Cause::DefaultField);
-    let cause = first(found, said);
-    if cause == 0 {
-        return First::Job(entry, n);
-    }
-    First::Refused(cause)
+    entry_cause(entry)?;
+    unless(entry_map(entry) == map, Cause::DefaultField)?;
+    Ok(Some((entry, n)))
 }
 
-// What stands first in the bytes.
-pub fn read(s: &[u8]) -> First
+// What stands first in the bytes: an entry with the length of its record, nothing where no byte is left, or the refusal.
+pub fn read(s: &[u8]) -> Result<Option<(Entry, usize)>, Cause>
     ensures { result ≡ first_in s.now }
 {
-    if s.len() == 0 {
-        return First::End;
+    if s.is_empty() {
+        return Ok(None);
     }
     let map = map_in(s);
+    unless(map < MAPS, Cause::MapBits)?;
     let format = format_in(s, map);
     let n = record_length(format, map);
-    let bits = unless(map < MAPS, Cause::MapBits);
-    let cut = unless(n <= s.len(), Cause::Cut);
-    let early = first(bits, cut);
-    if 0 < early {
-        return First::Refused(early);
-    }
+    unless(n <= s.len(), Cause::Cut)?;
     read_reply(entry_in(s, map, format), map, n)
 }
 
@@ -163,17 +139,16 @@ pub fn read(s: &[u8]) -> First
 pub fn rest(s: &[u8]) -> &[u8]
     ensures { result.now ≡ rest s.now }
 {
-    let found = read(s);
-    match found {
-        First::Job(_, n) => &s[n..],
-        First::Refused(_) => s,
-        First::End => s,
+    match read(s) {
+        Ok(Some((_, n))) => &s[n..],
+        Ok(None) => s,
+        Err(_) => s,
     }
 }
 
 // Puts the record of an entry against which no cause stands: the header, then the fields.
 fn put_record(buffer: &mut [u8], map: u64, entry: Entry)
-    requires { (record_cause entry ≡ 0) × (map ≡ entry_map entry) × (length (record_bytes entry) ≤ length buffer.old) }
+    requires { (record_cause entry ≡ clear) × (map ≡ entry_map entry) × (length (record_bytes entry) ≤ length buffer.old) }
     ensures { buffer.new ≡ record_bytes entry ++ drop (length (record_bytes entry)) buffer.old }
 {
     let format = entry.job.setting.format;
@@ -184,21 +159,16 @@ fn put_record(buffer: &mut [u8], map: u64, entry: Entry)
     put_numbers(buffer, header_bytes(map), &sizes, &numbers);
 }
 
-// Writes the entry's record to the front of the buffer. Of a field that says its default nothing is written, and of a g where none of the
-// dropped bits is fixed neither.
-pub fn write(entry: Entry, buffer: &mut [u8]) -> Writing
+// Writes the entry's record to the front of the buffer, and replies with the count of its bytes. Of a field that says its default nothing is
+// written, and of a g where none of the dropped bits is fixed neither.
+pub fn write(entry: Entry, buffer: &mut [u8]) -> Result<usize, Cause>
     ensures value { result ≡ writing entry buffer.old }
     ensures buffer_after { buffer.new ≡ written entry buffer.old }
 {
-    let cause = entry_cause(entry);
-    if 0 < cause {
-        return Writing::Refused(cause);
-    }
+    entry_cause(entry)?;
     let map = entry_map(entry);
     let n = record_length(entry.job.setting.format, map);
-    if buffer.len() < n {
-        return Writing::Refused(Cause::Buffer);
-    }
+    unless(n <= buffer.len(), Cause::Buffer)?;
     put_record(buffer, map, entry);
-    Writing::Written(n)
+    Ok(n)
 }

@@ -1,5 +1,6 @@
 -- `records::put_record` meets its contract: the header's numbers, then those of the fields right after them. Against the entry no cause
 -- stands, so each header number fits its bytes. Assumes nothing.
+use Rattle.format.specs.Cause.{clear}
 use mathlib.Core.Path.{◌≡◌, sym, ap, ap₂, ◌∙◌}
 use Prim.Native.Nat.{ℕ, ◌%◌, ◌<◌}
 use native.Mathlib.Nat.{zero-add, mod-eq_of_lt}
@@ -36,7 +37,7 @@ record_whole e = append_assoc (little_endian (map_bytes (entry_map e)) (entry_ma
 byte : (x : ℕ) → x < 256 → x % 256 ≡ x
 byte x h = mod-eq_of_lt h
 
-header_bytes_lem : (e : Entry) → record_cause e ≡ 0
+header_bytes_lem : (e : Entry) → record_cause e ≡ clear
     → number_bytes (map_bytes (entry_map e) ∷ 1 ∷ 1 ∷ 1 ∷ []) (entry_map e ∷ e.job.setting.format.w ∷ e.job.setting.format.f ∷ e.job.setting.operation ∷ []) ≡ header e
 unfolding number_bytes little_endian
 header_bytes_lem e ok =

@@ -1,74 +1,69 @@
 -- `records::read` meets its contract: the tests stand in the order of `read_cause`, the first two before the fields are read. Assumes nothing.
-use Rattle.std.specs.Prelude.{Err}
-use mathlib.Core.Path.{◌≡◌, sym, ap, ap₂, ◌∙◌, subst}
-use Prim.Native.Nat.{ℕ, ◌^◌, ◌<◌}
-use native.Mathlib.Omega.{arith}
-use mathlib.Core.List.{List}
-use lib.Arith.{le-zero}
-use lib.ListN.{length}
-use lib.Dec.{eqb, ltb, leb}
-use Rattle.format.specs.declared.cause.Cause.TheVariants as cause
-use Rattle.format.specs.Cause.{first, unless}
+use Rattle.std.proofs.Common.{rules, ◌≡◌, sym, ap, ap₂, ◌∙◌, ℕ, ◌^◌, ◌<◌, List, length, eqb-true, eq-eqb, Bool, true, false}
+use mathlib.Core.Bool.{false≢true}
+use mathlib.Core.Path.{subst}
+use Rattle.std.specs.Prelude.{eqb, ltb, leb, Err}
 use Rattle.format.specs.declared.Format.{Format}
+use Rattle.format.specs.declared.cause.Cause.{Cause}
+use Rattle.format.specs.declared.cause.Cause.TheVariants as cause
+use Rattle.format.specs.Cause.{Check, clear, first, unless}
 use Rattle.layout.specs.Fields.{word_bytes, map_width, entry_map}
 use Rattle.records.specs.Record.{map_bytes, record_cause, map_in, record_length, entry_in, read_reply, first_in}
-use Rattle.records.proofs.Causes.{word_in, first_none_left, early_cause, early_with, late_with, early_none}
+use Rattle.records.proofs.Causes.{word_in, first_none_left, early_cause, early_refused, late_with, early_none}
 use Rattle.records.proofs.RoundTrip.{entry_default}
 use Rattle.records.proofs.read.Goals as goal
 
-pub returns-then-s-eq0 : goal.returns-then-s-eq0
-returns-then-s-eq0 c = sym (first_none_left c.args.s.now c.if-s-eq0.true)
+some_left : (s : List ℕ) {t : Bool} → t ≡ eqb (length s) 0 → t ≡ false → length s ≡ 0 → ⊥
+some_left s test is e = false≢true (sym is ∙ test ∙ eq-eqb (length s) 0 e)
 
-pub format_in-format-requires : goal.format_in-format-requires
-format_in-format-requires c = sym c.map_in-map.ensures.0
+pub returns-then-is_empty : goal.returns-then-is_empty
+returns-then-is_empty c = sym (first_none_left c.args.s.now (eqb-true (length c.args.s.now) 0 (sym c.is_empty.ensures ∙ c.if-is_empty.true)))
 
-pub returns-then-early-gt0 : goal.returns-then-early-gt0
+pub returns-in_err-unless : goal.returns-in_err-unless
 unfolding first_in
-returns-then-early-gt0 c =
-    let count : c.record_length-n.result
-    ≡ record_length (word_in c.args.s.now) (map_in c.args.s.now) = c.record_length-n.ensures ∙ ap₂ (λ (F : Format) (m : ℕ). record_length (word_bytes F) m) c.format_in-format.ensures c.map_in-map.ensures.0 in
-    let early : c.first-early.result
-    ≡ early_cause map_width (word_in c.args.s.now) c.args.s.now = (let s : List ℕ = c.args.s.now in
-    c.first-early.ensures
-    ∙ ap₂ first
-    (c.unless-bits.ensures ∙ ap (λ (m : ℕ). unless (ltb m (2 ^ map_width)) cause.MapBits) c.map_in-map.ensures.0)
-    (c.unless-cut.ensures ∙ ap (λ (n : ℕ). unless (leb n (length s)) cause.Cut) (count))) in
+returns-in_err-unless c =
     let s : List ℕ = c.args.s.now in
-    ap Err (early) ∙ sym (early_with map_width (word_in s) s c.if-s-eq0.false (λ e. omega (arith, early, e, c.if-early-gt0.true)))
+    let k : Cause = c.in_err-unless.field-0.0 in
+    let gives : c.from_residual.result ≡ Err k = search rules in
+    let tests : unless (ltb (map_in s) (2 ^ map_width)) cause.MapBits ≡ Err k = ap (λ (m : ℕ). unless (ltb m (2 ^ map_width)) cause.MapBits) (sym c.map_in-map.ensures.0) ∙ sym c.unless.ensures ∙ c.in_err-unless.was in
+    gives ∙ sym (early_refused map_width (word_in s) s (some_left s c.is_empty.ensures c.if-is_empty.false) k
+    (ap (λ (j : Check). first j (unless (leb (record_length (word_in s) (map_in s)) (length s)) cause.Cut)) tests))
+
+pub returns-in_err-unless-2 : goal.returns-in_err-unless-2
+unfolding first_in
+returns-in_err-unless-2 c =
+    let s : List ℕ = c.args.s.now in
+    let k : Cause = c.in_err-unless-2.field-0.0 in
+    let gives : c.from_residual-in_err-unless-2.result ≡ Err k = search rules in
+    let clears : unless (ltb (map_in s) (2 ^ map_width)) cause.MapBits ≡ clear = ap (λ (m : ℕ). unless (ltb m (2 ^ map_width)) cause.MapBits) (sym c.map_in-map.ensures.0) ∙ sym c.unless.ensures ∙ c.in_ok-unless.was in
+    let count : c.record_length-n.result ≡ record_length (word_in s) (map_in s) =
+    c.record_length-n.ensures ∙ ap₂ (λ (F : Format) (m : ℕ). record_length (word_bytes F) m) c.format_in-format.ensures c.map_in-map.ensures.0 in
+    let tests : unless (leb (record_length (word_in s) (map_in s)) (length s)) cause.Cut ≡ Err k = ap (λ (n : ℕ). unless (leb n (length s)) cause.Cut) (sym count) ∙ sym c.unless-2.ensures ∙ c.in_err-unless-2.was in
+    gives ∙ sym (early_refused map_width (word_in s) s (some_left s c.is_empty.ensures c.if-is_empty.false) k (ap₂ first clears tests))
 
 pub entry_in-requires : goal.entry_in-requires
 entry_in-requires c =
-    let count : c.record_length-n.result
-    ≡ record_length (word_in c.args.s.now) (map_in c.args.s.now) = c.record_length-n.ensures ∙ ap₂ (λ (F : Format) (m : ℕ). record_length (word_bytes F) m) c.format_in-format.ensures c.map_in-map.ensures.0 in
-    let early : c.first-early.result
-    ≡ early_cause map_width (word_in c.args.s.now) c.args.s.now = (let s : List ℕ = c.args.s.now in
-    c.first-early.ensures
-    ∙ ap₂ first
-    (c.unless-bits.ensures ∙ ap (λ (m : ℕ). unless (ltb m (2 ^ map_width)) cause.MapBits) c.map_in-map.ensures.0)
-    (c.unless-cut.ensures ∙ ap (λ (n : ℕ). unless (leb n (length s)) cause.Cut) (count))) in
-    let late : early_cause map_width (word_in c.args.s.now) c.args.s.now ≡ 0 = sym (early) ∙ le-zero c.if-early-gt0.false in
     let s : List ℕ = c.args.s.now in
     let map = c.map_in-map.ensures.0 in
-    let whole = (early_none map_width (word_in s) s (late)).1 in
-    (sym map, sym c.format_in-format.ensures, rw (c.format_in-format.ensures, map) whole)
+    let clears : unless (ltb (map_in s) (2 ^ map_width)) cause.MapBits ≡ clear = ap (λ (m : ℕ). unless (ltb m (2 ^ map_width)) cause.MapBits) (sym map) ∙ sym c.unless.ensures ∙ c.in_ok-unless.was in
+    let count : c.record_length-n.result ≡ record_length (word_in s) (map_in s) =
+    c.record_length-n.ensures ∙ ap₂ (λ (F : Format) (m : ℕ). record_length (word_bytes F) m) c.format_in-format.ensures map in
+    let whole : unless (leb (record_length (word_in s) (map_in s)) (length s)) cause.Cut ≡ clear = ap (λ (n : ℕ). unless (leb n (length s)) cause.Cut) (sym count) ∙ sym c.unless-2.ensures ∙ c.in_ok-unless-2.was in
+    (sym map, sym c.format_in-format.ensures, rw (c.format_in-format.ensures, map) (early_none map_width (word_in s) s (ap₂ first clears whole)).1)
 
 pub returns : goal.returns
 unfolding first_in
 returns c =
-    let count : c.record_length-n.result
-    ≡ record_length (word_in c.args.s.now) (map_in c.args.s.now) = c.record_length-n.ensures ∙ ap₂ (λ (F : Format) (m : ℕ). record_length (word_bytes F) m) c.format_in-format.ensures c.map_in-map.ensures.0 in
-    let early : c.first-early.result
-    ≡ early_cause map_width (word_in c.args.s.now) c.args.s.now = (let s : List ℕ = c.args.s.now in
-    c.first-early.ensures
-    ∙ ap₂ first
-    (c.unless-bits.ensures ∙ ap (λ (m : ℕ). unless (ltb m (2 ^ map_width)) cause.MapBits) c.map_in-map.ensures.0)
-    (c.unless-cut.ensures ∙ ap (λ (n : ℕ). unless (leb n (length s)) cause.Cut) (count))) in
-    let late : early_cause map_width (word_in c.args.s.now) c.args.s.now ≡ 0 = sym (early) ∙ le-zero c.if-early-gt0.false in
     let s : List ℕ = c.args.s.now in
-    let entry = c.entry_in.ensures ∙ ap (λ (F : Format). entry_in (word_bytes F) s) c.format_in-format.ensures in
     let map = c.map_in-map.ensures in
+    let clears : unless (ltb (map_in s) (2 ^ map_width)) cause.MapBits ≡ clear = ap (λ (m : ℕ). unless (ltb m (2 ^ map_width)) cause.MapBits) (sym map.0) ∙ sym c.unless.ensures ∙ c.in_ok-unless.was in
+    let count : c.record_length-n.result ≡ record_length (word_in s) (map_in s) =
+    c.record_length-n.ensures ∙ ap₂ (λ (F : Format) (m : ℕ). record_length (word_bytes F) m) c.format_in-format.ensures map.0 in
+    let whole : unless (leb (record_length (word_in s) (map_in s)) (length s)) cause.Cut ≡ clear = ap (λ (n : ℕ). unless (leb n (length s)) cause.Cut) (sym count) ∙ sym c.unless-2.ensures ∙ c.in_ok-unless-2.was in
+    let early = ap₂ first clears whole in
+    let entry = c.entry_in.ensures ∙ ap (λ (F : Format). entry_in (word_bytes F) s) c.format_in-format.ensures in
     c.read_reply.ensures
     ∙ (λ i. let e = entry i in read_reply (first (record_cause e) (unless (eqb (entry_map e) (map.0 i)) cause.DefaultField)) e (count i))
-    ∙ ap (λ (k : ℕ). read_reply k (entry_in (word_in s) s) (record_length (word_in s) (map_in s)))
-    (entry_default s (early_none map_width (word_in s) s (late)).0 (subst (λ (m : ℕ). m < 256 ^ map_bytes m) map.0 map.1))
-    ∙ sym (late_with map_width (word_in s) s c.if-s-eq0.false (late))
+    ∙ ap (λ (k : Check). read_reply k (entry_in (word_in s) s) (record_length (word_in s) (map_in s)))
+    (entry_default s (early_none map_width (word_in s) s early).0 (subst (λ (m : ℕ). m < 256 ^ map_bytes m) map.0 map.1))
+    ∙ sym (late_with map_width (word_in s) s (some_left s c.is_empty.ensures c.if-is_empty.false) early)

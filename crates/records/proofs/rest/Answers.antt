@@ -1,56 +1,41 @@
 -- `records::rest` meets its contract: a job's record lies in the slice, and at the end the slice is empty. Assumes nothing.
-use Rattle.std.specs.Prelude.{Option, Some, None, Result, Ok, Err}
-use Rattle.format.specs.declared.cause.Cause.{Cause}
-use mathlib.Core.Path.{◌≡◌, sym, ap, ◌∙◌}
-use Prim.Native.Nat.{ℕ, ◌-◌, ◌≤◌}
+use Rattle.std.proofs.Common.{rules, ◌≡◌, sym, ap, ◌∙◌, ℕ, ◌-◌, ◌≤◌, List, length, drop}
 use native.Mathlib.Nat.{le_of_eq}
 use native.Mathlib.Omega.{arith}
-use mathlib.Core.List.{List}
-use lib.ListN.{length, drop, length-drop}
+use lib.ListN.{length-drop}
 use lib.Seq.{take_all}
-use Rattle.records.specs.Record.{first_in, rest_after, rest}
+use Rattle.std.specs.Prelude.{Option, Some, None, Result, Ok, Err}
+use Rattle.layout.specs.declared.Entry.{Entry}
+use Rattle.records.specs.Record.{First, first_in, rest_after, rest}
 use Rattle.records.proofs.Causes.{first_job, first_end}
 use Rattle.records.proofs.rest.Goals as goal
 
+-- what is read lies in the slice
+within : (s : List ℕ) (e : Entry) (n : ℕ) → first_in s ≡ Ok (Some (e, n)) → n ≤ length s
+within s e n reads = let taken = first_job s e n reads in omega (arith, taken.readable.whole, taken.count)
+
 pub slice_bounds-result-count : goal.slice_bounds-result-count
-slice_bounds-result-count c =
-    let job : first_in c.args.s.now ≡ (Ok (Some (c.in-Job.field-0, c.in-Job.n))) = sym c.read-found.ensures ∙ c.in-Job.is in
-    let within : c.in-Job.n ≤ length c.args.s.now = let taken = first_job c.args.s.now c.in-Job.field-0 c.in-Job.n (job) in
-    omega (arith, taken.readable.whole, taken.count) in
-    omega (arith, within)
+slice_bounds-result-count c = within c.args.s.now c.in-Ok-Some.field-0-0-0 c.in-Ok-Some.n (search rules)
 
 pub slice_bounds-result-start : goal.slice_bounds-result-start
-slice_bounds-result-start c =
-    let job : first_in c.args.s.now ≡ (Ok (Some (c.in-Job.field-0, c.in-Job.n))) = sym c.read-found.ensures ∙ c.in-Job.is in
-    let within : c.in-Job.n ≤ length c.args.s.now = let taken = first_job c.args.s.now c.in-Job.field-0 c.in-Job.n (job) in
-    omega (arith, taken.readable.whole, taken.count) in
-    omega (arith, within)
+slice_bounds-result-start c = within c.args.s.now c.in-Ok-Some.field-0-0-0 c.in-Ok-Some.n (search rules)
 
-pub slice_bounds-result-end : goal.slice_bounds-result-end
-slice_bounds-result-end c =
-    let job : first_in c.args.s.now ≡ (Ok (Some (c.in-Job.field-0, c.in-Job.n))) = sym c.read-found.ensures ∙ c.in-Job.is in
-    let within : c.in-Job.n ≤ length c.args.s.now = let taken = first_job c.args.s.now c.in-Job.field-0 c.in-Job.n (job) in
-    omega (arith, taken.readable.whole, taken.count) in
-    omega (arith, within)
-
-pub returns-in-Job : goal.returns-in-Job
+pub returns-in-Ok-Some : goal.returns-in-Ok-Some
 unfolding rest
-returns-in-Job c =
-    let job : first_in c.args.s.now ≡ (Ok (Some (c.in-Job.field-0, c.in-Job.n))) = sym c.read-found.ensures ∙ c.in-Job.is in
+returns-in-Ok-Some c =
     let s : List ℕ = c.args.s.now in
-    let n : ℕ = c.in-Job.n in
-    take_all (length s - n) (drop n s) (le_of_eq (length-drop n s)) ∙ sym (ap (λ (r : Result (Option (Entry × ℕ)) Cause). rest_after r s) (job))
+    let n : ℕ = c.in-Ok-Some.n in
+    take_all (length s - n) (drop n s) (le_of_eq (length-drop n s)) ∙ sym (ap (λ (r : First). rest_after r s) (let job : first_in s ≡ Ok (Some (c.in-Ok-Some.field-0-0-0, n)) = search rules in job))
+
+pub returns-in-Ok-None : goal.returns-in-Ok-None
+unfolding rest
+returns-in-Ok-None c =
+    let s : List ℕ = c.args.s.now in
+    let end : first_in s ≡ Ok None = search rules in
+    first_end s end ∙ sym (ap (λ (r : First). rest_after r s) end)
 
 pub returns-in-Err : goal.returns-in-Err
 unfolding rest
 returns-in-Err c =
-    let s : List ℕ = c.args.s.now in
-    let refused : first_in s ≡ Err c.in-Err.field-0 = sym c.read-found.ensures ∙ c.in-Err.is in
-    sym (ap (λ (r : Result (Option (Entry × ℕ)) Cause). rest_after r s) refused)
-
-pub returns-in-End : goal.returns-in-End
-unfolding rest
-returns-in-End c =
-    let s : List ℕ = c.args.s.now in
-    let end : first_in s ≡ (Ok None) = sym c.read-found.ensures ∙ c.in-End.is in
-    first_end s end ∙ sym (ap (λ (r : Result (Option (Entry × ℕ)) Cause). rest_after r s) end)
+    let refused : first_in c.args.s.now ≡ Err c.in-Err.field-0 = search rules in
+    sym (ap (λ (r : First). rest_after r c.args.s.now) refused)
