@@ -3,13 +3,13 @@
 use Rattle.std.specs.Prelude.{Option, Some, None, Result, Ok, Err}
 use Rattle.format.specs.declared.cause.Cause.{Cause}
 use Rattle.std.specs.Prelude.{ℕ, ◌+◌, List, drop}
-use Rattle.records.specs.Record.{first_in}
+use Rattle.records.specs.Record.{First, first_in}
 use Rattle.reader.specs.declared.Drawn.{Drawn}
 
 -- how many bytes what stands first takes: a record its length, an end or a refused record none ("the rest .. begins at the refused record")
-abbrev pub taken : Result (Option (Entry × ℕ)) Cause → ℕ
+abbrev pub taken : First → ℕ
 taken (Ok None) = 0
-taken ((Ok (Some (e, n)))) = n
+taken (Ok (Some (e, n))) = n
 taken (Err k) = 0
 
 -- what stands at the offset `at` of a file, and the offset after it

@@ -6,7 +6,9 @@
 ghost use Rattle.std.specs.Prelude.{◌≡◌};
 ghost use Rattle.reader.specs.Drawn.{drawn_at};
 
-use records::{First, read};
+use format::Cause;
+use layout::Entry;
+use records::read;
 
 // The bytes of a job file, and the offset of the next record.
 #[derive(Clone, Copy)]
@@ -18,7 +20,7 @@ pub struct Reader<'a> {
 // What stands at an offset of a job file, and the offset after it.
 #[derive(Clone, Copy)]
 pub struct Drawn {
-    pub first: First,
+    pub first: Result<Option<(Entry, usize)>, Cause>,
     pub next: usize,
 }
 
@@ -28,18 +30,18 @@ pub fn drawn_at(file: &[u8], at: usize) -> Drawn
 {
     if file.len() <= at {
         return Drawn {
-            first: First::End,
+            first: Ok(None),
             next: at,
         };
     }
     let first = read(&file[at..]);
     match first {
-        First::Job(_, n) => {
+        Ok(Some((_, n))) => {
             let end = at + n;
             Drawn { first, next: end }
         }
-        First::Refused(_) => Drawn { first, next: at },
-        First::End => Drawn { first, next: at },
+        Ok(None) => Drawn { first, next: at },
+        Err(_) => Drawn { first, next: at },
     }
 }
 
