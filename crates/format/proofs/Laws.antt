@@ -15,8 +15,12 @@ use Rattle.format.specs.Limits.{least_exponent_bits, most_exponent_bits, least_f
 use Rattle.format.specs.Format.{Supported, format_cause, operation_cause, mode_cause, word_cause}
 
 -- a cause is not clear
-err_ok : {c : Cause} → Err c ≡ clear → ⊥
+pub err_ok : {c : Cause} → Err c ≡ clear → ⊥
 err_ok e = mathlib.Core.Bool.false≢true (ap is_ok e)
+
+-- a check names one cause
+pub err_same : {c d : Cause} → ◌≡◌ {A = Check} (Err c) (Err d) → c ≡ d
+err_same e = cc
 
 -- a check that says Ok is clear
 pub ok_clear : {r : Check} → is_ok r ≡ true → r ≡ clear

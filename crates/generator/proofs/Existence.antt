@@ -1,5 +1,6 @@
 -- The promise can be kept: every job has a reply to every two random words. Whether two words fit is decidable, and a format has finitely
 -- many. With `reply_unique`, the promise is a function. Assumes nothing.
+use Rattle.generator.specs.declared.Case.{Case}
 use Rattle.std.specs.Prelude.{Result, Ok, Err}
 use Rattle.format.specs.declared.cause.Cause.{Cause}
 use mathlib.Core.Path.{◌≡◌, refl, sym, ◌∙◌, subst}

@@ -1,5 +1,6 @@
 -- Every file has a listing: at each place some line comes next, and each line brings the end nearer. With `listed_unique`, it has exactly
 -- one. Assumes nothing.
+use Rattle.layout.specs.declared.Entry.{Entry}
 use Rattle.std.specs.Prelude.{Option, Some, None, Result, Ok, Err}
 use Rattle.format.specs.declared.cause.Cause.{Cause}
 use mathlib.Core.Path.{◌≡◌, refl}

@@ -1,5 +1,6 @@
 -- What the definition of the listing amounts to: a file has one listing; every line brings it nearer to its end; and the file that is
 -- written of some entries lists as the replies to them, line by line. Assumes nothing.
+use Rattle.generator.specs.declared.Case.{Case}
 use Rattle.std.specs.Prelude.{Option, Some, None, Result, Ok, Err}
 use Rattle.format.specs.declared.cause.Cause.{Cause}
 use mathlib.Core.Path.{◌≡◌, refl, sym, ap, ap₂, ◌∙◌, subst}

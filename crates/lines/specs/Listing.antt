@@ -1,5 +1,6 @@
 -- The listing of a job file (document 01, "Cases, in hexadecimal", from "The listing program" on): which line comes next, and what comes
 -- after it. A place is the offset of the next record, the count of the lines before, and whether reading has stopped. Assumes nothing.
+use Rattle.generator.specs.declared.Case.{Case}
 use Rattle.std.specs.Prelude.{Option, Some, None, Result, Ok, Err}
 use Rattle.format.specs.declared.cause.Cause.{Cause}
 use Rattle.std.specs.Prelude.{◌≡◌, Bool, true, false, not, ◌⊎◌, ℕ, ◌+◌, ◌≤◌, ◌<◌, List, [], ◌∷◌, ◌++◌, length, drop, eqb}

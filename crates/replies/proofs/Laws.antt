@@ -1,5 +1,6 @@
 -- What the contracts amount to: what a function returns and what it leaves are one alone, and no refusal's number is 0, so 0 comes
 -- with an readReply only. Assumes nothing.
+use Rattle.layout.specs.declared.Entry.{Entry}
 use Rattle.std.specs.Prelude.{Option, Some, None, Result, Ok, Err}
 use Rattle.format.specs.declared.cause.Cause.{Cause}
 use mathlib.Core.Path.{◌≡◌, sym, ap, ◌∙◌}

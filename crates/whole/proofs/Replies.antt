@@ -1,4 +1,4 @@
--- What the reply's definition amounts to: a job has one reply; the number 7 stands exactly where no case fits; and every fitting case is the
+-- What the reply's definition amounts to: a job has one reply; 7 stands exactly where no case fits; and every fitting case is the
 -- reply to some three random words. Assumes nothing.
 use Rattle.std.specs.Prelude.{Result, Ok, Err}
 use Rattle.format.specs.declared.cause.Cause.{Cause}
@@ -8,6 +8,8 @@ use Prim.Native.Nat.{ℕ, ◌<◌, ◌≤◌}
 use native.Mathlib.Omega.{arith}
 use lib.Bits.{bit_xor}
 use Rattle.format.specs.declared.cause.Cause.TheVariants as cause
+use Rattle.format.specs.Cause.{clear}
+use Rattle.format.proofs.Laws.{err_ok, err_same}
 use Rattle.choice.proofs.Closest.{farther, farther_both, closest_self}
 use Rattle.choice.specs.Walk.{Has}
 use Rattle.whole.specs.declared.Masks.{Masks}
@@ -54,26 +56,26 @@ chosen_own n s c least f = record {
 -- a job has one reply
 pub reply_unique : (J : Job) (p q : Result Case Cause) → Replied J p → Replied J q → p ≡ q
 reply_unique J (Ok c) (Ok d) p q = ap Ok (chosen_unique J.length J.masks J.words c d p.1 q.1)
-reply_unique J (Ok c) (Err k) p (inl q) = absurd (omega (arith, p.0, q.0))
+reply_unique J (Ok c) (Err k) p (inl q) = absurd (err_ok (sym q ∙ p.0))
 reply_unique J (Ok c) (Err k) p (inr q) = absurd (q.0.none (record { case = c; fits = p.1.fits }))
-reply_unique J (Err k) (Ok c) (inl p) q = absurd (omega (arith, p.0, q.0))
+reply_unique J (Err k) (Ok c) (inl p) q = absurd (err_ok (sym p ∙ q.0))
 reply_unique J (Err k) (Ok c) (inr p) q = absurd (p.0.none (record { case = c; fits = q.1.fits }))
-reply_unique J (Err k) (Err l) (inl p) (inl q) = ap Err (p.1 ∙ sym q.1)
-reply_unique J (Err k) (Err l) (inl p) (inr q) = absurd (omega (arith, p.0, q.0.taken))
-reply_unique J (Err k) (Err l) (inr p) (inl q) = absurd (omega (arith, p.0.taken, q.0))
+reply_unique J (Err k) (Err l) (inl p) (inl q) = ap Err (err_same (sym p ∙ q))
+reply_unique J (Err k) (Err l) (inl p) (inr q) = absurd (err_ok (sym p ∙ q.0.taken))
+reply_unique J (Err k) (Err l) (inr p) (inl q) = absurd (err_ok (sym q ∙ p.0.taken))
 reply_unique J (Err k) (Err l) (inr p) (inr q) = ap Err (p.1 ∙ sym q.1)
 
 -- of a job that is taken, "none" is the reply exactly where nothing fits
-pub none_exactly : (J : Job) (p : Result Case Cause) → job_cause J ≡ 0 → Replied J p → (p ≡ Err cause.NoCase) ↔ (Left J.length J.masks → ⊥)
+pub none_exactly : (J : Job) (p : Result Case Cause) → job_cause J ≡ clear → Replied J p → (p ≡ Err cause.NoCase) ↔ (Left J.length J.masks → ⊥)
 none_exactly J (Ok c) e p = (
   λ q. absurd (let z : ◌≡◌ {A = ℕ} 0 1 = cc in omega arith),
   λ none. absurd (none (record { case = c; fits = p.1.fits })),
 )
-none_exactly J (Err k) e (inl p) = absurd (omega (arith, p.0))
+none_exactly J (Err k) e (inl p) = absurd (err_ok (sym p ∙ e))
 none_exactly J (Err k) e (inr p) = (λ q. p.0.none, λ none. ap Err p.1)
 
 -- every fitting case is the reply to some random words
-pub every_case : (J : Job) (c : Case) → job_cause J ≡ 0 → Fits J.length J.masks c
+pub every_case : (J : Job) (c : Case) → job_cause J ≡ clear → Fits J.length J.masks c
     → Replied (record { length = J.length; masks = J.masks; words = own c }) (Ok c)
 every_case J c e f =
     let t = (job_none J).0 e in

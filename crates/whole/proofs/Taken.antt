@@ -3,6 +3,8 @@
 use mathlib.Core.Path.{◌≡◌}
 use mathlib.Core.Logic.{◌↔◌}
 use Prim.Native.Nat.{ℕ, ◌+◌, ◌^◌, ◌≤◌, ◌<◌}
+use Rattle.format.specs.declared.cause.Cause.TheVariants as cause
+use Rattle.format.specs.Cause.{clear}
 use Rattle.format.specs.Limits.{least_length, most_length, within}
 use Rattle.format.proofs.Laws.{both_none, unless_none, within_holds, word_none}
 use Rattle.mask.proofs.Checks.{masks_none}
@@ -10,7 +12,7 @@ use Rattle.whole.specs.declared.Words.{Words}
 use Rattle.whole.specs.declared.Job.{Job}
 use Rattle.whole.specs.Job.{Formed, words_cause, job_cause}
 
-words_none : (n : ℕ) (w : Words) → (words_cause n w ≡ 0) ↔ ((w.x < 2 ^ n) × ((w.y < 2 ^ n) × (w.z < 2 ^ n)))
+words_none : (n : ℕ) (w : Words) → (words_cause n w ≡ clear) ↔ ((w.x < 2 ^ n) × ((w.y < 2 ^ n) × (w.z < 2 ^ n)))
 unfolding words_cause
 words_none n w = both_none _ _ (word_none n w.x) (both_none _ _ (word_none n w.y) (word_none n w.z))
 
@@ -21,14 +23,14 @@ pub record Taken (J : Job) : Type 0 where
   pub formed : Formed J.length J.masks
   pub words : (J.words.x < 2 ^ J.length) × (J.words.y < 2 ^ J.length) × (J.words.z < 2 ^ J.length)
 
-pub job_none : (J : Job) → (job_cause J ≡ 0) ↔ Taken J
+pub job_none : (J : Job) → (job_cause J ≡ clear) ↔ Taken J
 unfolding job_cause
 job_none J =
     let n = J.length in
     let s = J.masks in
     let limits = within_holds least_length most_length n in
     let masks = masks_none n (n + 1) s.x s.y s.z s.carries in
-    let law = both_none _ _ (unless_none (within least_length most_length n) 11) (both_none _ _ masks (words_none n J.words)) in (
+    let law = both_none _ _ (unless_none (within least_length most_length n) cause.WholeLength) (both_none _ _ masks (words_none n J.words)) in (
       λ e.
           let h = law.0 e in
           let l = limits.0 h.0 in

@@ -2,7 +2,7 @@
 -- and 16 after 5). Assumes nothing.
 use Rattle.std.specs.Prelude.{ℕ, ◌+◌}
 use Rattle.format.specs.declared.cause.Cause.TheVariants as cause
-use Rattle.format.specs.Cause.{unless, first}
+use Rattle.format.specs.Cause.{Check, unless, first}
 use Rattle.format.specs.Limits.{least_length, most_length, within}
 use Rattle.format.specs.Format.{word_cause}
 use Rattle.mask.specs.Mask.{WellFormed, masks_cause}
@@ -18,11 +18,11 @@ pub record Formed (n : ℕ) (s : Masks) : Type 0 where
   pub carries : WellFormed (n + 1) s.carries
 
 -- 6: a random word above N bits
-unfoldable pub words_cause : ℕ → Words → ℕ
+unfoldable pub words_cause : ℕ → Words → Check
 words_cause n w = first (word_cause n w.x) (first (word_cause n w.y) (word_cause n w.z))
 
--- 12 for a length outside 1 to 32, then 5, 14, 15 or 16 for a mask that is not well formed, then 6; 0 where nothing is refused
-unfoldable pub job_cause : Job → ℕ
+-- 12 for a length outside 1 to 32, then 5, 14, 15 or 16 for a mask that is not well formed, then 6
+unfoldable pub job_cause : Job → Check
 job_cause J =
     let n = J.length in
     let s = J.masks in

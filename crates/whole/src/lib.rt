@@ -11,7 +11,7 @@ ghost use Rattle.whole.specs.Choice.{Chosen};
 ghost use Rattle.whole.specs.Reply.{Replied};
 ghost use Rattle.whole.specs.Walk.{Ready, case_of};
 
-use format::{Cause, first, limits, within, word_cause};
+use format::{Cause, limits, within, word_cause};
 use mask::{Mask, masks_cause};
 
 // The masks of the three numbers and of the carries.
@@ -47,12 +47,6 @@ pub struct Case {
     pub carries: u64,
 }
 
-#[derive(Clone, Copy)]
-pub enum Reply {
-    Found(Case),
-    Refused(u64),
-}
-
 // Which of the three numbers is chosen.
 #[derive(Clone, Copy)]
 pub enum Role {
@@ -62,32 +56,33 @@ pub enum Role {
 }
 
 // 6 where a random word is too long.
-fn words_cause(length: u64, words: Words) -> u64
+#[tactic(auto, unfolding(crate::specs::Job::words_cause))]
+fn words_cause(length: u64, words: Words) -> Result<(), Cause>
     ensures { result ≡ words_cause length words }
 {
-    let x = word_cause(length, words.x);
-    let y = word_cause(length, words.y);
-    first(x, first(y, word_cause(length, words.z)))
+    word_cause(length, words.x)?;
+    word_cause(length, words.y)?;
+    word_cause(length, words.z)
 }
 
-// 12, 5, 14, 15, 16 or 6 where the job is refused as it stands, else 0. The carry mask is one bit longer.
-pub fn job_cause(job: Job) -> u64
+// 12, 5, 14, 15, 16 or 6 where the job is refused as it stands. The carry mask is one bit longer.
+#[tactic(auto, unfolding(crate::specs::Job::job_cause))]
+pub fn job_cause(job: Job) -> Result<(), Cause>
     ensures { result ≡ job_cause job }
 {
     let length = job.length;
     if !within(limits::LEAST_LENGTH, limits::MOST_LENGTH, length) {
-        return Cause::WholeLength;
+        return Err(Cause::WholeLength);
     }
-    let masks = masks_cause(
+    masks_cause(
         length,
         length + 1,
         job.masks.x,
         job.masks.y,
         job.masks.z,
         job.masks.carries,
-    );
-    let words = words_cause(length, job.words);
-    first(masks, words)
+    )?;
+    words_cause(length, job.words)
 }
 
 // The case of three numbers that make one: the carry in and the carries follow from them.
@@ -118,18 +113,15 @@ fn choose(length: u64, masks: Masks, words: Words) -> Case
     case_of(x.value, y.value, z.value)
 }
 
-// The reply to a job.
-pub fn generate(job: Job) -> Reply
+// The reply to a job: the chosen case, or the refusal.
+pub fn generate(job: Job) -> Result<Case, Cause>
     ensures { Replied job result }
 {
-    let refusal = job_cause(job);
-    if refusal != 0 {
-        return Reply::Refused(refusal);
-    }
+    job_cause(job)?;
     let masks = job.masks;
     let words = job.words;
     if left::left(job.length, masks) {
-        return Reply::Found(choose(job.length, masks, words));
+        return Ok(choose(job.length, masks, words));
     }
-    Reply::Refused(Cause::NoCase)
+    Err(Cause::NoCase)
 }

@@ -1,4 +1,5 @@
 -- `replies::generated` meets its contract: each arm is what the reply says. Assumes nothing.
+use Rattle.layout.specs.declared.Entry.{Entry}
 use Rattle.std.specs.Prelude.{Option, Result}
 use Rattle.format.specs.declared.cause.Cause.{Cause}
 use mathlib.Core.Path.{refl, sym, subst}
