@@ -4,14 +4,12 @@
 
 mod halving;
 
-ghost use Rattle.std.specs.Prelude.{false, ◌≡◌};
-ghost use Rattle.bounds.specs.declared.Bounds.TheVariants.{Unbounded};
+ghost use Rattle.std.specs.Prelude.{None, false, ◌≡◌};
 ghost use Rattle.job.specs.Job.{Valid};
 ghost use Rattle.pass.specs.First.{NoneBefore};
 ghost use Rattle.left.specs.First.{FirstLeft};
 
 use bits::power;
-use bounds::Bounds;
 use halving::some_left;
 use job::{Job, Wanted, cause_with};
 use pass::{Exponents, first_pair};
@@ -19,13 +17,9 @@ use word::Biased;
 
 // Whether bounds are stated of a word.
 fn states_bounds(w: Wanted) -> bool
-    ensures { result ≡ false → w.bounds ≡ Unbounded }
+    ensures { result ≡ false → w.bounds ≡ None }
 {
-    let bounds = w.bounds;
-    match bounds {
-        None => false,
-        Some(_) => true,
-    }
+    w.bounds.is_some()
 }
 
 // The first pair of exponent fields that admits a case of the job without its bounds, where a case is left; else past them all. Those before

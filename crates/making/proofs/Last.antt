@@ -1,5 +1,6 @@
 -- The last kept bit as a mask of one bit, joined to another mask: a number meets the joined mask exactly when it meets the other and has
 -- that bit, and where the two clash no number does both. Assumes nothing.
+use Rattle.format.specs.declared.cause.Cause.{Cause}
 use Rattle.std.specs.Prelude.{Ok, Err}
 use mathlib.Core.Logic.{◌↔◌}
 use mathlib.Core.Path.{◌≡◌, ap, ap₂, subst}
@@ -34,5 +35,5 @@ module _ (j b : ℕ) (h : b < 2) where
         λ q. p.1 (q.0, (one_meets n).1 q.1),
       )
 
-  pub last_refused : (x : Mask) (k : ℕ) → join x (one_bit j b) ≡ Err k → (n : ℕ) → Meets n x → bit n j ≡ b → ⊥
+  pub last_refused : (x : Mask) (k : Cause) → join x (one_bit j b) ≡ Err k → (n : ℕ) → Meets n x → bit n j ≡ b → ⊥
   last_refused x k e n met last = join_refused x (one_bit j b) n k e met ((one_meets n).1 last)

@@ -12,7 +12,7 @@ use crate::masks::{both, one_above, opposite, raised};
 use crate::{Aligned, columns, roomy};
 use bits::minus;
 use chain::Wires;
-use mask::{Joined, Mask};
+use mask::Mask;
 use rounding::Direction;
 use rounding::addend::{carry, constant};
 use word::Unit;
@@ -89,10 +89,9 @@ fn ask_last(
         care: 1 << j,
         value: last << j,
     };
-    let joined = mask::join(x, kept);
-    match joined {
-        Joined::Mask(m) => ask(aligned, f, m, z, constant, carry),
-        Joined::Refused(_) => false,
+    match mask::join(x, kept) {
+        Ok(m) => ask(aligned, f, m, z, constant, carry),
+        Err(_) => false,
     }
 }
 

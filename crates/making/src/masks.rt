@@ -3,7 +3,7 @@ ghost use Rattle.std.specs.Prelude.{◌↔◌, ◌≡◌, ℕ, ◌+◌, ◌%◌,
 ghost use Rattle.mask.specs.Mask.{Meets, raised};
 ghost use Rattle.making.specs.Question.{opposite, one_above};
 
-use mask::{Joined, Mask};
+use mask::Mask;
 
 // The mask moved up by d places, where that loses no bit of it; else the answer is free.
 pub fn raised(m: Mask, d: u64) -> Mask
@@ -22,10 +22,9 @@ pub fn raised(m: Mask, d: u64) -> Mask
 pub fn both(m: Mask, n: Mask) -> Mask
     ensures { (x : ℕ) → Meets x result ↔ (Meets x m × Meets x n) }
 {
-    let joined = mask::join(m, n);
-    match joined {
-        Joined::Mask(whole) => whole,
-        Joined::Refused(_) => Mask { care: 0, value: 1 },
+    match mask::join(m, n) {
+        Ok(whole) => whole,
+        Err(_) => Mask { care: 0, value: 1 },
     }
 }
 

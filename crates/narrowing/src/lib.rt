@@ -1,21 +1,20 @@
 // How the words that meet a mask stand to bounds, and masks narrowed to what bounds leave of them.
 #![tactic(auto)]
 
-ghost use Rattle.std.specs.Prelude.{◌≡◌, ◌-◌, ◌%◌, ◌^◌, ◌≤◌, ◌<◌, max, min};
+ghost use Rattle.std.specs.Prelude.{Some, ◌≡◌, ◌-◌, ◌%◌, ◌^◌, ◌≤◌, ◌<◌, max, min};
 ghost use Rattle.std.specs.Int.Count.{count_leading_zeros};
 ghost use Rattle.format.specs.Format.{Supported, word_bits};
 ghost use Rattle.mask.specs.Mask.{WellFormed};
-ghost use Rattle.bounds.specs.declared.Bounds.TheVariants.{Between};
 ghost use Rattle.bounds.specs.Bounds.{ValidEnds};
 ghost use Rattle.job.specs.Job.{ValidWanted};
 ghost use Rattle.narrowing.specs.Range.{range_of, extent_of, Decided, Shares};
 ghost use Rattle.narrowing.specs.Narrowing.{Stands, Narrows};
 
 use bits::{bit_at, minus, power};
-use bounds::{Bounds, Ends, rank};
+use bounds::{Ends, rank};
 use format::{Format, supported};
 use job::Wanted;
-use mask::{Joined, Mask, free, join, low};
+use mask::{Mask, free, join, low};
 use significand::greatest;
 
 // Of the words of one sign those whose other bits, read as a number, go from `low` on and stay below `past`.
@@ -113,7 +112,7 @@ fn decided(extent: Extent) -> Standing
 // How the words that meet a mask stand to two ends. Where the sign is free, it is named.
 fn stands_between(format: Format, mask: Mask, ends: Ends) -> Standing
     requires { Supported format }
-    ensures { WellFormed (word_bits format) mask → ValidEnds format ends → Stands format (record { mask = mask; bounds = Between ends }) result }
+    ensures { WellFormed (word_bits format) mask → ValidEnds format ends → Stands format (record { mask = mask; bounds = Some ends }) result }
 {
     let place = format.w + format.f;
     if free(mask, place) {
@@ -130,8 +129,7 @@ pub fn stands(format: Format, w: Wanted) -> Standing
     if !supported(format) {
         return Standing::Outside;
     }
-    let bounds = w.bounds;
-    match bounds {
+    match w.bounds {
         None => Standing::Inside,
         Some(ends) => stands_between(format, w.mask, ends),
     }
@@ -153,39 +151,24 @@ fn shared(mask: Mask, place: u64, l: u64, h: u64) -> Mask
         care: without_low(minus(power(place), 1), apart),
         value: without_low(l, apart),
     };
-    let joined = join(mask, alike);
-    match joined {
-        Joined::Mask(m) => m,
-        Joined::Refused(_) => mask,
+    match join(mask, alike) {
+        Ok(m) => m,
+        Err(_) => mask,
     }
-}
-
-// The larger of two numbers.
-fn larger(a: u64, b: u64) -> u64
-    ensures { result ≡ max a b }
-{
-    if a < b { b } else { a }
-}
-
-// The smaller of two numbers.
-fn smaller(a: u64, b: u64) -> u64
-    ensures { result ≡ min a b }
-{
-    if b < a { b } else { a }
 }
 
 // The mask with those bits also fixed that all words between two ends share; as it is where the sign is free or no word lies there.
 fn narrowed_between(format: Format, mask: Mask, ends: Ends) -> Mask
     requires { Supported format }
-    ensures { WellFormed (word_bits format) mask → ValidEnds format ends → Narrows format (record { mask = mask; bounds = Between ends }) result }
+    ensures { WellFormed (word_bits format) mask → ValidEnds format ends → Narrows format (record { mask = mask; bounds = Some ends }) result }
 {
     let place = format.w + format.f;
     if free(mask, place) {
         return mask;
     }
     let extent = extent_of(format, mask, ends);
-    let l = larger(extent.within.low, extent.least);
-    let h = smaller(minus(extent.within.past, 1), extent.most);
+    let l = extent.within.low.max(extent.least);
+    let h = minus(extent.within.past, 1).min(extent.most);
     if h < l {
         return mask;
     }
@@ -200,8 +183,7 @@ pub fn narrowed(format: Format, w: Wanted) -> Mask
     if !supported(format) {
         return w.mask;
     }
-    let bounds = w.bounds;
-    match bounds {
+    match w.bounds {
         None => w.mask,
         Some(ends) => narrowed_between(format, w.mask, ends),
     }

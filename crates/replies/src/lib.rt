@@ -50,8 +50,8 @@ pub fn of_joined(joined: Joined) -> Answer
     ensures { content_of result ≡ of_joined joined }
 {
     match joined {
-        Joined::Mask(m) => Answer::Two(m.care, m.value),
-        Joined::Refused(number) => Answer::Refused(number),
+        Ok(m) => Answer::Two(m.care, m.value),
+        Err(number) => Answer::Refused(number),
     }
 }
 

@@ -24,7 +24,7 @@ returns c =
     let from = ap (λ (n : Extent). n.within.low) e in
     let past = ap (λ (n : Extent). n.within.past) e in
     let small = greatest_lt place (low place c.args.mask) (low_formed place c.args.mask w.inside) in
-    let shares = c.shared.ensures (omega (arith, bits)) c.if-h-l.false (omega (arith, c.smaller-h.ensures, most, small)) in
+    let shares = c.shared.ensures (omega (arith, bits)) c.if-h-l.false (omega (arith, c.min-h.ensures, most, small)) in
     let fixed = eqb-false (bit c.args.mask.care place) 0 (sym c.free.ensures ∙ c.if-free.false) in
     record {
       formed = shares.formed _ (omega arith) w;
@@ -34,6 +34,6 @@ returns c =
           let a = meets_extent F c.requires c.args.mask w n met in
           let r = (meets_between F c.requires c.args.mask w fixed c.args.ends v n met).0 within in
           shares.kept n met
-          (omega (arith, c.larger-l.ensures, least, from, a.0, r.0))
-          (omega (arith, c.smaller-h.ensures, c.minus.ensures, most, past, a.1, r.1));
+          (omega (arith, c.max-l.ensures, least, from, a.0, r.0))
+          (omega (arith, c.min-h.ensures, c.minus.ensures, most, past, a.1, r.1));
     }

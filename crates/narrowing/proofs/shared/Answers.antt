@@ -19,4 +19,4 @@ returns-in-Ok c =
     (record { care = c.without_low.result; value = c.without_low-2.result })
     (c.without_low.ensures
     ∙ ap (λ (n : ℕ). n - n % 2 ^ c.minus-apart.result) (c.minus.ensures ∙ ap (λ (n : ℕ). n - 1) (c.power.ensures ∙ power_exact a.place room)))
-    c.without_low-2.ensures (sym c.join-joined.ensures ∙ c.in-Ok.is)
+    c.without_low-2.ensures (sym c.join.ensures ∙ c.in-Ok.is)

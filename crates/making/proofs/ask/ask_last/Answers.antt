@@ -1,5 +1,6 @@
 -- `making::ask::ask_last` meets its contract: the mask of the last kept bit is joined to the number's; where they clash no number
 -- meets both. Assumes nothing.
+use Rattle.format.specs.declared.cause.Cause.{Cause}
 use Rattle.std.specs.Prelude.{Ok, Err}
 use mathlib.Core.Logic.{◌↔◌}
 use mathlib.Core.Path.{◌≡◌, sym, ap₂, ◌∙◌}
@@ -36,7 +37,7 @@ module _ (f : ℕ) (A : pair.Aligned) (x z : Mask) (j b constant carry : ℕ) (h
       ))
       asks
 
-  clash : (k : ℕ) → join x (one_bit j b) ≡ Err k → (false ≡ true) ↔ Making f A (λ (n : ℕ). (bit n j ≡ b) × Added f A x z constant carry n)
+  clash : (k : Cause) → join x (one_bit j b) ≡ Err k → (false ≡ true) ↔ Making f A (λ (n : ℕ). (bit n j ≡ b) × Added f A x z constant carry n)
   clash k e =
       none_made f A (λ (n : ℕ). (bit n j ≡ b) × Added f A x z constant carry n)
       (λ m. last_refused j b h x k e m.x m.holds.1.number m.holds.0)
@@ -48,11 +49,11 @@ pub returns-in-Ok : goal.returns-in-Ok
 returns-in-Ok c =
     let a = c.args in
     λ formed none. met a.f a.aligned a.x a.z a.j a.last a.constant a.carry c.requires.2 c.in-Ok.m
-    (sym (kept a.j a.last c.requires.1 c.requires.2 a.x) ∙ sym c.join-joined.ensures ∙ c.in-Ok.is)
+    (sym (kept a.j a.last c.requires.1 c.requires.2 a.x) ∙ sym c.join.ensures ∙ c.in-Ok.is)
     c.ask.result (c.ask.ensures formed none)
 
 pub returns-in-Err : goal.returns-in-Err
 returns-in-Err c =
     let a = c.args in
     λ formed none. clash a.f a.aligned a.x a.z a.j a.last a.constant a.carry c.requires.2 c.in-Err.field-0
-    (sym (kept a.j a.last c.requires.1 c.requires.2 a.x) ∙ sym c.join-joined.ensures ∙ c.in-Err.is)
+    (sym (kept a.j a.last c.requires.1 c.requires.2 a.x) ∙ sym c.join.ensures ∙ c.in-Err.is)

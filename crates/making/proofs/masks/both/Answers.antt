@@ -10,11 +10,11 @@ use Rattle.making.proofs.masks.both.Goals as goal
 pub returns-in-Ok : goal.returns-in-Ok
 returns-in-Ok c = λ x.
     let a = c.args in
-    join_meets a.m a.n c.in-Ok.whole x (sym c.join-joined.ensures ∙ c.in-Ok.is)
+    join_meets a.m a.n c.in-Ok.whole x (sym c.join.ensures ∙ c.in-Ok.is)
 
 pub returns-in-Err : goal.returns-in-Err
 returns-in-Err c = λ x.
     let a = c.args in (
       λ met. let e : ◌≡◌ {A = ℕ} 0 1 = sym (and_zero_r x) ∙ met in absurd (omega (arith, e)),
-      λ p. absurd (join_refused a.m a.n x c.in-Err.field-0 (sym c.join-joined.ensures ∙ c.in-Err.is) p.0 p.1),
+      λ p. absurd (join_refused a.m a.n x c.in-Err.field-0 (sym c.join.ensures ∙ c.in-Err.is) p.0 p.1),
     )
