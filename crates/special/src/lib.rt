@@ -9,7 +9,6 @@ ghost use Rattle.job.specs.Job.{Valid};
 ghost use Rattle.special.specs.Asked.{InRange, PairFits};
 ghost use Rattle.special.specs.Special.{Special, extreme, representative, together, partnered, admitted};
 
-use adder::Reply;
 use adder::result::rounded_result;
 use bits::power;
 use format::{Format, supported};
@@ -42,8 +41,8 @@ fn together(job: Job, a: u64, b: u64) -> bool
     let setting = job.setting;
     if meets(job.a.mask, a) & meets(job.b.mask, b) {
         match rounded_result(setting.format, setting.operation, setting.mode, a, b) {
-            Reply::Word(c) => meets(job.c.mask, c),
-            Reply::Refused(_) => false,
+            Ok(c) => meets(job.c.mask, c),
+            Err(_) => false,
         }
     } else {
         false

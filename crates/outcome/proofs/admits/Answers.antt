@@ -6,7 +6,7 @@ use native.Mathlib.Omega.{arith}
 use Rattle.bits.proofs.Laws.{power_exact}
 use Rattle.format.specs.declared.Format.{Format}
 use Rattle.format.specs.Format.{Supported}
-use Rattle.format.proofs.Laws.{format_none}
+use Rattle.format.proofs.Laws.{supported_of, unsupported_of}
 use Rattle.format.proofs.Room.{exponent_room}
 use borrow.Author.Tests.{not-true, not-false}
 use Rattle.outcome.proofs.admits.Goals as goal
@@ -19,7 +19,7 @@ pub returns-then-not-supported : goal.returns-then-not-supported
 returns-then-not-supported c =
     let F = c.args.format in record {
       in_format = (λ t. absurd (false≢true t));
-      exact = λ given. absurd (c.if-format_cause-ne0.true (c.format_cause.ensures ∙ (format_none F).1 given.supported));
+      exact = λ given. absurd (unsupported_of c.supported.ensures c.if-not-supported.true given.supported);
     }
 
 pub returns-then-sign-gt1 : goal.returns-then-sign-gt1
@@ -53,7 +53,7 @@ pub some_count-requires : goal.some_count-requires
 some_count-requires c =
     let F = c.args.format in
     let p = c.power in
-    let ok = (format_none F).0 (sym c.format_cause.ensures ∙ c.if-format_cause-ne0.false) in (
+    let ok = supported_of c.supported.ensures c.if-not-supported.false in (
       record {
         supported = ok;
         sign_lt = omega (arith, c.if-sign-gt1.false);
