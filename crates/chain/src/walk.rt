@@ -127,13 +127,11 @@ pub(crate) fn walk(wires: Wires, n: u64, set: u64) -> u64
 {
     let table = transitions(wires);
     let mut at = spread(set);
-    let mut i = 0;
-    while i < n {
+    for _ in 0..n {
         if !any(at) {
             return 0;
         }
         at = next(table, at);
-        i += 1;
     }
     gather(at)
 }

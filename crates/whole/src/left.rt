@@ -85,10 +85,8 @@ pub(crate) fn left(n: u64, s: Masks) -> bool
         zero: carry_in(s.carries, 0),
         one: carry_in(s.carries, 1),
     };
-    let mut i = 0;
-    while i < n {
+    for _ in 0..n {
         set = next(table, set);
-        i += 1;
     }
     set.zero | set.one != 0
 }

@@ -1,12 +1,10 @@
 -- `whole::left::left` meets its contract. The loop's invariant: of the masks whose steps the table tells, the set in hand stands in column i
--- and is the set of the carries that can stand before it. So at the end it is empty exactly where no case is left. The measure is the columns
--- still to come. Assumes nothing.
+-- and is the set of the carries that can stand before it. So at the end it is empty exactly where no case is left. Assumes nothing.
 use mathlib.Core.Path.{◌≡◌, sym, ap, ap₂, ◌∙◌}
 use mathlib.Core.Bool.{Bool, ◌&&◌}
 use Prim.Native.Nat.{ℕ, suc, ◌+◌, ◌<◌}
 use native.Mathlib.Numerals.{add-one}
 use native.Mathlib.Omega.{arith}
-use borrow.Author.Rules.{rules}
 use Rattle.columns.specs.Machine.{some, into, sets}
 use Rattle.columns.proofs.Some.{some_cong}
 use Rattle.chain.specs.Ways.{mem}
@@ -32,26 +30,24 @@ more s table i told h e =
     (λ c hc. ap (λ (v : Bool). before s i c && v) (told i c t h hc ht)) in
     rw add-one (e ∙ ap₂ (λ (p q : Bool). record { zero = flag p (suc i); one = flag q (suc i) }) (is 0 (omega arith)) (is 1 (omega arith)))
 
-pub loop-i-init : goal.loop-i-init
-loop-i-init c = (omega arith, λ s told e. e)
+pub loop-init : goal.loop-init
+loop-init c = λ s told e. e
 
-pub loop-i-preserved : goal.loop-i-preserved
-loop-i-preserved c =
+pub loop-preserved : goal.loop-preserved
+loop-preserved c =
     let table = c.transitions-table.result in
-    let i = c.loop-i.i in
-    let inv = c.loop-i.invariant in (
-      search rules,
-      λ s told e. more s table i told (omega arith) (c.next-set.ensures i (before s i) (omega arith) (inv.1 s told e)),
-    )
+    let i = c.loop.counter in
+    λ s told e. more s table i told (omega arith) (c.next-set.ensures i (before s i) (omega arith) (c.loop.invariant s told e))
 
 pub returns : goal.returns
 unfolding sets
 returns c =
     let s = c.args.s in
     let n = c.args.n in
-    let end : c.loop-i.i ≡ n = omega arith in
+    let i = c.loop.counter in
+    let end : i ≡ n = omega arith in
     let start : record { zero = c.carry_in.result; one = c.carry_in-2.result } ≡ flags (before s 0) 0 = rw (c.carry_in.ensures, c.carry_in-2.ensures) in
-    let set = c.loop-i.invariant.1 s c.transitions-table.ensures start in
-    let is = any_flag c.loop-i.i (before s c.loop-i.i) c.loop-i.set set ∙ ap (λ (j : ℕ). some 2 (before s j)) end in
+    let set = c.loop.invariant s c.transitions-table.ensures start in
+    let is = any_flag i (before s i) c.loop.set set ∙ ap (λ (j : ℕ). some 2 (before s j)) end in
     let exact = left_exact s n c.requires.1 in
     (λ e. exact.0 (sym is ∙ e), λ p. is ∙ exact.1 p)
