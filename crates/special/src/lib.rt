@@ -53,8 +53,7 @@ fn together(job: Job, a: u64, b: u64) -> bool
 fn partnered(job: Job, a: u64, eb: Biased) -> bool
     ensures { Valid job → a < 2 ^ word_bits job.setting.format → eb.0 < 2 ^ job.setting.format.w → result ≡ partnered job a eb }
 {
-    let mut k = 0;
-    while k < 4 {
+    for k in 0..4 {
         if together(
             job,
             a,
@@ -62,7 +61,6 @@ fn partnered(job: Job, a: u64, eb: Biased) -> bool
         ) {
             return true;
         }
-        k += 1;
     }
     false
 }
@@ -71,8 +69,7 @@ fn partnered(job: Job, a: u64, eb: Biased) -> bool
 fn admitted(job: Job, ea: Biased, eb: Biased) -> bool
     ensures { Valid job → ea.0 < 2 ^ job.setting.format.w → eb.0 < 2 ^ job.setting.format.w → result ≡ admitted job ea eb }
 {
-    let mut k = 0;
-    while k < 4 {
+    for k in 0..4 {
         if partnered(
             job,
             representative(job.setting.format, job.a.mask, ea, k),
@@ -80,7 +77,6 @@ fn admitted(job: Job, ea: Biased, eb: Biased) -> bool
         ) {
             return true;
         }
-        k += 1;
     }
     false
 }

@@ -1,7 +1,7 @@
 -- `special::admitted` meets its contract. The loop's invariant: no representative of a before k has a partner. Assumes nothing.
 use mathlib.Core.Path.{◌≡◌}
 use mathlib.Core.Bool.{Bool, false}
-use Prim.Native.Nat.{ℕ, ◌-◌, ◌^◌, ◌<◌, ◌≤◌}
+use Prim.Native.Nat.{ℕ, ◌^◌, ◌<◌}
 use Rattle.columns.specs.Machine.{some}
 use Rattle.job.specs.declared.Job.{Job}
 use Rattle.job.specs.Job.{Valid}
@@ -15,7 +15,4 @@ tried j ea eb k = partnered j (representative j.setting.format j.a.mask ea k) eb
 
 abbrev pub invariant-loop-k : goal.invariant-loop-k
 invariant-loop-k l =
-    (l.k ≤ 4) × (Valid l.job → l.ea.0 < 2 ^ l.job.setting.format.w → l.eb.0 < 2 ^ l.job.setting.format.w → some l.k (tried l.job l.ea l.eb) ≡ false)
-
-abbrev pub decreases-loop-k : goal.decreases-loop-k
-decreases-loop-k l = 4 - l.k
+    Valid l.job → l.ea.0 < 2 ^ l.job.setting.format.w → l.eb.0 < 2 ^ l.job.setting.format.w → some l.k (tried l.job l.ea l.eb) ≡ false

@@ -1,7 +1,7 @@
 -- `special::partnered` meets its contract. The loop's invariant: no representative before k goes together with a. Assumes nothing.
-use mathlib.Core.Path.{◌≡◌, refl, sym, ap, ◌∙◌, subst}
+use mathlib.Core.Path.{◌≡◌, sym, ap, ◌∙◌, subst}
 use mathlib.Core.Bool.{Bool, false}
-use Prim.Native.Nat.{ℕ, ◌-◌, ◌^◌, ◌<◌}
+use Prim.Native.Nat.{ℕ, ◌^◌, ◌<◌}
 use native.Mathlib.Numerals.{add-one}
 use native.Mathlib.Omega.{arith}
 use Rattle.format.specs.Format.{word_bits}
@@ -22,9 +22,6 @@ one : (j : Job) → Valid j → (a : ℕ) → a < 2 ^ word_bits j.setting.format
 one j valid a ha eb he k hk b r eb' er =
     er (rw eb' (representative_lt j.setting.format j.b.mask valid.b.mask eb k he hk)) ∙ ap (together j a) eb'
 
-pub loop-k-init : goal.loop-k-init
-loop-k-init c = (omega arith, λ valid ha he. refl)
-
 pub returns-then-together : goal.returns-then-together
 unfolding partnered
 returns-then-together c valid ha he =
@@ -38,16 +35,14 @@ pub loop-k-preserved : goal.loop-k-preserved
 loop-k-preserved c =
     let a = c.args in
     let l = c.loop-k in
-    let r = c.representative in (
-      omega arith,
-      λ valid ha he.
-          let is = one a.job valid a.a ha a.eb he l.k (omega arith) r.result c.together.result (r.ensures valid.setting.format valid.b.mask he (omega arith)) (λ hb. c.together.ensures valid ha hb) in
-          rw add-one (some_none l.k (tried a.job a.a a.eb) (l.invariant.1 valid ha he) (sym is ∙ c.if-together.false)),
-    )
+    let r = c.representative in
+    λ valid ha he.
+    let is = one a.job valid a.a ha a.eb he l.k (omega arith) r.result c.together.result (r.ensures valid.setting.format valid.b.mask he (omega arith)) (λ hb. c.together.ensures valid ha hb) in
+    rw add-one (some_none l.k (tried a.job a.a a.eb) (l.invariant valid ha he) (sym is ∙ c.if-together.false))
 
 pub returns : goal.returns
 unfolding partnered
 returns c valid ha he =
     let a = c.args in
     let k : c.loop-k.k ≡ 4 = omega arith in
-    sym (subst (λ (n : ℕ). some n (tried a.job a.a a.eb) ≡ false) k (c.loop-k.invariant.1 valid ha he))
+    sym (subst (λ (n : ℕ). some n (tried a.job a.a a.eb) ≡ false) k (c.loop-k.invariant valid ha he))

@@ -1,7 +1,7 @@
 -- `special::partnered` meets its contract. The loop's invariant: no representative before k goes together with a. Assumes nothing.
 use mathlib.Core.Path.{◌≡◌}
 use mathlib.Core.Bool.{Bool, false}
-use Prim.Native.Nat.{ℕ, ◌-◌, ◌^◌, ◌<◌, ◌≤◌}
+use Prim.Native.Nat.{ℕ, ◌^◌, ◌<◌}
 use Rattle.format.specs.Format.{word_bits}
 use Rattle.columns.specs.Machine.{some}
 use Rattle.job.specs.declared.Job.{Job}
@@ -16,7 +16,4 @@ tried j a eb k = together j a (representative j.setting.format j.b.mask eb k)
 
 abbrev pub invariant-loop-k : goal.invariant-loop-k
 invariant-loop-k l =
-    (l.k ≤ 4) × (Valid l.job → l.a < 2 ^ word_bits l.job.setting.format → l.eb.0 < 2 ^ l.job.setting.format.w → some l.k (tried l.job l.a l.eb) ≡ false)
-
-abbrev pub decreases-loop-k : goal.decreases-loop-k
-decreases-loop-k l = 4 - l.k
+    Valid l.job → l.a < 2 ^ word_bits l.job.setting.format → l.eb.0 < 2 ^ l.job.setting.format.w → some l.k (tried l.job l.a l.eb) ≡ false

@@ -30,9 +30,6 @@ more s table i told h e =
     (λ c hc. ap (λ (v : Bool). before s i c && v) (told i c t h hc ht)) in
     rw add-one (e ∙ ap₂ (λ (p q : Bool). record { zero = flag p (suc i); one = flag q (suc i) }) (is 0 (omega arith)) (is 1 (omega arith)))
 
-pub loop-init : goal.loop-init
-loop-init c = λ s told e. e
-
 pub loop-preserved : goal.loop-preserved
 loop-preserved c =
     let table = c.transitions-table.result in
