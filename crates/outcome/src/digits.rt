@@ -124,15 +124,13 @@ fn some_way(
 {
     let last = columns(aligned.like, aligned.below, format.f);
     let ways = ways_at(aligned.below, format.f, unit, dropped, count);
-    let mut way = 0;
-    while way < ways {
+    for way in 0..ways {
         let x = numbers(last, format.f, dropped, count, way);
         if rounds_to(
             aligned, format.f, direction, unit, count, x, quotient, fractions,
         ) {
             return true;
         }
-        way += 1;
     }
     false
 }

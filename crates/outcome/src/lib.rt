@@ -79,12 +79,10 @@ fn some_from(
     ensures { Formed format.f aligned → ValidDropped target.dropped → (result ≡ true) ↔ Making format.f aligned (λ (x : ℕ). (first ≤ size x) × Serves format mode sign unit aligned target x) }
 {
     let last = columns(aligned.like, aligned.below, format.f);
-    let mut count = first;
-    while count <= last {
+    for count in first..=last {
         if fits(format, mode, sign, unit, aligned, target, count) {
             return true;
         }
-        count += 1;
     }
     false
 }

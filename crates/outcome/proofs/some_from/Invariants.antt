@@ -1,7 +1,6 @@
--- `outcome::some_from` meets its contract. The invariant: no number of digits that was passed has an answer. The measure is what is left
--- of the range. Assumes nothing.
+-- `outcome::some_from` meets its contract. The invariant: no number of digits that was passed has an answer. Assumes nothing.
 use mathlib.Core.Path.{◌≡◌}
-use Prim.Native.Nat.{ℕ, ◌+◌, ◌-◌, ◌≤◌, ◌<◌}
+use Prim.Native.Nat.{ℕ, ◌≤◌, ◌<◌}
 use lib.Ieee.{size}
 use Rattle.job.specs.Dropped.{ValidDropped}
 use Rattle.making.specs.Making.{Formed, Making}
@@ -10,8 +9,4 @@ use Rattle.outcome.proofs.some_from.Given as goal
 
 abbrev pub invariant-loop-count : goal.invariant-loop-count
 invariant-loop-count l =
-    (l.first ≤ l.count)
-    × ((n : ℕ) → l.first ≤ n → n < l.count → Formed l.format.f l.aligned → ValidDropped l.target.dropped → Making l.format.f l.aligned (λ (x : ℕ). (size x ≡ n) × Serves l.format l.mode l.sign l.unit l.aligned l.target x) → ⊥)
-
-abbrev pub decreases-loop-count : goal.decreases-loop-count
-decreases-loop-count l = l.last + 1 - l.count
+    (n : ℕ) → l.first ≤ n → n < l.count → Formed l.format.f l.aligned → ValidDropped l.target.dropped → Making l.format.f l.aligned (λ (x : ℕ). (size x ≡ n) × Serves l.format l.mode l.sign l.unit l.aligned l.target x) → ⊥

@@ -1,7 +1,6 @@
--- `outcome::digits::some_way` meets its contract. The invariant: no way that was passed has an answer. The measure is how many are left.
--- Assumes nothing.
+-- `outcome::digits::some_way` meets its contract. The invariant: no way that was passed has an answer. Assumes nothing.
 use mathlib.Core.Path.{◌≡◌, refl, sym, ◌∙◌, subst}
-use mathlib.Core.Bool.{true, false≢true}
+use mathlib.Core.Bool.{false≢true}
 use mathlib.Core.Logic.{◌↔◌}
 use Prim.Native.Nat.{ℕ, ◌+◌, ◌-◌, ◌<◌}
 use native.Mathlib.Decide.{dec_lt}
@@ -43,9 +42,6 @@ ways_at-ways-requires c =
     let a = c.args in
     (aligned_lt a.format.f a.aligned c.requires.0, c.requires.8, c.requires.1, omega (arith, c.requires.3, c.requires.0.columns))
 
-pub loop-way-init : goal.loop-way-init
-loop-way-init c = λ t h formed valid some m. absurd (omega arith)
-
 pub numbers-x-requires : goal.numbers-x-requires
 numbers-x-requires c =
     let a = c.args in
@@ -78,12 +74,6 @@ returns-then-rounds_to c =
           record { x = m.x; made = m.made; holds = (q.0, q.1.0, q.1.1, q.1.2) }),
       λ m. refl,
     )
-
-pub overflow_add-way : goal.overflow_add-way
-overflow_add-way c = omega (arith, c.loop-way-test.true)
-
-pub loop-way-smaller : goal.loop-way-smaller
-loop-way-smaller c = omega (arith, c.loop-way-test.true)
 
 pub loop-way-preserved : goal.loop-way-preserved
 loop-way-preserved c =

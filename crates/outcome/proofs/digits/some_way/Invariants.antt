@@ -1,8 +1,7 @@
--- `outcome::digits::some_way` meets its contract. The invariant: no way that was passed has an answer. The measure is how many are left.
--- Assumes nothing.
+-- `outcome::digits::some_way` meets its contract. The invariant: no way that was passed has an answer. Assumes nothing.
 use mathlib.Core.Path.{◌≡◌}
 use mathlib.Core.Bool.{true}
-use Prim.Native.Nat.{ℕ, ◌-◌, ◌/◌, ◌%◌, ◌^◌, ◌<◌}
+use Prim.Native.Nat.{ℕ, ◌/◌, ◌%◌, ◌^◌, ◌<◌}
 use Rattle.format.specs.declared.Format.{Format}
 use Rattle.mask.specs.Mask.{Meets}
 use Rattle.job.specs.Dropped.{ValidDropped}
@@ -23,6 +22,3 @@ abbrev pub invariant-loop-way : goal.invariant-loop-way
 invariant-loop-way l =
     (t : ℕ) → t < l.way → Formed l.format.f l.aligned → (valid : ValidDropped l.dropped) (some : 0 < l.count)
     → Making l.format.f l.aligned (InOne l.format l.aligned.below l.unit l.dropped valid l.count some (Keeps l.format l.direction l.unit l.aligned l.quotient l.fractions) t) → ⊥
-
-abbrev pub decreases-loop-way : goal.decreases-loop-way
-decreases-loop-way l = l.ways - l.way
