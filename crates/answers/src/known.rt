@@ -105,9 +105,7 @@ fn try_fields(job: Job, class: Class, unit: Unit, known: u64) -> Known
     let reach = reach(job);
     let least = least_field(reach, class).0;
     let mut refused = known;
-    let mut n = reach + MOST_FIELD + 1;
-    while least < n {
-        n -= 1;
+    for n in (least..reach + MOST_FIELD + 1).rev() {
         let tried = try_field(job, class, unit, Biased(n), refused);
         if tried.possible {
             return tried;

@@ -1,6 +1,5 @@
 -- `answers::known::try_fields` meets its contract: no field from n on is let through by c and had by the class. Assumes nothing.
-use mathlib.Core.Bool.{true≢false}
-use mathlib.Core.Path.{◌≡◌, sym, ap, ◌∙◌, subst}
+use mathlib.Core.Path.{◌≡◌, ap, subst}
 use Prim.Native.Nat.{ℕ, ◌-◌, ◌≤◌, ◌<◌}
 use native.Mathlib.Decide.{ℕ_discrete}
 use native.Mathlib.Omega.{arith}
@@ -28,35 +27,24 @@ least_field-least-requires c = rw c.reach-reach.ensures (omega (arith, reach_mos
 pub overflow_add-n : goal.overflow_add-n
 overflow_add-n c = record { fits = omega (arith, c.reach-reach.ensures, reach_most c.args.job) }
 
-pub overflow_add-n-2 : goal.overflow_add-n-2
-overflow_add-n-2 c = record { fits = omega (arith, c.reach-reach.ensures, reach_most c.args.job) }
-
-pub loop-n-init : goal.loop-n-init
-loop-n-init c = (omega (arith, c.reach-reach.ensures), λ p kept. (kept, λ i l met h. absurd (omega (arith, c.reach-reach.ensures))))
-
-pub overflow_sub-n : goal.overflow_sub-n
-overflow_sub-n c = omega (arith, c.loop-n-test.true)
+pub overflow_step-n : goal.overflow_step-n
+overflow_step-n c = record { fits = omega (arith, c.reach-reach.ensures, reach_most c.args.job) }
 
 pub try_field-tried-requires : goal.try_field-tried-requires
-try_field-tried-requires c = (c.requires.0, c.requires.2, omega (arith, c.loop-n.invariant.0, c.loop-n-test.true))
-
-pub returns-then-tried : goal.returns-then-tried
-returns-then-tried c = λ p kept. ((c.try_field-tried.ensures p (c.loop-n.invariant.1 p kept).0).0, λ e. absurd (true≢false (sym c.if-tried.true ∙ e)))
-
-pub loop-n-smaller : goal.loop-n-smaller
-loop-n-smaller c = omega (arith, c.loop-n-test.true)
+try_field-tried-requires c = (c.requires.0, c.requires.2, omega (arith, c.reach-reach.ensures))
 
 pub loop-n-preserved : goal.loop-n-preserved
 loop-n-preserved c =
-    let a = c.args in (
-      omega (arith, c.loop-n.invariant.0),
-      λ p kept.
-          let t = c.try_field-tried.ensures p (c.loop-n.invariant.1 p kept).0 in (
-            t.0,
-            next (λ (i : Biased). Meets (field_at (reach a.job) a.unit i).0 (exponent_mask a.job.setting.format a.job.c.mask) → Never a.job a.class i) c.loop-n.n
-                (omega (arith, c.loop-n-test.true)) (c.loop-n.invariant.1 p kept).1 (t.1 c.if-tried.false),
-          ),
+    let a = c.args in
+    λ p kept.
+    let inv = c.loop-n.invariant p kept in
+    let t = c.try_field-tried.ensures p inv.0 in (
+      t.0,
+      next (λ (i : Biased). Meets (field_at (reach a.job) a.unit i).0 (exponent_mask a.job.setting.format a.job.c.mask) → Never a.job a.class i) c.loop-n.n
+          (omega arith) inv.1 (t.1 c.if-tried.false),
     )
 
 pub returns : goal.returns
-returns c = λ p kept. let inv = c.loop-n.invariant.1 p kept in (inv.0, λ e i least met. inv.1 i (omega (arith, c.loop-n-test.false, ap (λ (e : Biased). e.0) (rw c.reach-reach.ensures at c.least_field-least.ensures))) met)
+returns c = λ p kept.
+    let inv = c.loop-n.invariant p kept in
+    (inv.0, λ e i least met. inv.1 i (omega (arith, ap (λ (e : Biased). e.0) (rw c.reach-reach.ensures at c.least_field-least.ensures))) met)

@@ -1,18 +1,14 @@
 -- `answers::known::try_fields` meets its contract: no field from n on is let through by c and had by the class. Assumes nothing.
-use Prim.Native.Nat.{◌+◌, ◌-◌, ◌≤◌}
+use Prim.Native.Nat.{◌≤◌}
 use Rattle.job.specs.Guards.{reach}
 use Rattle.mask.specs.Mask.{Meets}
 use Rattle.word.specs.declared.Biased.{Biased}
 use Rattle.word.specs.Masks.{exponent_mask}
-use Rattle.classes.specs.Class.{field_at, most_field, ClassFor}
+use Rattle.classes.specs.Class.{field_at, ClassFor}
 use Rattle.answers.specs.Kept.{Refuses, Never}
 use Rattle.answers.proofs.known.try_fields.Given as goal
 
 abbrev pub invariant-loop-n : goal.invariant-loop-n
 invariant-loop-n l =
-    (l.n ≤ most_field (reach l.job) + 1)
-    × (ClassFor l.job l.class → Refuses l.job l.class l.known
-    → (Refuses l.job l.class l.refused) × ((i : Biased) → l.n ≤ i.0 → Meets (field_at (reach l.job) l.unit i).0 (exponent_mask l.job.setting.format l.job.c.mask) → Never l.job l.class i))
-
-abbrev pub decreases-loop-n : goal.decreases-loop-n
-decreases-loop-n l = l.n
+    ClassFor l.job l.class → Refuses l.job l.class l.known
+    → (Refuses l.job l.class l.refused) × ((i : Biased) → l.n ≤ i.0 → Meets (field_at (reach l.job) l.unit i).0 (exponent_mask l.job.setting.format l.job.c.mask) → Never l.job l.class i)
