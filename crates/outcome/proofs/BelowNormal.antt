@@ -13,6 +13,7 @@ use lib.Bits.{and_zero_l}
 use lib.Ieee.{size}
 use lib.Ieee.Digits.{size-lt, size-le}
 use lib.Pow.{pow_pos, pow_mono}
+use Rattle.std.specs.Prelude.{None}
 use Rattle.format.specs.declared.Format.{Format}
 use Rattle.format.specs.Format.{Supported}
 use Rattle.mask.specs.declared.Mask.{Mask}
@@ -33,9 +34,8 @@ use Rattle.making.proofs.Rounds.{kept_scaled}
 use Rattle.making.proofs.Making.{none_made, making_answer}
 use Rattle.making.proofs.Made.{made_lt}
 use Rattle.outcome.specs.declared.Target.{Target}
-use Rattle.outcome.specs.declared.sought.Fractions as fractions-of
 use Rattle.outcome.specs.Outcome.{Serves, Admits}
-use Rattle.outcome.specs.Question.{UnderPower, word_or_overflow, Seeks, subnormal_word}
+use Rattle.outcome.specs.Question.{UnderPower, word_or_overflow, SoughtBy, Seeks, subnormal_word}
 use Rattle.outcome.proofs.Topped.{size_none}
 use Rattle.outcome.proofs.Fields.{held_word_lem, within_meets}
 use Rattle.outcome.proofs.Carried.{cut_lt}
@@ -102,27 +102,28 @@ module _ (q : ℕ) (F : Format) (ok : Supported F) (s : ℕ) (u : exponent.Unit)
         below = low_lt q u F.f small place x (lt_of_lt_of_le (size-lt x) (pow_mono {i = size x} {j = small} h))
 
     -- the question
-    module _ (c : Mask) (so : fractions-of.Fractions) (seeks : Seeks F TowardZero s c zero_field so) where
-      low_meets : (n : ℕ) → n < 2 ^ small → Meets (subnormal_word q F s u n) c ↔ ((so.possible ≡ true) × Meets (kept_part q TowardZero n u.0 0) so.fraction)
-      low_meets n h = rw (plain_word TowardZero (kept_part q TowardZero n u.0 0)) at (seeks.meets (kept_part q TowardZero n u.0 0) (low_lt q u F.f small place n h))
+    module _ (c : Mask) (A : pair.Aligned) where
+      pub subnormal_asked : (fraction x : Mask) (r : Bool) → SoughtBy F TowardZero s c zero_field fraction → UnderPower (columns_of F.f A) small x
+          → ((r ≡ true) ↔ Making F.f A (λ (n : ℕ). Meets n x × Meets (kept_part q TowardZero n u.0 0) fraction))
+          → (r ≡ true) ↔ Making F.f A (λ (n : ℕ). (n < 2 ^ small) × Meets (subnormal_word q F s u n) c)
+      subnormal_asked fraction x r seeks below asks =
+          making_answer F.f A (λ (n : ℕ). Meets n x × Meets (kept_part q TowardZero n u.0 0) fraction) (λ (n : ℕ). (n < 2 ^ small) × Meets (subnormal_word q F s u n) c) r
+          (λ n made.
+          let b = below n (made_lt F.f A n made) in (
+            (λ p. let l = b.0 p.0 in (l, (met n l).1 p.1)),
+            λ p. (b.1 p.0, (met n p.0).0 p.1),
+          ))
+          asks
+        where
+          met : (n : ℕ) → n < 2 ^ small → Meets (subnormal_word q F s u n) c ↔ Meets (kept_part q TowardZero n u.0 0) fraction
+          met n h = rw (plain_word TowardZero (kept_part q TowardZero n u.0 0)) at (seeks.meets (kept_part q TowardZero n u.0 0) (low_lt q u F.f small place n h))
 
-      module _ (A : pair.Aligned) where
-        pub subnormal_asked : (x : Mask) (r : Bool) → so.possible ≡ true → UnderPower (columns_of F.f A) small x
-            → ((r ≡ true) ↔ Making F.f A (λ (n : ℕ). Meets n x × Meets (kept_part q TowardZero n u.0 0) so.fraction))
-            → (r ≡ true) ↔ Making F.f A (λ (n : ℕ). (n < 2 ^ small) × Meets (subnormal_word q F s u n) c)
-        subnormal_asked x r able below asks =
-            making_answer F.f A (λ (n : ℕ). Meets n x × Meets (kept_part q TowardZero n u.0 0) so.fraction) (λ (n : ℕ). (n < 2 ^ small) × Meets (subnormal_word q F s u n) c) r
-            (λ n made.
-            let b = below n (made_lt F.f A n made) in (
-              (λ p. let l = b.0 p.0 in (l, (low_meets n l).1 (able, p.1))),
-              λ p. (b.1 p.0, ((low_meets n p.0).0 p.1).1),
-            ))
-            asks
-
-        pub subnormal_refused : so.possible ≡ false → (false ≡ true) ↔ Making F.f A (λ (n : ℕ). (n < 2 ^ small) × Meets (subnormal_word q F s u n) c)
-        subnormal_refused none =
-            none_made F.f A (λ (n : ℕ). (n < 2 ^ small) × Meets (subnormal_word q F s u n) c)
-            (λ m. false≢true (sym none ∙ ((low_meets m.x m.holds.0).0 m.holds.1).0))
+      pub subnormal_refused : Seeks F TowardZero s c zero_field None → (false ≡ true) ↔ Making F.f A (λ (n : ℕ). (n < 2 ^ small) × Meets (subnormal_word q F s u n) c)
+      subnormal_refused seeks =
+          none_made F.f A (λ (n : ℕ). (n < 2 ^ small) × Meets (subnormal_word q F s u n) c)
+          (λ m.
+          let k = kept_part q TowardZero m.x u.0 0 in
+          seeks k (low_lt q u F.f small place m.x m.holds.0) (rw (plain_word TowardZero k) m.holds.1))
 
 -- the answer, where what they make is exact and no dropped bit is fixed
 module _ (F : Format) (ok : Supported F) (mode s : ℕ) (u : exponent.Unit) (A : pair.Aligned) (T : Target) (free : T.dropped.mask.care ≡ 0) (small : ℕ) (place : small + u.0 ≡ F.f + A.below)

@@ -3,13 +3,14 @@
 -- Assumes nothing.
 use mathlib.Core.Logic.{◌↔◌, ◌⊎◌, inl, inr, ⊎_elim}
 use mathlib.Core.Path.{◌≡◌, refl, sym, ap, ap₂, ◌∙◌, subst}
-use mathlib.Core.Bool.{Bool, true, false, false≢true}
+use mathlib.Core.Bool.{Bool, true, false, true≢false, false≢true}
 use Prim.Native.Nat.{ℕ, zero, suc, ◌+◌, ◌-◌, ◌/◌, ◌%◌, ◌^◌, ◌≤◌, ◌<◌}
 use native.Mathlib.Nat.{mod-lt}
 use native.Mathlib.Omega.{arith}
 use lib.Bits.{and_zero_r}
 use lib.Ieee.{size}
 use lib.Pow.{pow_pos}
+use Rattle.std.specs.Prelude.{Option, None, Some, is_some}
 use Rattle.format.specs.declared.Format.{Format}
 use Rattle.mask.specs.declared.Mask.{Mask}
 use Rattle.mask.specs.Mask.{Meets, meets, free_mask}
@@ -25,7 +26,6 @@ use Rattle.job.specs.declared.Dropped.{Dropped}
 use Rattle.job.specs.Dropped.{ValidDropped}
 use Rattle.making.specs.declared.Aligned as pair
 use Rattle.outcome.specs.declared.Target.{Target}
-use Rattle.outcome.specs.declared.sought.Fractions as fractions-of
 use Rattle.rounding.specs.Sticky.{kept_part}
 use Rattle.rounding.specs.Width.{sum_bits}
 use Rattle.rounding.specs.Outcome.{rounded_unit, kept_of, bounded_held, zero_sign, outcome}
@@ -33,7 +33,7 @@ use Rattle.making.specs.Making.{Making, columns_of}
 use Rattle.making.proofs.Making.{some_made, none_made, making_map, making_answer}
 use Rattle.making.proofs.Made.{made_lt}
 use Rattle.outcome.specs.Outcome.{Serves}
-use Rattle.outcome.specs.Question.{least_quotient, NextQuotient, Sized, OnlyDigits, topped, OfDigits, word_or_overflow, Seeks}
+use Rattle.outcome.specs.Question.{least_quotient, NextQuotient, Sized, OnlyDigits, topped, OfDigits, word_or_overflow, SoughtBy, Seeks}
 use Rattle.outcome.specs.Ways.{ways_at, InWay}
 use Rattle.outcome.proofs.Topped.{topped_meets, size_none}
 use Rattle.outcome.proofs.Kept.{kept_lt, quotient_low, quotient_high, least_known}
@@ -55,50 +55,66 @@ module _ (q f : ℕ) (d : Direction) (u : exponent.Unit) (h : ℕ) (fraction : M
 -- for any number that meets x, which asks for so many digits
 module _ (f : ℕ) (d : Direction) (u : exponent.Unit) (h : ℕ) (fraction : Mask) (hc : fraction.care < 2 ^ f) (hv : fraction.value < 2 ^ f) (A : pair.Aligned) (count : ℕ) (x : Mask)
     (only : OnlyDigits (columns_of f A) count x) where
-  pub counted_asked : (possible : Bool) (k : exponent.Unit) (m : Mask) (r : Bool) → 0 < count → count ≤ sum_bits A.below f
-      → possible ≡ true → k ≡ rounded_unit A.below f count u → m ≡ topped 2 f h fraction
+  pub counted_asked : (k : exponent.Unit) (m : Mask) (r : Bool) → 0 < count → count ≤ sum_bits A.below f
+      → k ≡ rounded_unit A.below f count u → m ≡ topped 2 f h fraction
       → ((r ≡ true) ↔ Making f A (λ (n : ℕ). Meets n x × Meets (kept_part A.below d n u.0 k.0) m))
-      → (r ≡ true) ↔ Making f A (λ (n : ℕ). Meets n x × (kept_of A.below f d n u / 2 ^ f ≡ h) × (possible ≡ true) × Meets (kept_of A.below f d n u % 2 ^ f) fraction)
-  counted_asked possible k m r some most able ek em asks =
+      → (r ≡ true) ↔ Making f A (λ (n : ℕ). Meets n x × (kept_of A.below f d n u / 2 ^ f ≡ h) × Meets (kept_of A.below f d n u % 2 ^ f) fraction)
+  counted_asked k m r some most ek em asks =
       making_answer f A (λ (n : ℕ). Meets n x × Meets (kept_part A.below d n u.0 k.0) m)
-      (λ (n : ℕ). Meets n x × (kept_of A.below f d n u / 2 ^ f ≡ h) × (possible ≡ true) × Meets (kept_of A.below f d n u % 2 ^ f) fraction) r
+      (λ (n : ℕ). Meets n x × (kept_of A.below f d n u / 2 ^ f ≡ h) × Meets (kept_of A.below f d n u % 2 ^ f) fraction) r
       (λ n made. (
         (λ p.
             let t = (kept_meets A.below f d u h fraction hc hv n count some most (only n (made_lt f A n made) p.0)).1 (rw (ek, em) at p.1) in
-            (p.0, t.0, able, t.1)),
-        λ p. (p.0, rw (ek, em) ((kept_meets A.below f d u h fraction hc hv n count some most (only n (made_lt f A n made) p.0)).0 (p.1, p.3))),
+            (p.0, t.0, t.1)),
+        λ p. (p.0, rw (ek, em) ((kept_meets A.below f d u h fraction hc hv n count some most (only n (made_lt f A n made) p.0)).0 (p.1, p.2))),
       ))
       asks
 
--- the word of a number of so many digits, with a quotient above the fraction: where it meets c, by its exponent field and its fraction
-quotient_fields : (q : ℕ) (F : Format) (d : Direction) (s : ℕ) (u : exponent.Unit) (c : Mask) (count h : ℕ) (e : Biased) (so : fractions-of.Fractions)
-    → e ≡ field_of (rounded_unit q F.f count u) h → Seeks F d s c e so → (n : ℕ) → size n ≡ count → kept_of q F.f d n u / 2 ^ F.f ≡ h
-    → Meets (signed F s (bounded_held q F d n u)) c ↔ ((so.possible ≡ true) × Meets (kept_of q F.f d n u % 2 ^ F.f) so.fraction)
-quotient_fields q F d s u c count h e so ee seeks n es eq = ((λ p. fields.0 (rw word at p)), λ p. rw word (fields.1 p))
-  where
-    t : ℕ
-    t = kept_of q F.f d n u % 2 ^ F.f
+-- what is sought, where there is none
+pub sought_none : (F : Format) (d : Direction) (s : ℕ) (c : Mask) (e : Biased) (r : Option Mask) → is_some r ≡ false → Seeks F d s c e r → Seeks F d s c e None
+sought_none F d s c e None none seeks = seeks
+sought_none F d s c e (Some m) none seeks = absurd (true≢false none)
 
-    fields : Meets (word_or_overflow F d s e t) c ↔ ((so.possible ≡ true) × Meets t so.fraction)
-    fields = seeks.meets t (mod-lt (kept_of q F.f d n u) (pow_pos F.f))
+-- the word of a number of so many digits, with a quotient above the fraction
+module _ (q : ℕ) (F : Format) (d : Direction) (s : ℕ) (u : exponent.Unit) (count h : ℕ) (e : Biased) (ee : e ≡ field_of (rounded_unit q F.f count u) h) where
+  quotient_word : (n : ℕ) → size n ≡ count → kept_of q F.f d n u / 2 ^ F.f ≡ h
+      → signed F s (bounded_held q F d n u) ≡ word_or_overflow F d s e (kept_of q F.f d n u % 2 ^ F.f)
+  quotient_word n es eq =
+      held_word_lem q F d s n u
+      ∙ ap (λ (k : Biased). word_or_overflow F d s k (kept_of q F.f d n u % 2 ^ F.f)) (ap₂ (λ (m k : ℕ). field_of (rounded_unit q F.f m u) k) es eq ∙ sym ee)
 
-    word : signed F s (bounded_held q F d n u) ≡ word_or_overflow F d s e t
-    word = held_word_lem q F d s n u ∙ ap (λ (k : Biased). word_or_overflow F d s k t) (ap₂ (λ (m k : ℕ). field_of (rounded_unit q F.f m u) k) es eq ∙ sym ee)
+  -- where it meets c, by its fraction
+  quotient_fields : (c fraction : Mask) → SoughtBy F d s c e fraction → (n : ℕ) → size n ≡ count → kept_of q F.f d n u / 2 ^ F.f ≡ h
+      → Meets (signed F s (bounded_held q F d n u)) c ↔ Meets (kept_of q F.f d n u % 2 ^ F.f) fraction
+  quotient_fields c fraction seeks n es eq = rw (quotient_word n es eq) (seeks.meets (kept_of q F.f d n u % 2 ^ F.f) (mod-lt (kept_of q F.f d n u) (pow_pos F.f)))
 
-pub quotient_asked : (F : Format) (d : Direction) (s : ℕ) (u : exponent.Unit) (A : pair.Aligned) (c : Mask) (count h : ℕ) (P : ℕ → Type 0) → ((n : ℕ) → P n → size n ≡ count)
-    → (e : Biased) (so : fractions-of.Fractions) (r : Bool) → e ≡ field_of (rounded_unit A.below F.f count u) h → Seeks F d s c e so
-    → ((r ≡ true) ↔ Making F.f A (λ (n : ℕ). P n × (kept_of A.below F.f d n u / 2 ^ F.f ≡ h) × (so.possible ≡ true) × Meets (kept_of A.below F.f d n u % 2 ^ F.f) so.fraction))
-    → (r ≡ true) ↔ Making F.f A (λ (n : ℕ). P n × (kept_of A.below F.f d n u / 2 ^ F.f ≡ h) × Meets (signed F s (bounded_held A.below F d n u)) c)
-quotient_asked F d s u A c count h P digits e so r ee seeks asks =
-    making_answer F.f A
-    (λ (n : ℕ). P n × (kept_of A.below F.f d n u / 2 ^ F.f ≡ h) × (so.possible ≡ true) × Meets (kept_of A.below F.f d n u % 2 ^ F.f) so.fraction)
-    (λ (n : ℕ). P n × (kept_of A.below F.f d n u / 2 ^ F.f ≡ h) × Meets (signed F s (bounded_held A.below F d n u)) c) r
-    (λ n made.
-    let fields = quotient_fields A.below F d s u c count h e so ee seeks n in (
-      (λ p. (p.0, p.1, (fields (digits n p.0) p.1).1 (p.2, p.3))),
-      λ p. let k = (fields (digits n p.0) p.1).0 p.2 in (p.0, p.1, k.0, k.1),
-    ))
-    asks
+  -- where no fraction is sought, it does not meet c
+  quotient_never : (c : Mask) → Seeks F d s c e None → (n : ℕ) → size n ≡ count → kept_of q F.f d n u / 2 ^ F.f ≡ h
+      → Meets (signed F s (bounded_held q F d n u)) c → ⊥
+  quotient_never c seeks n es eq met =
+      seeks (kept_of q F.f d n u % 2 ^ F.f) (mod-lt (kept_of q F.f d n u) (pow_pos F.f)) (rw (quotient_word n es eq) at met)
+
+module _ (F : Format) (d : Direction) (s : ℕ) (u : exponent.Unit) (A : pair.Aligned) (c : Mask) (count h : ℕ) (P : ℕ → Type 0) (digits : (n : ℕ) → P n → size n ≡ count)
+    (e : Biased) (ee : e ≡ field_of (rounded_unit A.below F.f count u) h) where
+  pub quotient_asked : (fraction : Mask) (r : Bool) → SoughtBy F d s c e fraction
+      → ((r ≡ true) ↔ Making F.f A (λ (n : ℕ). P n × (kept_of A.below F.f d n u / 2 ^ F.f ≡ h) × Meets (kept_of A.below F.f d n u % 2 ^ F.f) fraction))
+      → (r ≡ true) ↔ Making F.f A (λ (n : ℕ). P n × (kept_of A.below F.f d n u / 2 ^ F.f ≡ h) × Meets (signed F s (bounded_held A.below F d n u)) c)
+  quotient_asked fraction r seeks asks =
+      making_answer F.f A
+      (λ (n : ℕ). P n × (kept_of A.below F.f d n u / 2 ^ F.f ≡ h) × Meets (kept_of A.below F.f d n u % 2 ^ F.f) fraction)
+      (λ (n : ℕ). P n × (kept_of A.below F.f d n u / 2 ^ F.f ≡ h) × Meets (signed F s (bounded_held A.below F d n u)) c) r
+      (λ n made.
+      let fields = quotient_fields A.below F d s u count h e ee c fraction seeks n in (
+        (λ p. (p.0, p.1, (fields (digits n p.0) p.1).1 p.2)),
+        λ p. (p.0, p.1, (fields (digits n p.0) p.1).0 p.2),
+      ))
+      asks
+
+  pub quotient_refused : Seeks F d s c e None
+      → (false ≡ true) ↔ Making F.f A (λ (n : ℕ). P n × (kept_of A.below F.f d n u / 2 ^ F.f ≡ h) × Meets (signed F s (bounded_held A.below F d n u)) c)
+  quotient_refused seeks =
+      none_made F.f A (λ (n : ℕ). P n × (kept_of A.below F.f d n u / 2 ^ F.f ≡ h) × Meets (signed F s (bounded_held A.below F d n u)) c)
+      (λ m. quotient_never A.below F d s u count h e ee c seeks m.x (digits m.x m.holds.0) m.holds.1 m.holds.2)
 
 -- a number of so many digits has one of two quotients
 quotients : (q f : ℕ) (d : Direction) (u : exponent.Unit) (least n count : ℕ) → 0 < count → count ≤ sum_bits q f → size n ≡ count → least ≡ least_quotient q f count u
@@ -112,13 +128,13 @@ quotients q f d u least n (suc m) some most digits e =
 
 -- so where neither leaves a fraction, its word does not meet c
 pub no_word : (q : ℕ) (F : Format) (d : Direction) (s : ℕ) (u : exponent.Unit) (c : Mask) (count least : ℕ) → 0 < count → count ≤ sum_bits q F.f → least ≡ least_quotient q F.f count u
-    → (e e' : Biased) (so so' : fractions-of.Fractions) → e ≡ field_of (rounded_unit q F.f count u) least → e' ≡ field_of (rounded_unit q F.f count u) (least + 1)
-    → Seeks F d s c e so → Seeks F d s c e' so' → so.possible ≡ false → so'.possible ≡ false
+    → (e e' : Biased) → e ≡ field_of (rounded_unit q F.f count u) least → e' ≡ field_of (rounded_unit q F.f count u) (least + 1)
+    → Seeks F d s c e None → Seeks F d s c e' None
     → (n : ℕ) → size n ≡ count → Meets (signed F s (bounded_held q F d n u)) c → ⊥
-no_word q F d s u c count least some most el e e' so so' ee ee' seeks seeks' out out' n digits met =
+no_word q F d s u c count least some most el e e' ee ee' seeks seeks' n digits met =
     ⊎_elim
-    (λ k. false≢true (sym out ∙ ((quotient_fields q F d s u c count least e so ee seeks n digits k).0 met).0))
-    (λ k. false≢true (sym out' ∙ ((quotient_fields q F d s u c count (least + 1) e' so' ee' seeks' n digits k).0 met).0))
+    (λ k. quotient_never q F d s u count least e ee c seeks n digits k met)
+    (λ k. quotient_never q F d s u count (least + 1) e' ee' c seeks' n digits k met)
     (quotients q F.f d u least n count some most digits el)
 
 -- the two quotients

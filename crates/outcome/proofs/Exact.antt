@@ -69,18 +69,18 @@ exact_alike f d e u A (suc n) some most zeros = λ x made digits.
 
 -- a question on the part that is kept, put in a direction that keeps the same, of numbers with a property that tells their digits
 module _ (f : ℕ) (d e : Direction) (u : exponent.Unit) (A : pair.Aligned) (N : ℕ) (alike : KeepAlike f d e u A N) where
-  abbrev Keeps : (ℕ → Type 0) → Direction → ℕ → Bool → Mask → ℕ → Type 0
-  Keeps P way h possible fraction n =
-      P n × (kept_of A.below f way n u / 2 ^ f ≡ h) × (possible ≡ true) × Meets (kept_of A.below f way n u % 2 ^ f) fraction
+  abbrev Keeps : (ℕ → Type 0) → Direction → ℕ → Mask → ℕ → Type 0
+  Keeps P way h fraction n =
+      P n × (kept_of A.below f way n u / 2 ^ f ≡ h) × Meets (kept_of A.below f way n u % 2 ^ f) fraction
 
-  pub alike_asked : (P : ℕ → Type 0) → ((n : ℕ) → P n → size n ≡ N) → (h : ℕ) (possible : Bool) (fraction : Mask) (r : Bool)
-      → ((r ≡ true) ↔ Making f A (Keeps P d h possible fraction)) → (r ≡ true) ↔ Making f A (Keeps P e h possible fraction)
-  alike_asked P digits h possible fraction r asks =
-      making_answer f A (Keeps P d h possible fraction) (Keeps P e h possible fraction) r
+  pub alike_asked : (P : ℕ → Type 0) → ((n : ℕ) → P n → size n ≡ N) → (h : ℕ) (fraction : Mask) (r : Bool)
+      → ((r ≡ true) ↔ Making f A (Keeps P d h fraction)) → (r ≡ true) ↔ Making f A (Keeps P e h fraction)
+  alike_asked P digits h fraction r asks =
+      making_answer f A (Keeps P d h fraction) (Keeps P e h fraction) r
       (λ n made.
       let same : P n → kept_of A.below f d n u ≡ kept_of A.below f e n u = λ met. alike n made (digits n met) in (
-        (λ p. (p.0, rw (same p.0) at p.1, p.2, rw (same p.0) at p.3)),
-        λ p. (p.0, rw (same p.0) p.1, p.2, rw (same p.0) p.3),
+        (λ p. (p.0, rw (same p.0) at p.1, rw (same p.0) at p.2)),
+        λ p. (p.0, rw (same p.0) p.1, rw (same p.0) p.2),
       ))
       asks
 

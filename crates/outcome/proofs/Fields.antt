@@ -3,7 +3,7 @@
 -- Assumes nothing.
 use mathlib.Core.Logic.{◌↔◌}
 use mathlib.Core.Path.{◌≡◌, sym, ap, ◌∙◌}
-use mathlib.Core.Bool.{Bool, cond}
+use mathlib.Core.Bool.{Bool, true, false, cond, false≢true}
 use Prim.Native.Nat.{ℕ, ◌+◌, ◌*◌, ◌/◌, ◌%◌, ◌^◌, ◌≤◌, ◌<◌}
 use native.Mathlib.Nat.{mul_assoc, add-mul, mod-lt, div-lt_iff_lt-mul, mul-add-div_right}
 use native.Mathlib.Decide.{dec_lt}
@@ -13,6 +13,7 @@ use lib.Bits.{and_zero_r}
 use lib.Dec.{ltb}
 use lib.Ieee.{size}
 use lib.Pow.{pow_pos, pow-add, split, high, low}
+use Rattle.std.specs.Bool.{then_some}
 use Rattle.format.specs.declared.Format.{Format}
 use Rattle.mask.specs.declared.Mask.{Mask}
 use Rattle.mask.specs.Mask as mask
@@ -92,29 +93,28 @@ module _ (F : Format) (d : Direction) (s : ℕ) (e : Biased) (t : ℕ) (c : Mask
   past_word h = rw (le-ltb e.0 (all_ones F) h)
 
 -- what is sought of the fraction
-module _ (F : Format) (d : Direction) (s : ℕ) (e : Biased) (c : Mask) (possible : Bool) (fraction : Mask) where
-  pub within_seeks : e.0 < all_ones F → possible ≡ mask.meets (s * 2 ^ F.w + e.0) (mask.high F.f c) → fraction ≡ mask.low F.f c
-      → Seeks F d s c e (record { possible = possible; fraction = fraction })
-  within_seeks h p q = record {
+module _ (F : Format) (d : Direction) (s : ℕ) (e : Biased) (c : Mask) where
+  pub within_seeks : e.0 < all_ones F → (met : Bool) (fraction : Mask) → met ≡ mask.meets (s * 2 ^ F.w + e.0) (mask.high F.f c) → fraction ≡ mask.low F.f c
+      → Seeks F d s c e (then_some met fraction)
+  within_seeks h true fraction p q = record {
     care_lt = rw q (mod-lt c.care (pow_pos F.f));
     value_lt = rw q (mod-lt c.value (pow_pos F.f));
     meets = λ t l.
-        let w = within_meets F d s e t c h l in
-        let k = meets_true (s * 2 ^ F.w + e.0) (mask.high F.f c) in (
-          (λ met. let r = w.0 met in (p ∙ k.1 r.0, rw q r.1)),
-          λ r. w.1 (k.0 (sym p ∙ r.0), rw q at r.1),
+        let w = within_meets F d s e t c h l in (
+          (λ m. rw q (w.0 m).1),
+          λ m. w.1 ((meets_true (s * 2 ^ F.w + e.0) (mask.high F.f c)).0 (sym p), rw q at m),
         );
   }
+  within_seeks h false fraction p q = λ t l m.
+      false≢true (p ∙ (meets_true (s * 2 ^ F.w + e.0) (mask.high F.f c)).1 ((within_meets F d s e t c h l).0 m).0)
 
-  pub past_seeks : all_ones F ≤ e.0 → possible ≡ mask.meets (signed F s (overflow_word F d)) c → fraction ≡ free_mask
-      → Seeks F d s c e (record { possible = possible; fraction = fraction })
-  past_seeks h p q = record {
-    care_lt = rw q (pow_pos F.f);
-    value_lt = rw q (pow_pos F.f);
-    meets = λ t l.
-        let w = past_word F d s e t c h in
-        let k = meets_true (signed F s (overflow_word F d)) c in (
-          (λ met. (p ∙ k.1 (rw w at met), rw q (and_zero_r t))),
-          λ r. rw w (k.0 (sym p ∙ r.0)),
-        );
+  pub past_seeks : all_ones F ≤ e.0 → (met : Bool) → met ≡ mask.meets (signed F s (overflow_word F d)) c → Seeks F d s c e (then_some met free_mask)
+  past_seeks h true p = record {
+    care_lt = pow_pos F.f;
+    value_lt = pow_pos F.f;
+    meets = λ t l. (
+      (λ m. and_zero_r t),
+      λ m. rw (past_word F d s e t c h) ((meets_true (signed F s (overflow_word F d)) c).0 (sym p)),
+    );
   }
+  past_seeks h false p = λ t l m. false≢true (p ∙ (meets_true (signed F s (overflow_word F d)) c).1 (rw (past_word F d s e t c h) at m))

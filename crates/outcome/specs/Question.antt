@@ -2,7 +2,7 @@
 -- masks that fix them and the kept part, the word c by its exponent field and its fraction, and the numbers below the smallest normal one.
 -- Contracts inside this crate speak of them. Assumes nothing.
 -- Internal: no public contract cites this.
-use Rattle.std.specs.Prelude.{◌≡◌, true, cond, ◌↔◌, ℕ, ◌+◌, ◌-◌, ◌*◌, ◌/◌, ◌^◌, ◌≤◌, ◌<◌, ltb}
+use Rattle.std.specs.Prelude.{◌≡◌, Option, None, Some, cond, ◌↔◌, ℕ, ◌+◌, ◌-◌, ◌*◌, ◌/◌, ◌^◌, ◌≤◌, ◌<◌, ltb}
 use Rattle.std.specs.Float.Ieee.{size}
 use Rattle.format.specs.declared.Format.{Format}
 use Rattle.mask.specs.declared.Mask.{Mask}
@@ -20,7 +20,6 @@ use Rattle.rounding.specs.Outcome.{kept_of}
 use Rattle.making.specs.declared.Aligned as pair
 use Rattle.making.specs.Making.{Made, Making}
 use Rattle.outcome.specs.declared.Target.{Target}
-use Rattle.outcome.specs.declared.sought.Fractions as fractions-of
 use Rattle.outcome.specs.declared.subnormal.Known as reply
 use Rattle.outcome.specs.declared.subnormal.Known.TheVariants.{Found, AtLeast}
 use Rattle.outcome.specs.Outcome.{DropsAs, Serves, Admits}
@@ -61,11 +60,16 @@ UnderPower n k m = (x : ℕ) → x < 2 ^ n → Meets x m ↔ (x < 2 ^ k)
 abbrev pub word_or_overflow : Format → way.Direction → ℕ → Biased → ℕ → ℕ
 word_or_overflow F d s e t = signed F s (cond (ltb e.0 (all_ones F)) (e.0 * 2 ^ F.f + t) (overflow_word F d))
 
+-- the fractions that meet m are those that make a word that meets the mask c, with the exponent field e
+pub record SoughtBy (F : Format) (d : way.Direction) (s : ℕ) (c : Mask) (e : Biased) (m : Mask) : Type 0 where
+  pub care_lt : m.care < 2 ^ F.f
+  pub value_lt : m.value < 2 ^ F.f
+  pub meets : (t : ℕ) → t < 2 ^ F.f → Meets (word_or_overflow F d s e t) c ↔ Meets t m
+
 -- r tells which fractions make a word that meets the mask c, with the exponent field e
-pub record Seeks (F : Format) (d : way.Direction) (s : ℕ) (c : Mask) (e : Biased) (r : fractions-of.Fractions) : Type 0 where
-  pub care_lt : r.fraction.care < 2 ^ F.f
-  pub value_lt : r.fraction.value < 2 ^ F.f
-  pub meets : (t : ℕ) → t < 2 ^ F.f → Meets (word_or_overflow F d s e t) c ↔ ((r.possible ≡ true) × Meets t r.fraction)
+abbrev pub Seeks : Format → way.Direction → ℕ → Mask → Biased → Option Mask → Type 0
+Seeks F d s c e None = (t : ℕ) → t < 2 ^ F.f → Meets (word_or_overflow F d s e t) c → ⊥
+Seeks F d s c e (Some m) = SoughtBy F d s c e m
 
 -- the word of the sign s and a number x below the smallest normal one, where u is the exponent of its unit: what stands below a smallest step
 -- is dropped

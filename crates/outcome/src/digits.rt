@@ -15,7 +15,7 @@ ghost use Rattle.outcome.specs.Outcome.{Serves, InFormat};
 ghost use Rattle.outcome.specs.Question.{least_quotient, NextQuotient, KeepAlike, Sized, OnlyDigits};
 
 use crate::dropped::{numbers, ways_at};
-use crate::sought::{Fractions, sought};
+use crate::sought::sought;
 use crate::{Target, masks};
 use bits::minus;
 use format::Format;
@@ -85,7 +85,8 @@ fn asked_direction(
     }
 }
 
-// Whether they make a number that meets x, which asks for so many digits, whose kept part is `quotient` and below it one of the fractions.
+// Whether they make a number that meets x, which asks for so many digits, whose kept part is `quotient` and below it a fraction
+// that meets a mask.
 fn rounds_to(
     aligned: Aligned,
     f: u64,
@@ -94,21 +95,18 @@ fn rounds_to(
     count: u64,
     x: Mask,
     quotient: u64,
-    fractions: Fractions,
+    fraction: Mask,
 ) -> bool
-    requires { Room f aligned × (unit.0 < 2 ^ 63) × (0 < count) × (count ≤ columns_of f aligned) × (quotient < 4) × (fractions.fraction.care < 2 ^ f) × (fractions.fraction.value < 2 ^ f) × (aligned.reversed ≡ true → direction ≡ TowardZero) × OnlyDigits (columns_of f aligned) count x }
-    ensures { Formed f aligned → (result ≡ true) ↔ Making f aligned (λ (n : ℕ). Meets n x × (kept_of aligned.below f direction n unit / 2 ^ f ≡ quotient) × (fractions.possible ≡ true) × Meets (kept_of aligned.below f direction n unit % 2 ^ f) fractions.fraction) }
+    requires { Room f aligned × (unit.0 < 2 ^ 63) × (0 < count) × (count ≤ columns_of f aligned) × (quotient < 4) × (fraction.care < 2 ^ f) × (fraction.value < 2 ^ f) × (aligned.reversed ≡ true → direction ≡ TowardZero) × OnlyDigits (columns_of f aligned) count x }
+    ensures { Formed f aligned → (result ≡ true) ↔ Making f aligned (λ (n : ℕ). Meets n x × (kept_of aligned.below f direction n unit / 2 ^ f ≡ quotient) × Meets (kept_of aligned.below f direction n unit % 2 ^ f) fraction) }
 {
-    if !fractions.possible {
-        return false;
-    }
     let rounded = rounded_unit(f, aligned.below, count, unit);
-    let kept = masks::topped(2, f, quotient, fractions.fraction);
+    let kept = masks::topped(2, f, quotient, fraction);
     rounds_at(aligned, f, direction, unit, rounded, x, kept)
 }
 
-// Whether they make a number of so many digits, with dropped bits of which some are fixed, whose kept part is `quotient` and below it one of
-// the fractions: for each way in which it may have these bits.
+// Whether they make a number of so many digits, with dropped bits of which some are fixed, whose kept part is `quotient` and below it a
+// fraction that meets a mask: for each way in which it may have these bits.
 fn some_way(
     format: Format,
     direction: Direction,
@@ -117,17 +115,17 @@ fn some_way(
     dropped: Dropped,
     count: u64,
     quotient: u64,
-    fractions: Fractions,
+    fraction: Mask,
 ) -> bool
-    requires { Room format.f aligned × (unit.0 < 2 ^ 63) × (0 < count) × (count ≤ columns_of format.f aligned) × (quotient < 4) × (fractions.fraction.care < 2 ^ format.f) × (fractions.fraction.value < 2 ^ format.f) × (aligned.reversed ≡ true → direction ≡ TowardZero) × (dropped.g ≤ most_dropped) }
-    ensures { Formed format.f aligned → ValidDropped dropped → (result ≡ true) ↔ Making format.f aligned (λ (n : ℕ). Sized format aligned.below unit dropped count n × (kept_of aligned.below format.f direction n unit / 2 ^ format.f ≡ quotient) × (fractions.possible ≡ true) × Meets (kept_of aligned.below format.f direction n unit % 2 ^ format.f) fractions.fraction) }
+    requires { Room format.f aligned × (unit.0 < 2 ^ 63) × (0 < count) × (count ≤ columns_of format.f aligned) × (quotient < 4) × (fraction.care < 2 ^ format.f) × (fraction.value < 2 ^ format.f) × (aligned.reversed ≡ true → direction ≡ TowardZero) × (dropped.g ≤ most_dropped) }
+    ensures { Formed format.f aligned → ValidDropped dropped → (result ≡ true) ↔ Making format.f aligned (λ (n : ℕ). Sized format aligned.below unit dropped count n × (kept_of aligned.below format.f direction n unit / 2 ^ format.f ≡ quotient) × Meets (kept_of aligned.below format.f direction n unit % 2 ^ format.f) fraction) }
 {
     let last = columns(aligned.like, aligned.below, format.f);
     let ways = ways_at(aligned.below, format.f, unit, dropped, count);
     for way in 0..ways {
         let x = numbers(last, format.f, dropped, count, way);
         if rounds_to(
-            aligned, format.f, direction, unit, count, x, quotient, fractions,
+            aligned, format.f, direction, unit, count, x, quotient, fraction,
         ) {
             return true;
         }
@@ -135,8 +133,8 @@ fn some_way(
     false
 }
 
-// Whether they make a number of so many digits, with dropped bits as they are wanted, whose kept part is `quotient` and below it one of the
-// fractions.
+// Whether they make a number of so many digits, with dropped bits as they are wanted, whose kept part is `quotient` and below it a fraction
+// that meets a mask.
 fn rounds_as(
     format: Format,
     direction: Direction,
@@ -145,20 +143,20 @@ fn rounds_as(
     dropped: Dropped,
     count: u64,
     quotient: u64,
-    fractions: Fractions,
+    fraction: Mask,
 ) -> bool
-    requires { Room format.f aligned × (unit.0 < 2 ^ 63) × (0 < count) × (count ≤ columns_of format.f aligned) × (quotient < 4) × (fractions.fraction.care < 2 ^ format.f) × (fractions.fraction.value < 2 ^ format.f) × (aligned.reversed ≡ true → direction ≡ TowardZero) × (dropped.g ≤ most_dropped) }
-    ensures { Formed format.f aligned → ValidDropped dropped → (result ≡ true) ↔ Making format.f aligned (λ (n : ℕ). Sized format aligned.below unit dropped count n × (kept_of aligned.below format.f direction n unit / 2 ^ format.f ≡ quotient) × (fractions.possible ≡ true) × Meets (kept_of aligned.below format.f direction n unit % 2 ^ format.f) fractions.fraction) }
+    requires { Room format.f aligned × (unit.0 < 2 ^ 63) × (0 < count) × (count ≤ columns_of format.f aligned) × (quotient < 4) × (fraction.care < 2 ^ format.f) × (fraction.value < 2 ^ format.f) × (aligned.reversed ≡ true → direction ≡ TowardZero) × (dropped.g ≤ most_dropped) }
+    ensures { Formed format.f aligned → ValidDropped dropped → (result ≡ true) ↔ Making format.f aligned (λ (n : ℕ). Sized format aligned.below unit dropped count n × (kept_of aligned.below format.f direction n unit / 2 ^ format.f ≡ quotient) × Meets (kept_of aligned.below format.f direction n unit % 2 ^ format.f) fraction) }
 {
     let fixed = dropped.mask.care;
     if fixed != 0 {
         return some_way(
-            format, direction, unit, aligned, dropped, count, quotient, fractions,
+            format, direction, unit, aligned, dropped, count, quotient, fraction,
         );
     }
     let x = masks::digits(columns(aligned.like, aligned.below, format.f), count);
     rounds_to(
-        aligned, format.f, direction, unit, count, x, quotient, fractions,
+        aligned, format.f, direction, unit, count, x, quotient, fraction,
     )
 }
 
@@ -179,17 +177,19 @@ fn at_quotient(
     ensures { Formed format.f aligned → ValidDropped target.dropped → (result ≡ true) ↔ Making format.f aligned (λ (n : ℕ). Sized format aligned.below unit target.dropped count n × (kept_of aligned.below format.f direction n unit / 2 ^ format.f ≡ quotient) × Meets (signed format sign (bounded_held aligned.below format direction n unit)) target.c) }
 {
     let exponent = field_of(rounded_unit(format.f, aligned.below, count, unit), quotient);
-    let fractions = sought(format, direction, sign, target.c, exponent);
-    rounds_as(
-        format,
-        asked,
-        unit,
-        aligned,
-        target.dropped,
-        count,
-        quotient,
-        fractions,
-    )
+    match sought(format, direction, sign, target.c, exponent) {
+        None => false,
+        Some(fraction) => rounds_as(
+            format,
+            asked,
+            unit,
+            aligned,
+            target.dropped,
+            count,
+            quotient,
+            fraction,
+        ),
+    }
 }
 
 // Whether rounding may carry into the next quotient. It never does toward zero, nor in the longest sum or difference: that is at most the
@@ -283,11 +283,11 @@ fn word_left(
     let least = least_quotient(format.f, below, unit, count);
     let rounded = rounded_unit(format.f, below, count, unit);
     let first = sought(format, direction, sign, c, field_of(rounded, least));
-    if first.possible {
+    if first.is_some() {
         return true;
     }
     let next = sought(format, direction, sign, c, field_of(rounded, least + 1));
-    next.possible
+    next.is_some()
 }
 
 // Whether they make a number of so many digits that serves.

@@ -10,35 +10,23 @@ use rounding::round::overflow_word;
 use word::Biased;
 use word::pack::signed;
 
-// Fractions by a mask; none where they are not possible.
-#[derive(Clone, Copy)]
-pub struct Fractions {
-    pub possible: bool,
-    pub fraction: Mask,
-}
-
-// Which fractions make a word that meets c, with this exponent field; past the largest finite number the fraction is not asked.
+// Which fractions make a word that meets c, with this exponent field: those that meet a mask, or none. Past the largest finite number the
+// fraction is not asked.
 pub(crate) fn sought(
     format: Format,
     direction: Direction,
     sign: u64,
     c: Mask,
     exponent: Biased,
-) -> Fractions
+) -> Option<Mask>
     requires { Supported format × (sign < 2) }
     ensures { Seeks format direction sign c exponent result }
 {
     if exponent.0 < (1 << format.w) - 1 {
         let above = mask::high(c, format.f);
-        let fraction = mask::low(c, format.f);
-        return Fractions {
-            possible: mask::meets(above, (sign << format.w) + exponent.0),
-            fraction,
-        };
+        let met = mask::meets(above, (sign << format.w) + exponent.0);
+        return met.then_some(mask::low(c, format.f));
     }
-    let fraction = Mask { care: 0, value: 0 };
-    Fractions {
-        possible: mask::meets(c, signed(format, sign, overflow_word(format, direction))),
-        fraction,
-    }
+    let met = mask::meets(c, signed(format, sign, overflow_word(format, direction)));
+    met.then_some(Mask { care: 0, value: 0 })
 }

@@ -32,10 +32,9 @@ fn subnormal(format: Format, sign: u64, unit: Unit, aligned: Aligned, c: Mask, s
     ensures { Formed format.f aligned → (result ≡ true) ↔ Making format.f aligned (λ (x : ℕ). (x < 2 ^ small) × Meets (subnormal_word aligned.below format sign unit x) c) }
 {
     let f = format.f;
-    let fractions = sought(format, Direction::TowardZero, sign, c, Biased(0));
-    if !fractions.possible {
+    let Some(fraction) = sought(format, Direction::TowardZero, sign, c, Biased(0)) else {
         return false;
-    }
+    };
     let x = masks::under_power(columns(aligned.like, aligned.below, f), small);
     rounds_at(
         aligned,
@@ -44,7 +43,7 @@ fn subnormal(format: Format, sign: u64, unit: Unit, aligned: Aligned, c: Mask, s
         unit,
         Unit(0),
         x,
-        fractions.fraction,
+        fraction,
     )
 }
 

@@ -1,6 +1,5 @@
 -- `outcome::digits::rounds_as` meets its contract: where no dropped bit is fixed, the mask of the digits is all that is asked. Assumes nothing.
 use mathlib.Core.Path.{◌≡◌, subst}
-use mathlib.Core.Bool.{true}
 use mathlib.Core.Logic.{inl}
 use Prim.Native.Nat.{ℕ, ◌/◌, ◌%◌, ◌^◌}
 use Rattle.mask.specs.Mask.{Meets}
@@ -37,12 +36,12 @@ returns c =
     let of : OfDigits (columns_of a.format.f a.aligned) a.count x.result = subst (λ (k : ℕ). OfDigits k a.count x.result) (n.ensures c.requires.0) x.ensures in
     let free = c.if-fixed-ne0.false in
     λ formed valid. making_answer a.format.f a.aligned
-    (λ (n : ℕ). Meets n x.result × (kept_of a.aligned.below a.format.f a.direction n a.unit / 2 ^ a.format.f ≡ a.quotient) × (a.fractions.possible ≡ true) × Meets (kept_of a.aligned.below a.format.f a.direction n a.unit % 2 ^ a.format.f) a.fractions.fraction)
-    (λ (n : ℕ). Sized a.format a.aligned.below a.unit a.dropped a.count n × (kept_of a.aligned.below a.format.f a.direction n a.unit / 2 ^ a.format.f ≡ a.quotient) × (a.fractions.possible ≡ true) × Meets (kept_of a.aligned.below a.format.f a.direction n a.unit % 2 ^ a.format.f) a.fractions.fraction)
+    (λ (n : ℕ). Meets n x.result × (kept_of a.aligned.below a.format.f a.direction n a.unit / 2 ^ a.format.f ≡ a.quotient) × Meets (kept_of a.aligned.below a.format.f a.direction n a.unit % 2 ^ a.format.f) a.fraction)
+    (λ (n : ℕ). Sized a.format a.aligned.below a.unit a.dropped a.count n × (kept_of a.aligned.below a.format.f a.direction n a.unit / 2 ^ a.format.f ≡ a.quotient) × Meets (kept_of a.aligned.below a.format.f a.direction n a.unit % 2 ^ a.format.f) a.fraction)
     c.rounds_to.result
     (λ n made.
     let g = of n (made_lt a.format.f a.aligned n made) in (
-      (λ p. ((g.0 p.0, inl free), p.1, p.2, p.3)),
-      λ p. (g.1 p.0.0, p.1, p.2, p.3),
+      (λ p. ((g.0 p.0, inl free), p.1, p.2)),
+      λ p. (g.1 p.0.0, p.1, p.2),
     ))
     (c.rounds_to.ensures formed)

@@ -1,10 +1,8 @@
 -- `outcome::digits::rounds_to` meets its contract: the kept part of a number of so many digits is asked, by one mask for the quotient and the
 -- fraction. Assumes nothing.
-use mathlib.Core.Path.{◌≡◌, sym, ap, ◌∙◌, subst}
-use mathlib.Core.Bool.{false≢true}
+use mathlib.Core.Path.{◌≡◌, sym, ap, subst}
 use Prim.Native.Nat.{ℕ, ◌+◌, ◌-◌, ◌*◌, ◌^◌, ◌≤◌, ◌<◌}
 use native.Mathlib.Omega.{arith}
-use borrow.Author.Tests.{not-true, not-false}
 use lib.Arith.{digits_lt}
 use lib.Pow.{pow-add}
 use Rattle.mask.specs.declared.Mask.{Mask}
@@ -30,11 +28,6 @@ module _ (f h : ℕ) (fraction : Mask) where
 place : (q f count u k columns : ℕ) → k ≡ count + u - aligned_bits q f → count ≤ columns → aligned_bits q f ≤ columns → k + q - u + f + 1 ≤ columns
 place q f count u k columns e most wide = omega arith
 
-pub returns-then-not-fractions : goal.returns-then-not-fractions
-returns-then-not-fractions c =
-    let a = c.args in
-    λ formed. ((λ t. absurd (false≢true t)), λ p. absurd (false≢true (sym (not-true a.fractions.possible c.if-not-fractions.true) ∙ p.holds.2)))
-
 pub rounded_unit-rounded-requires : goal.rounded_unit-rounded-requires
 rounded_unit-rounded-requires c =
     let a = c.args in
@@ -50,10 +43,10 @@ returns c =
     let k = c.rounded_unit-rounded in
     let m = c.topped-kept in
     let b = most_digits_bounds a.aligned.below a.f a.aligned.like in
-    let shorter = short a.f a.quotient a.fractions.fraction m.result c.requires.4 c.requires.5 c.requires.6 m.ensures in
-    λ formed. counted_asked a.f a.direction a.unit a.quotient a.fractions.fraction c.requires.5 c.requires.6
-    a.aligned a.count a.x c.requires.8 a.fractions.possible k.result m.result c.rounds_at.result c.requires.2
-    (omega (arith, c.requires.3, b.1)) (not-false a.fractions.possible c.if-not-fractions.false) k.ensures m.ensures
+    let shorter = short a.f a.quotient a.fraction m.result c.requires.4 c.requires.5 c.requires.6 m.ensures in
+    λ formed. counted_asked a.f a.direction a.unit a.quotient a.fraction c.requires.5 c.requires.6
+    a.aligned a.count a.x c.requires.8 k.result m.result c.rounds_at.result c.requires.2
+    (omega (arith, c.requires.3, b.1)) k.ensures m.ensures
     (c.rounds_at.ensures formed (record {
       columns = place a.aligned.below a.f a.count a.unit.0 k.result.0 (columns_of a.f a.aligned) (ap (λ (n : exponent.Unit). n.0) k.ensures) c.requires.3 b.0;
       care_lt = shorter.0;

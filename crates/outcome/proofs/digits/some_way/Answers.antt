@@ -69,9 +69,9 @@ returns-then-rounds_to c =
       (λ z.
           let of : OfWay (columns_of a.format.f a.aligned) a.count a.dropped (a.count - (a.format.f + 1)) t x.result = subst (λ (k : ℕ). OfWay k a.count a.dropped (a.count - (a.format.f + 1)) t x.result) (n.ensures c.requires.0) (x.ensures.exact valid) in
           let m = (c.rounds_to.ensures formed).0 c.if-rounds_to.true in
-          let p = (by_mask a.format a.unit a.aligned a.dropped valid a.count c.requires.2 (Keeps a.format a.direction a.unit a.aligned a.quotient a.fractions) t x.result of m.x m.made).1 (m.holds.0, (m.holds.1, m.holds.2, m.holds.3)) in
-          let q = in_one_sized a.format a.aligned.below a.unit a.dropped valid a.count c.requires.2 (Keeps a.format a.direction a.unit a.aligned a.quotient a.fractions) t m.x (rw (← c.ways_at-ways.ensures) c.loop-way-test.true) p in
-          record { x = m.x; made = m.made; holds = (q.0, q.1.0, q.1.1, q.1.2) }),
+          let p = (by_mask a.format a.unit a.aligned a.dropped valid a.count c.requires.2 (Keeps a.format a.direction a.unit a.aligned a.quotient a.fraction) t x.result of m.x m.made).1 (m.holds.0, (m.holds.1, m.holds.2)) in
+          let q = in_one_sized a.format a.aligned.below a.unit a.dropped valid a.count c.requires.2 (Keeps a.format a.direction a.unit a.aligned a.quotient a.fraction) t m.x (rw (← c.ways_at-ways.ensures) c.loop-way-test.true) p in
+          record { x = m.x; made = m.made; holds = (q.0, q.1.0, q.1.1) }),
       λ m. refl,
     )
 
@@ -84,9 +84,9 @@ loop-way-preserved c =
     λ t h formed valid some m. more t w h (λ below. c.loop-way.invariant t below formed valid some m)
     (λ e.
     let of : OfWay (columns_of a.format.f a.aligned) a.count a.dropped (a.count - (a.format.f + 1)) w x.result = subst (λ (k : ℕ). OfWay k a.count a.dropped (a.count - (a.format.f + 1)) w x.result) (n.ensures c.requires.0) (x.ensures.exact valid) in
-    let o = subst (λ (k : ℕ). InOne a.format a.aligned.below a.unit a.dropped valid a.count some (Keeps a.format a.direction a.unit a.aligned a.quotient a.fractions) k m.x) e m.holds in
-    let p = (by_mask a.format a.unit a.aligned a.dropped valid a.count some (Keeps a.format a.direction a.unit a.aligned a.quotient a.fractions) w x.result of m.x m.made).0 o in
-    false≢true (sym c.if-rounds_to.false ∙ (c.rounds_to.ensures formed).1 (record { x = m.x; made = m.made; holds = (p.0, p.1.0, p.1.1, p.1.2) })))
+    let o = subst (λ (k : ℕ). InOne a.format a.aligned.below a.unit a.dropped valid a.count some (Keeps a.format a.direction a.unit a.aligned a.quotient a.fraction) k m.x) e m.holds in
+    let p = (by_mask a.format a.unit a.aligned a.dropped valid a.count some (Keeps a.format a.direction a.unit a.aligned a.quotient a.fraction) w x.result of m.x m.made).0 o in
+    false≢true (sym c.if-rounds_to.false ∙ (c.rounds_to.ensures formed).1 (record { x = m.x; made = m.made; holds = (p.0, p.1.0, p.1.1) })))
 
 pub returns : goal.returns
 returns c =
@@ -94,6 +94,6 @@ returns c =
     λ formed valid. (
       (λ t. absurd (false≢true t)),
       λ m.
-          let w = sized_in_one a.format a.aligned.below a.unit a.dropped valid a.count c.requires.2 (Keeps a.format a.direction a.unit a.aligned a.quotient a.fractions) m.x m.holds.0 (m.holds.1, m.holds.2, m.holds.3) in
+          let w = sized_in_one a.format a.aligned.below a.unit a.dropped valid a.count c.requires.2 (Keeps a.format a.direction a.unit a.aligned a.quotient a.fraction) m.x m.holds.0 (m.holds.1, m.holds.2) in
           absurd (c.loop-way.invariant w.0 (omega (arith, w.1, c.ways_at-ways.ensures, c.loop-way-test.false)) formed valid c.requires.2 (record { x = m.x; made = m.made; holds = w.2 })),
     )

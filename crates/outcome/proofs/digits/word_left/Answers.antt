@@ -1,10 +1,11 @@
 -- `outcome::digits::word_left` meets its contract: a number of so many digits has one of the two quotients that are asked. Assumes nothing.
+use mathlib.Core.Path.{sym, ◌∙◌}
 use mathlib.Core.Bool.{true≢false}
 use Prim.Native.Nat.{◌+◌}
 use native.Mathlib.Omega.{arith}
 use Rattle.outcome.proofs.Room.{unit_short, field_formed}
 use Rattle.outcome.proofs.Kept.{least_le}
-use Rattle.outcome.proofs.Counted.{no_word}
+use Rattle.outcome.proofs.Counted.{no_word, sought_none}
 use Rattle.outcome.proofs.digits.word_left.Goals as goal
 
 pub returns-then-above-eq0 : goal.returns-then-above-eq0
@@ -23,8 +24,8 @@ rounded_unit-rounded-requires c =
 pub sought-first-requires : goal.sought-first-requires
 sought-first-requires c = (c.requires.0.supported, c.requires.0.sign_lt)
 
-pub returns-then-first : goal.returns-then-first
-returns-then-first c = λ f. absurd (true≢false f)
+pub returns-then-is_some : goal.returns-then-is_some
+returns-then-is_some c = λ f. absurd (true≢false f)
 
 pub overflow_add-least : goal.overflow_add-least
 overflow_add-least c =
@@ -45,7 +46,8 @@ returns c =
     let so2 = c.sought-next in
     let le = least_le a.below a.format.f a.count a.unit in
     λ none. no_word a.below a.format a.direction a.sign a.unit a.c a.count least.result c.requires.2 c.requires.3 least.ensures
-    e.result e2.result so.result so2.result
+    e.result e2.result
     (field_formed a.format a.sign a.unit c.requires.0 a.below a.count least.result c.requires.4 (omega (arith, least.ensures, le)) k.result e.result k.ensures e.ensures)
     (field_formed a.format a.sign a.unit c.requires.0 a.below a.count (least.result + 1) c.requires.4 (omega (arith, least.ensures, le)) k.result e2.result k.ensures e2.ensures)
-    so.ensures so2.ensures c.if-first.false none
+    (sought_none a.format a.direction a.sign a.c e.result so.result (sym c.is_some.ensures ∙ c.if-is_some.false) so.ensures)
+    (sought_none a.format a.direction a.sign a.c e2.result so2.result (sym c.is_some-2.ensures ∙ none) so2.ensures)

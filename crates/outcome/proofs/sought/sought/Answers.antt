@@ -1,6 +1,6 @@
 -- `outcome::sought::sought` meets its contract: within the format what stands above the fraction is tested and the fraction is left
 -- open, past it the one word is tested. Assumes nothing.
-use mathlib.Core.Path.{◌≡◌, refl, ap, ap₂, ◌∙◌}
+use mathlib.Core.Path.{◌≡◌, ap, ap₂, ◌∙◌}
 use Prim.Native.Nat.{ℕ, ◌+◌, ◌-◌, ◌*◌, ◌%◌, ◌^◌, ◌≤◌, ◌<◌}
 use native.Mathlib.Nat.{mul-le-mul_right, one-mul, lt_of_le_of_lt}
 use native.Mathlib.Omega.{arith}
@@ -51,10 +51,10 @@ pub returns-then-exponent-format : goal.returns-then-exponent-format
 returns-then-exponent-format c =
     let a = c.args in
     let F = a.format in
-    within_seeks F a.direction a.sign a.exponent a.c c.meets.result c.low-fraction.result
-    (within F c.requires.0 a.exponent.0 c.if-exponent-format.true)
-    (c.meets.ensures ∙ ap₂ meets (ap (λ (n : ℕ). n + a.exponent.0) (placed F c.requires.0 a.sign c.requires.1)) c.high-above.ensures)
-    c.low-fraction.ensures
+    rw c.then_some.ensures
+    (within_seeks F a.direction a.sign a.exponent a.c (within F c.requires.0 a.exponent.0 c.if-exponent-format.true) c.meets-met.result c.low.result
+    (c.meets-met.ensures ∙ ap₂ meets (ap (λ (n : ℕ). n + a.exponent.0) (placed F c.requires.0 a.sign c.requires.1)) c.high-above.ensures)
+    c.low.ensures)
 
 -- the word past the largest finite number
 past_word : (F : Format) → Supported F → (d : Direction) (s : ℕ) → s < 2 → (m w : ℕ) → m ≡ overflow_word F d → (SignedFits F s m → w ≡ signed F s m) → w ≡ signed F s (overflow_word F d)
@@ -67,8 +67,7 @@ returns c =
     let F = a.format in
     let o = c.overflow_word in
     let w = c.signed in
-    past_seeks F a.direction a.sign a.exponent a.c c.meets-2.result (record { care = 0; value = 0 })
-    (past F c.requires.0 a.exponent.0 c.if-exponent-format.false)
-    (c.meets-2.ensures
-    ∙ ap (λ (n : ℕ). meets n a.c) (past_word F c.requires.0 a.direction a.sign c.requires.1 o.result w.result (o.ensures.0 c.requires.0) w.ensures.0))
-    refl
+    rw c.then_some-2.ensures
+    (past_seeks F a.direction a.sign a.exponent a.c (past F c.requires.0 a.exponent.0 c.if-exponent-format.false) c.meets-met-2.result
+    (c.meets-met-2.ensures
+    ∙ ap (λ (n : ℕ). meets n a.c) (past_word F c.requires.0 a.direction a.sign c.requires.1 o.result w.result (o.ensures.0 c.requires.0) w.ensures.0)))

@@ -3,7 +3,6 @@ use mathlib.Core.Path.{◌≡◌, refl, ap, ◌∙◌, subst}
 use Prim.Native.Nat.{ℕ, ◌+◌, ◌-◌, ◌*◌, ◌^◌, ◌≤◌, ◌<◌}
 use native.Mathlib.Nat.{lt_of_lt_of_le}
 use native.Mathlib.Omega.{arith}
-use borrow.Author.Tests.{not-true, not-false}
 use lib.Pow.{pow-add, pow_mono}
 use Rattle.rounding.specs.Width.{aligned_bits}
 use Rattle.making.specs.Making.{columns_of}
@@ -20,15 +19,13 @@ low_room q f u small columns n place wide lt =
     let b = pow_mono {i = 0 + q - u} {j = columns - 1} (omega arith) in
     omega arith
 
-pub sought-fractions-requires : goal.sought-fractions-requires
-sought-fractions-requires c = (c.requires.0.supported, c.requires.0.sign_lt)
+pub sought-requires : goal.sought-requires
+sought-requires c = (c.requires.0.supported, c.requires.0.sign_lt)
 
-pub returns-then-not-fractions : goal.returns-then-not-fractions
-returns-then-not-fractions c =
+pub returns-in_default : goal.returns-in_default
+returns-in_default c =
     let a = c.args in
-    let so = c.sought-fractions in
-    λ formed. subnormal_refused a.aligned.below a.format c.requires.0.supported a.sign a.unit a.small c.requires.2 a.c so.result so.ensures a.aligned
-    (not-true so.result.possible c.if-not-fractions.true)
+    λ formed. subnormal_refused a.aligned.below a.format c.requires.0.supported a.sign a.unit a.small c.requires.2 a.c a.aligned c.in_default.ensures
 
 pub under_power-x-requires : goal.under_power-x-requires
 under_power-x-requires c =
@@ -38,13 +35,13 @@ under_power-x-requires c =
 pub returns : goal.returns
 returns c =
     let a = c.args in
-    let so = c.sought-fractions in
+    let so = c.in-Some in
     let b = most_digits_bounds a.aligned.below a.format.f a.aligned.like in
     let wide = pow_mono {i = a.format.f} {j = 2 + a.format.f} (omega arith) in
     let x = c.under_power-x in
     let few : UnderPower (columns_of a.format.f a.aligned) a.small x.result = subst (λ (k : ℕ). UnderPower k a.small x.result) (c.columns.ensures c.requires.1) x.ensures in
-    λ formed. subnormal_asked a.aligned.below a.format c.requires.0.supported a.sign a.unit a.small c.requires.2 a.c so.result so.ensures a.aligned
-    x.result c.rounds_at.result (not-false so.result.possible c.if-not-fractions.false) few
+    λ formed. subnormal_asked a.aligned.below a.format c.requires.0.supported a.sign a.unit a.small c.requires.2 a.c a.aligned
+    so.fraction x.result c.rounds_at.result so.ensures few
     (c.rounds_at.ensures formed (record {
       columns = omega (arith, b.0);
       care_lt = lt_of_lt_of_le so.ensures.care_lt wide;
