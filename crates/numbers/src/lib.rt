@@ -11,7 +11,7 @@ const MOST_BYTES: usize = 8;
 pub fn wide(byte: u8) -> u64
     ensures { result ≡ byte }
 {
-    byte as u64
+    u64::from(byte)
 }
 
 // The number of the k bytes from `at` on; 0 where there is none.
@@ -19,13 +19,9 @@ fn number_at(s: &[u8], at: usize, k: usize) -> u64
     requires { (k ≤ 8) × (at + k ≤ length s.now) }
     ensures { result ≡ number (take k (drop at s.now)) }
 {
-    let mut n: u64 = 0;
-    let mut i = k;
-    while 0 < i {
-        i -= 1;
-        n = n * 256 + wide(s[at + i]);
-    }
-    n
+    let mut bytes = [0; MOST_BYTES];
+    bytes[..k].copy_from_slice(&s[at..at + k]);
+    u64::from_le_bytes(bytes)
 }
 
 // The number of the k bytes from `at` on where these are bytes of s and no more than a u64 has, else 0.
@@ -49,11 +45,9 @@ fn put_number(buffer: &mut [u8], at: usize, k: usize, x: u64)
     ensures { buffer.new ≡ put buffer.old at (little_endian k x) }
 {
     let mut left = x;
-    let mut i = 0;
-    while i < k {
-        buffer[at + i] = (left % 256) as u8;
-        left = left / 256;
-        i += 1;
+    for byte in buffer[at..at + k].iter_mut() {
+        *byte = (left % 256) as u8;
+        left /= 256;
     }
 }
 

@@ -1,51 +1,24 @@
--- `numbers::put_number` meets its contract. After i turns the i low bytes of x are put, and what is left of x is its quotient.
+-- `numbers::put_number` meets its contract. After i turns the first i bytes are the low ones of x, and what is left of x is its quotient.
 -- Assumes nothing.
-use mathlib.Core.Path.{◌≡◌, sym, ap, ap₂, ◌∙◌}
-use mathlib.Core.List.{List}
-use Prim.Native.Nat.{ℕ, ◌+◌, ◌/◌, ◌%◌, ◌^◌, ◌≤◌, ◌<◌}
+use Rattle.std.proofs.Common.{◌≡◌, ℕ, ◌+◌, ◌-◌, drop, refl, sym, ◌∙◌, length, length-take-le, length-drop, add-one, arith}
 use native.Mathlib.Nat.{div-one}
-use native.Mathlib.Omega.{arith}
-use native.Mathlib.Numerals.{add-one}
-use lib.ListN.{length, set}
-use Rattle.numbers.specs.Number.{little_endian, put}
-use Rattle.numbers.proofs.Numbers.{put_none, length_put, length_number, left_suc, write_more}
+use Rattle.numbers.specs.Number.{little_endian}
+use Rattle.numbers.proofs.Numbers.{left_suc, byte_more, part_put}
 use Rattle.numbers.proofs.put_number.Goals as goal
 
-pub loop-i-init : goal.loop-i-init
+pub loop-byte-init : goal.loop-byte-init
 unfolding little_endian
-loop-i-init c =
-    let a = c.args in
-    (omega arith, sym (div-one a.x), sym (put_none a.buffer.now a.at))
+loop-byte-init c = (sym (div-one c.args.x), refl)
 
-pub bounds-buffer-at : goal.bounds-buffer-at
-bounds-buffer-at c =
-    let kept : length c.loop-i.buffer ≡ length c.args.buffer.now = let a = c.args in
-    let h : a.at + length (little_endian c.loop-i.i a.x) ≤ length a.buffer.now = rw length_number (omega (arith, c.loop-i.invariant.0)) in
-    ap length c.loop-i.invariant.2 ∙ length_put a.buffer.now a.at (little_endian c.loop-i.i a.x) h in
-    omega (arith, kept)
-
-pub loop-i-preserved : goal.loop-i-preserved
-loop-i-preserved c =
-    let l = c.loop-i in
-    let a = c.args in
-    let fits : a.at + l.i < length a.buffer.now = omega arith in (
-      omega arith,
-      ap (λ (u : ℕ). u / 256) l.invariant.1 ∙ left_suc a.x l.i ∙ ap (λ (n : ℕ). a.x / 256 ^ n) (sym (add-one l.i)),
-      ap₂ (λ (s : List ℕ) (u : ℕ). set s (a.at + l.i) (u % 256)) l.invariant.2 l.invariant.1
-          ∙ write_more a.buffer.now a.at l.i a.x fits
-          ∙ ap (λ (n : ℕ). put a.buffer.now a.at (little_endian n a.x)) (sym (add-one l.i)),
-    )
-
-pub shape_of-buffer : goal.shape_of-buffer
-shape_of-buffer c =
-    let kept : length c.loop-i.buffer ≡ length c.args.buffer.now = let a = c.args in
-    let h : a.at + length (little_endian c.loop-i.i a.x) ≤ length a.buffer.now = rw length_number (omega (arith, c.loop-i.invariant.0)) in
-    ap length c.loop-i.invariant.2 ∙ length_put a.buffer.now a.at (little_endian c.loop-i.i a.x) h in
-    kept
+pub loop-byte-preserved : goal.loop-byte-preserved
+loop-byte-preserved c =
+    let l = c.loop-byte in
+    let x : ℕ = c.args.x in
+    (rw (l.invariant.0, add-one) (left_suc x l.byte-index), byte_more l.byte-items l.byte-index x l.left (omega arith) l.invariant.0 l.invariant.1)
 
 pub returns : goal.returns
 returns c =
-    let l = c.loop-i in
     let a = c.args in
-    let done : l.i ≡ a.k = omega arith in
-    l.invariant.2 ∙ ap (λ (n : ℕ). put a.buffer.now a.at (little_endian n a.x)) done
+    let l = c.loop-byte in
+    let long : length l.byte-items ≡ a.k = l.auto.byte-items ∙ length-take-le (a.at + a.k - a.at) (drop a.at a.buffer.now) (rw length-drop (omega arith)) ∙ omega arith in
+    part_put a.buffer.now a.at a.k (a.at + a.k - a.at) a.x l.byte-items l.byte-index (omega arith) long (omega (arith, long)) l.invariant.1
