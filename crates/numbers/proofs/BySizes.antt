@@ -7,6 +7,8 @@ use native.Mathlib.Omega.{arith}
 use mathlib.Core.List.{List, [], ◌∷◌, ◌++◌, append_assoc, append-nil}
 use lib.ListN.{length, get_or, take, drop, set, length-append, length-drop}
 use lib.Seq.{length-take-le, take_all, drop-nil, take_at, drop_at, take-add, take-suc-set, drop-cons, drop-drop}
+use Rattle.std.specs.List.{sum}
+use Rattle.std.proofs.lemmas.List.Sums.{sum_by-cons}
 use Rattle.numbers.specs.Number.{Bytes, little_endian, number, put}
 use Rattle.numbers.specs.Numbers.{total, number_bytes, numbers}
 use Rattle.numbers.proofs.Numbers.{bytes_take, bytes_drop, length_number, number_bytes_lem, bytes_number, put_put}
@@ -78,6 +80,12 @@ module _ (ks : List ℕ) (i : ℕ) (h : i < length ks) where
       place_one into (numbers (drop (i + 1) ks) (drop (at + k) s)) i x g
       ∙ ap (λ (t : List ℕ). take i into ++ x ∷ numbers (drop (i + 1) ks) t) (sym (drop-drop k at s))
       ∙ ap (λ (js : List ℕ). take i into ++ numbers js (drop at s)) (sym (drop_one ks i 0 h))
+
+-- the total is std's sum
+pub total_sum : (ks : List ℕ) → sum ks ≡ total ks
+unfolding total
+total_sum [] = refl
+total_sum (k ∷ ks) = sum_by-cons (λ x. x) k ks ∙ ap (λ (n : ℕ). k + n) (total_sum ks)
 
 pub total_drop : (ks : List ℕ) (i : ℕ) → total (drop i ks) ≤ total ks
 unfolding total

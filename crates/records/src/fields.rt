@@ -10,13 +10,7 @@ pub(crate) fn total(sizes: &[usize]) -> usize
     requires { total sizes.now < 2 ^ 64 }
     ensures { result ≡ total sizes.now }
 {
-    let mut n: usize = 0;
-    let mut i = sizes.len();
-    while 0 < i {
-        i -= 1;
-        n = sizes[i] + n;
-    }
-    n
+    sizes.iter().sum()
 }
 
 // Reads numbers of these byte counts, one after the other.
@@ -25,12 +19,9 @@ pub(crate) fn read_numbers(s: &[u8], sizes: &[usize], into: &mut [u64])
     ensures { into.new ≡ numbers sizes.now s.now }
 {
     let mut at: usize = 0;
-    let mut i = 0;
-    while i < sizes.len() {
-        let k = sizes[i];
-        into[i] = number_within(s, at, k);
+    for (number, &k) in into.iter_mut().zip(sizes) {
+        *number = number_within(s, at, k);
         at += k;
-        i += 1;
     }
 }
 
@@ -40,11 +31,8 @@ pub(crate) fn put_numbers(buffer: &mut [u8], at: usize, sizes: &[usize], numbers
     ensures { buffer.new ≡ put buffer.old at (number_bytes sizes.now numbers.now) }
 {
     let mut next = at;
-    let mut i = 0;
-    while i < sizes.len() {
-        let k = sizes[i];
-        put_within(buffer, next, k, numbers[i]);
+    for (&k, &number) in sizes.iter().zip(numbers) {
+        put_within(buffer, next, k, number);
         next += k;
-        i += 1;
     }
 }
