@@ -5,13 +5,14 @@ use Prim.Native.Nat.{ℕ, zero, suc, ◌+◌, ◌^◌, ◌≤◌, ◌<◌}
 use native.Mathlib.Numerals.{add-one}
 use native.Mathlib.Omega.{arith}
 use mathlib.Core.List.{List, [], ◌∷◌, ◌++◌, append_assoc, append-nil}
+use mathlib.Core.Logic.{◌⊎◌, inl, inr}
 use lib.ListN.{length, get_or, take, drop, set, length-append, length-drop}
 use lib.Seq.{length-take-le, take_all, drop-nil, take_at, drop_at, take-add, take-suc-set, drop-cons, drop-drop}
 use Rattle.std.specs.List.{sum}
 use Rattle.std.proofs.lemmas.List.Sums.{sum_by-cons}
-use Rattle.numbers.specs.Number.{Bytes, little_endian, number, put}
+use Rattle.numbers.specs.Number.{Bytes, little_endian, number, put, put_within}
 use Rattle.numbers.specs.Numbers.{total, number_bytes, numbers}
-use Rattle.numbers.proofs.Numbers.{bytes_take, bytes_drop, length_number, number_bytes_lem, bytes_number, put_put}
+use Rattle.numbers.proofs.Numbers.{bytes_take, bytes_drop, length_number, number_bytes_lem, bytes_number, put_put, put_room}
 
 -- as many numbers as byte counts, each below 256 to its byte count
 pub data Fits : List ℕ → List ℕ → Type 0 where
@@ -87,12 +88,6 @@ unfolding total
 total_sum [] = refl
 total_sum (k ∷ ks) = sum_by-cons (λ x. x) k ks ∙ ap (λ (n : ℕ). k + n) (total_sum ks)
 
-pub total_drop : (ks : List ℕ) (i : ℕ) → total (drop i ks) ≤ total ks
-unfolding total
-total_drop ks zero = omega arith
-total_drop [] (suc i) = omega arith
-total_drop (k ∷ ks) (suc i) = omega (arith, total_drop ks i)
-
 -- the numbers' bytes are no more than their byte counts say
 bytes_le : (ks ns : List ℕ) → length (number_bytes ks ns) ≤ total ks
 unfolding number_bytes total
@@ -100,15 +95,24 @@ bytes_le [] ns = omega arith
 bytes_le (k ∷ ks) [] = omega arith
 bytes_le (k ∷ ks) (n ∷ ns) = omega (arith, bytes_le ks ns, length-append (little_endian k n) (number_bytes ks ns), length_number k n)
 
-pub put_turn : (ks ns b : List ℕ) (i at : ℕ) → i < length ks → i < length ns → at + total (drop i ks) ≤ length b
-    → put (put b at (little_endian (get_or ks i 0) (get_or ns i 0))) (at + get_or ks i 0) (number_bytes (drop (i + 1) ks) (drop (i + 1) ns))
-    ≡ put b at (number_bytes (drop i ks) (drop i ns))
+-- a turn of the loop that puts: the number's bytes find room, and those of the others go after them
+module _ (k n next : ℕ) (ks ns b : List ℕ) (room : next + total (k ∷ ks) ≤ length b) where
+  pub put_next : put_within b next (little_endian k n) ≡ put b next (little_endian k n)
+  unfolding total
+  put_next = put_room b next (little_endian k n) (rw length_number (omega (arith, room)))
+
+  pub put_turn : put (put b next (little_endian k n)) (next + k) (number_bytes ks ns) ≡ put b next (number_bytes (k ∷ ks) (n ∷ ns))
+  unfolding total number_bytes
+  put_turn =
+      let bs : List ℕ = little_endian k n in
+      let long : length bs ≡ k = length_number k n in
+      ap (λ (j : ℕ). put (put b next bs) (next + j) (number_bytes ks ns)) (sym long)
+      ∙ put_put b next bs (number_bytes ks ns) (omega (arith, bytes_le ks ns, long))
+
+-- no numbers are left, so no bytes
+pub no_bytes : (ks ns : List ℕ) → (ks ≡ []) ⊎ (ns ≡ []) → number_bytes ks ns ≡ []
 unfolding number_bytes
-put_turn ks ns b i at h g room =
-    let k : ℕ = get_or ks i 0 in
-    let bs : List ℕ = little_endian k (get_or ns i 0) in
-    let cs : List ℕ = number_bytes (drop (i + 1) ks) (drop (i + 1) ns) in
-    let long : length bs ≡ k = length_number k (get_or ns i 0) in
-    ap (λ (n : ℕ). put (put b at bs) (at + n) cs) (sym long)
-    ∙ put_put b at bs cs (omega (arith, bytes_le (drop (i + 1) ks) (drop (i + 1) ns), total_turn ks i h))
-    ∙ ap₂ (λ (js ms : List ℕ). put b at (number_bytes js ms)) (sym (drop_one ks i 0 h)) (sym (drop_one ns i 0 g))
+no_bytes [] ns h = refl
+no_bytes (k ∷ ks) [] h = refl
+no_bytes (k ∷ ks) (n ∷ ns) (inl e) = absurd (cc)
+no_bytes (k ∷ ks) (n ∷ ns) (inr e) = absurd (cc)

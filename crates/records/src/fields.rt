@@ -19,8 +19,8 @@ pub(crate) fn read_numbers(s: &[u8], sizes: &[usize], into: &mut [u64])
     ensures { into.new ≡ numbers sizes.now s.now }
 {
     let mut at: usize = 0;
-    for (number, &k) in into.iter_mut().zip(sizes) {
-        *number = number_within(s, at, k);
+    for (i, &k) in sizes.iter().enumerate() {
+        into[i] = number_within(s, at, k);
         at += k;
     }
 }

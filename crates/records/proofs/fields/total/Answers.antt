@@ -1,6 +1,5 @@
 -- `records::fields::total` meets its contract: the total of the byte counts is std's sum. Assumes nothing.
-use Rattle.std.proofs.Common.{rules, ◌≡◌, ◌<◌, ◌^◌, ◌∙◌, sum, arith}
-use Rattle.numbers.specs.Numbers.{total}
+use Rattle.std.proofs.Common.{rules, ◌≡◌, ◌<◌, ◌^◌, ◌∙◌, sum}
 use Rattle.numbers.proofs.BySizes.{total_sum}
 use Rattle.records.proofs.fields.total.Goals as goal
 
