@@ -1,27 +1,29 @@
 -- The numbers of a record and its map: bit i of the map stands exactly where field i does not say its default. So numbers fit the byte
 -- counts that their own map gives, and of numbers that were read the map is the one they were read with, unless a field says its default.
 -- Assumes nothing.
-use mathlib.Core.Path.{◌≡◌, refl, sym, ap, ap₂, ◌∙◌}
+use mathlib.Core.Path.{◌≡◌, refl, sym, ap, ◌∙◌}
 use mathlib.Core.Bool.{Bool, true, false, not, cond, ◌&&◌, ◌||◌, true≢false, and-eq-true_iff}
-use Prim.Native.Nat.{ℕ, zero, suc, ◌+◌, ◌*◌, ◌%◌, ◌^◌, ◌≤◌, ◌<◌}
+use Prim.Native.Nat.{ℕ, zero, suc, ◌*◌, ◌%◌, ◌^◌, ◌≤◌, ◌<◌}
 use native.Mathlib.Nat.{zero-mul, one-mul, zero-div, mod-lt}
 use native.Mathlib.Decide.{dec_lt}
 use native.Mathlib.Omega.{arith}
 use borrow.Author.Tests.{ltb-true, eqb-true, eqb-false, eq-eqb, ne_eqb}
-use mathlib.Core.List.{List, [], ◌∷◌, ◌++◌}
-use lib.ListN.{length, get_or, take, drop, set}
+use mathlib.Core.List.{List, [], ◌∷◌, ◌++◌, map}
+use mathlib.Core.Logic.{◌⊎◌, inl, inr}
+use lib.ListN.{length, get_or, take, drop}
 use lib.Dec.{eqb, ltb}
-use lib.Bits.{bit_or, or_zero_r, or_lt}
+use lib.Bits.{bit_or, or_zero_r, or_comm, or_lt}
 use lib.Pow.{pow-lt, pow_pos}
 use Rattle.bits.specs.Bit.{bit}
 use Rattle.bits.proofs.Laws.{bit_lt, bit_mod, by_bits, bit_pow_same, bit_pow_other}
 use Rattle.bits.proofs.Logic.{bit_of_or}
 use Rattle.mask.proofs.Bitwise.{of_bit, bit_case}
+use Rattle.mask.proofs.Joining.{or_assoc}
 use Rattle.numbers.specs.Number.{number}
 use Rattle.numbers.specs.Numbers.{total, numbers}
 use Rattle.layout.specs.Layout.{sizes, map_of, is_default, says_default}
 use Rattle.layout.specs.declared.Slot.{Slot}
-use Rattle.numbers.proofs.BySizes.{Fits, none, more, drop_one, place_one}
+use Rattle.numbers.proofs.BySizes.{Fits, none, more}
 
 -- ---- the columns of a layout
 abbrev pub counts : List Slot → List ℕ
@@ -37,7 +39,7 @@ abbrev pub all_below : ℕ → List ℕ → Bool
 all_below n [] = true
 all_below n (x ∷ xs) = ltb x n && all_below n xs
 
-below_cons : (n x : ℕ) (xs : List ℕ) → all_below n (x ∷ xs) ≡ true → (x < n) × (all_below n xs ≡ true)
+pub below_cons : (n x : ℕ) (xs : List ℕ) → all_below n (x ∷ xs) ≡ true → (x < n) × (all_below n xs ≡ true)
 below_cons n x xs t = let both = (and-eq-true_iff (ltb x n) (all_below n xs)).0 t in (ltb-true x n both.0, both.1)
 
 pub field_below : (c : ℕ) (ps : List Slot) (d : Slot) → all_below c (map_bits ps) ≡ true → d.bit < c → (i : ℕ) → (get_or ps i d).bit < c
@@ -61,26 +63,29 @@ sizes_most (p ∷ ps) m =
     (λ e. rw (e, zero-mul p.size) (omega (arith, sizes_most ps m)))
     (λ e. rw (e, one-mul p.size) (omega (arith, sizes_most ps m)))
 
--- ---- turns of the loops over a layout
-module _ (ps : List Slot) (i : ℕ) (d : Slot) (h : i < length ps) where
-  pub sizes_turn : (m : ℕ) (l : List ℕ) → i < length l
-      → take (i + 1) (set l i (bit m (get_or ps i d).bit * (get_or ps i d).size)) ++ sizes (drop (i + 1) ps) m ≡ take i l ++ sizes (drop i ps) m
-  unfolding sizes
-  sizes_turn m l g =
-      place_one l (sizes (drop (i + 1) ps) m) i (bit m (get_or ps i d).bit * (get_or ps i d).size) g
-      ∙ ap (λ (qs : List Slot). take i l ++ sizes qs m) (sym (drop_one ps i d h))
+-- ---- the byte counts are mapped from the layout
+pub sizes_map : (ps : List Slot) (m : ℕ) → sizes ps m ≡ map (λ p. bit m p.bit * p.size) ps
+unfolding sizes
+sizes_map [] m = refl
+sizes_map (p ∷ ps) m = ap (λ (ks : List ℕ). bit m p.bit * p.size ∷ ks) (sizes_map ps m)
 
-  module _ (ns : List ℕ) (g : i < length ns) where
-    map_turn : map_of (drop i ps) (drop i ns)
-        ≡ cond (eqb (get_or ns i 0) 0) (map_of (drop (i + 1) ps) (drop (i + 1) ns)) (bit_or (map_of (drop (i + 1) ps) (drop (i + 1) ns)) (2 ^ (get_or ps i d).bit))
-    unfolding map_of
-    map_turn = ap₂ map_of (drop_one ps i d h) (drop_one ns i 0 g)
+-- ---- turns of the loop over the fields: m is the map of the numbers passed
+module _ (m : ℕ) (p : Slot) (n : ℕ) (ps : List Slot) (ns : List ℕ) where
+  pub map_same : n ≡ 0 → bit_or m (map_of ps ns) ≡ bit_or m (map_of (p ∷ ps) (n ∷ ns))
+  unfolding map_of
+  map_same e = rw (eq-eqb n 0 e) refl
 
-    pub map_same : get_or ns i 0 ≡ 0 → map_of (drop (i + 1) ps) (drop (i + 1) ns) ≡ map_of (drop i ps) (drop i ns)
-    map_same e = sym (map_turn ∙ rw (eq-eqb (get_or ns i 0) 0 e))
+  pub map_set : (n ≡ 0 → ⊥) → bit_or (bit_or m (2 ^ p.bit)) (map_of ps ns) ≡ bit_or m (map_of (p ∷ ps) (n ∷ ns))
+  unfolding map_of
+  map_set e = rw (ne_eqb n 0 e) (or_assoc m (2 ^ p.bit) (map_of ps ns) ∙ ap (bit_or m) (or_comm (2 ^ p.bit) (map_of ps ns)))
 
-    pub map_set : (get_or ns i 0 ≡ 0 → ⊥) → bit_or (map_of (drop (i + 1) ps) (drop (i + 1) ns)) (2 ^ (get_or ps i d).bit) ≡ map_of (drop i ps) (drop i ns)
-    map_set e = sym (map_turn ∙ rw (ne_eqb (get_or ns i 0) 0 e))
+-- after the last of them nothing is left
+pub map_none : (ps : List Slot) (ns : List ℕ) → (ps ≡ []) ⊎ (ns ≡ []) → map_of ps ns ≡ 0
+unfolding map_of
+map_none [] ns h = refl
+map_none (p ∷ ps) [] h = refl
+map_none (p ∷ ps) (n ∷ ns) (inl e) = absurd (cc)
+map_none (p ∷ ps) (n ∷ ns) (inr e) = absurd (cc)
 
 -- ---- the bits of the map
 

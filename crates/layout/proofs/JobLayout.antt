@@ -5,14 +5,13 @@ use mathlib.Core.Bool.{Bool, true, false, cond}
 use Prim.Native.Nat.{ℕ, ◌≤◌, ◌<◌}
 use native.Mathlib.Omega.{arith}
 use lib.Dec.{leb}
-use lib.ListN.{length, get_or, get_or-append}
+use lib.ListN.{length, get_or, take}
 use borrow.Author.Tests.{leb-true, leb-false}
 use Rattle.format.specs.declared.Format.{Format}
 use Rattle.format.specs.Format.{word_bits}
 use Rattle.numbers.specs.Numbers.{total}
 use Rattle.layout.specs.Layout.{sizes}
-use Rattle.layout.specs.declared.Slot.{Slot}
-use Rattle.layout.specs.Fields.{word_bytes, default_fields, number_count, default_numbers, with_default, of_bounds, layout, field_sizes}
+use Rattle.layout.specs.Fields.{word_bytes, default_fields, number_count, default_numbers, with_default, layout, field_sizes}
 use Rattle.layout.proofs.ByMap.{counts, map_bits, all_below, sizes_below, sizes_most}
 
 -- a word has four bytes or eight: what holds of both where they are taken, holds of its bytes
@@ -39,9 +38,9 @@ pub default_length : (word : ℕ) → length (with_default word) ≡ default_num
 unfolding with_default
 default_length word = refl
 
-pub default_slot : (word i : ℕ) (d : Slot) → i < default_numbers → get_or (layout word) i d ≡ get_or (with_default word) i d
-unfolding layout
-default_slot word i d h = get_or-append (with_default word) (of_bounds word) d i (omega (arith, default_length word))
+pub default_take : (word : ℕ) → take default_numbers (layout word) ≡ with_default word
+unfolding layout with_default
+default_take word = refl
 
 pub default_bits : (word : ℕ) → all_below default_fields (map_bits (with_default word)) ≡ true
 unfolding with_default

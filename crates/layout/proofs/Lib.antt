@@ -1,3 +1,4 @@
+pub mod Mapped
 pub mod ByMap
 pub mod JobLayout
 pub mod Maps

@@ -106,15 +106,7 @@ fn size(slot: Slot, map: u64) -> usize
 pub fn field_sizes(word: usize, map: u64) -> [usize; NUMBERS]
     ensures { result ≡ field_sizes word map }
 {
-    let slots = layout(word);
-    let mut sizes = [0; NUMBERS];
-    let mut i = 0;
-    while i < NUMBERS {
-        let slot = slots[i];
-        sizes[i] = size(slot, map);
-        i += 1;
-    }
-    sizes
+    layout(word).map(|slot| size(slot, map))
 }
 
 // The map bits of the fields that have a default: each of their numbers that is not 0 sets the bit of its field.
@@ -123,12 +115,9 @@ fn map_of(word: usize, numbers: [u64; NUMBERS]) -> u64
 {
     let slots = layout(word);
     let mut map: u64 = 0;
-    let mut i = WITH_DEFAULT;
-    while 0 < i {
-        i -= 1;
-        let slot = slots[i];
-        if numbers[i] != 0 {
-            map = map | (1 << slot.bit);
+    for (slot, &number) in slots[..WITH_DEFAULT].iter().zip(&numbers) {
+        if number != 0 {
+            map |= 1 << slot.bit;
         }
     }
     map

@@ -1,64 +1,54 @@
--- `layout::map_of` meets its contract. The loop goes down: the map has the bits of the numbers passed. Assumes nothing.
-use mathlib.Core.Path.{◌≡◌, sym, ap, ap₂, ◌∙◌}
-use Prim.Native.Nat.{ℕ, ◌+◌, ◌-◌, ◌^◌, ◌<◌}
-use native.Mathlib.Omega.{arith}
-use mathlib.Core.List.{List}
-use lib.ListN.{get_or, drop}
-use lib.Bits.{bit_or}
+-- `layout::map_of` meets its contract. The map has the bits of the numbers passed; with those of the others it is the whole map. Assumes nothing.
+use Rattle.std.proofs.Common.{rules, ◌≡◌, ℕ, List, bit_or, take, sym, ap, ◌∙◌, arith}
+use Rattle.std.specs.Iterator.Adapters.{zip_first, zip_second}
+use Rattle.std.specs.Slice.Iter.{iter_rest}
+use Rattle.std.proofs.lemmas.Slice.Zip.{either_empty_from_Zip}
+use lib.Bits.{or_zero_l, or_zero_r}
 use Rattle.bits.proofs.Laws.{one_shl}
 use Rattle.layout.specs.Layout.{map_of}
-use Rattle.layout.specs.Fields.{default_fields, default_numbers, with_default}
+use Rattle.layout.specs.Fields.{default_numbers, default_fields, with_default}
 use Rattle.layout.specs.declared.Slot.{Slot}
-use Rattle.numbers.proofs.BySizes.{drop_all}
-use Rattle.layout.proofs.ByMap.{field_below, map_same, map_set}
-use Rattle.layout.proofs.JobLayout.{default_length, default_bits, default_slot}
+use Rattle.layout.proofs.ByMap.{map_bits, below_cons, map_none, map_same, map_set}
+use Rattle.layout.proofs.JobLayout.{default_bits, default_take}
 use Rattle.layout.proofs.map_of.Goals as goal
 
-abbrev none : Slot
-none = record { bit = 0; size = 0 }
-
-pub loop-i-init : goal.loop-i-init
-unfolding map_of
-loop-i-init c =
-    let word : ℕ = c.args.word in
-    let past = drop_all (with_default word) default_numbers (omega (arith, default_length word)) in
-    (omega arith, sym (ap (λ (ps : List Slot). map_of ps (drop default_numbers c.args.numbers)) past))
+pub loop-slot-init : goal.loop-slot-init
+loop-slot-init c =
+    let slots : iter_rest (zip_first c.into_iter-slot-iterator.result) ≡ take default_numbers c.layout-slots.result = search rules in
+    let numbers : iter_rest (zip_second c.into_iter-slot-iterator.result) ≡ c.args.numbers = search rules in
+    let front = slots ∙ ap (take default_numbers) c.layout-slots.ensures ∙ default_take c.args.word in
+    (rw front (default_bits c.args.word), rw (front, numbers) (or_zero_l (map_of (with_default c.args.word) c.args.numbers)))
 
 pub overflow_shl-map : goal.overflow_shl-map
 overflow_shl-map c =
-    let slot : (i : ℕ) → i < default_numbers → get_or c.layout-slots.result i none ≡ get_or (with_default c.args.word) i none = λ i h. ap (λ (ps : List Slot). get_or ps i none) c.layout-slots.ensures ∙ default_slot c.args.word i none h in
-    let field_lt : (i : ℕ) → i < default_numbers → (get_or c.layout-slots.result i none).bit < 64 = λ i h. (let word : ℕ = c.args.word in
-    omega (arith, field_below default_fields (with_default word) none (default_bits word) (omega arith) i, ap (λ (p : Slot). p.bit) (slot i h))) in
-    field_lt (c.loop-i.i - 1) (omega arith)
+    let p : Slot = c.in-Some.slot.now in
+    let below = below_cons default_fields p.bit (map_bits (iter_rest (zip_first c.next.new.self))) (rw c.in-Some.ensures.steps.0 at c.loop-slot.invariant.0) in
+    omega (arith, below.0)
 
-pub loop-i-preserved-then-numbers-i-ne0 : goal.loop-i-preserved-then-numbers-i-ne0
-loop-i-preserved-then-numbers-i-ne0 c =
-    let slot : (i : ℕ) → i < default_numbers → get_or c.layout-slots.result i none ≡ get_or (with_default c.args.word) i none = λ i h. ap (λ (ps : List Slot). get_or ps i none) c.layout-slots.ensures ∙ default_slot c.args.word i none h in
-    let field_lt : (i : ℕ) → i < default_numbers → (get_or c.layout-slots.result i none).bit < 64 = λ i h. (let word : ℕ = c.args.word in
-    omega (arith, field_below default_fields (with_default word) none (default_bits word) (omega arith) i, ap (λ (p : Slot). p.bit) (slot i h))) in
-    let passed : c.loop-i.map
-    ≡ map_of (drop (c.loop-i.i - 1 + 1) (with_default c.args.word)) (drop (c.loop-i.i - 1 + 1) c.args.numbers) = (let a = c.args in
-    let back : c.loop-i.i ≡ c.loop-i.i - 1 + 1 = omega arith in
-    c.loop-i.invariant.1 ∙ ap (λ (i : ℕ). map_of (drop i (with_default a.word)) (drop i a.numbers)) back) in
-    let a = c.args in
-    let i : ℕ = c.loop-i.i - 1 in
-    let below : i < default_numbers = omega arith in (
-      omega arith,
-      ap₂ bit_or (passed) (one_shl (get_or c.layout-slots.result i none).bit (field_lt i below) ∙ ap (λ (p : Slot). 2 ^ p.bit) (slot i below))
-          ∙ map_set (with_default a.word) i none (omega (arith, default_length a.word)) a.numbers (omega arith) c.if-numbers-i-ne0.true,
-    )
+pub loop-slot-preserved-then-number-ne0 : goal.loop-slot-preserved-then-number-ne0
+loop-slot-preserved-then-number-ne0 c =
+    let l = c.loop-slot in
+    let p : Slot = c.in-Some.slot.now in
+    let ps : List Slot = iter_rest (zip_first c.next.new.self) in
+    let ns : List ℕ = iter_rest (zip_second c.next.new.self) in
+    let steps = c.in-Some.ensures.steps in
+    let below = below_cons default_fields p.bit (map_bits ps) (rw steps.0 at l.invariant.0) in
+    let set = map_set l.map p c.in-Some.field-0-1.now ps ns c.if-number-ne0.true in
+    (below.1, ap (λ (b : ℕ). bit_or (bit_or l.map b) (map_of ps ns)) (one_shl p.bit (omega (arith, below.0))) ∙ set ∙ rw (steps.0, steps.1) at l.invariant.1)
 
-pub loop-i-preserved : goal.loop-i-preserved
-loop-i-preserved c =
-    let passed : c.loop-i.map
-    ≡ map_of (drop (c.loop-i.i - 1 + 1) (with_default c.args.word)) (drop (c.loop-i.i - 1 + 1) c.args.numbers) = (let a = c.args in
-    let back : c.loop-i.i ≡ c.loop-i.i - 1 + 1 = omega arith in
-    c.loop-i.invariant.1 ∙ ap (λ (i : ℕ). map_of (drop i (with_default a.word)) (drop i a.numbers)) back) in
-    let a = c.args in
-    (omega arith, passed ∙ map_same (with_default a.word) (c.loop-i.i - 1) none (omega (arith, default_length a.word)) a.numbers (omega arith) c.if-numbers-i-ne0.false)
+pub loop-slot-preserved : goal.loop-slot-preserved
+loop-slot-preserved c =
+    let l = c.loop-slot in
+    let p : Slot = c.in-Some.slot.now in
+    let ps : List Slot = iter_rest (zip_first c.next.new.self) in
+    let ns : List ℕ = iter_rest (zip_second c.next.new.self) in
+    let steps = c.in-Some.ensures.steps in
+    let below = below_cons default_fields p.bit (map_bits ps) (rw steps.0 at l.invariant.0) in
+    let same = map_same l.map p c.in-Some.field-0-1.now ps ns c.if-number-ne0.false in
+    (below.1, same ∙ rw (steps.0, steps.1) at l.invariant.1)
 
 pub returns : goal.returns
 returns c =
-    let a = c.args in
-    let done : c.loop-i.i ≡ 0 = omega arith in
-    c.loop-i.invariant.1 ∙ ap (λ (i : ℕ). map_of (drop i (with_default a.word)) (drop i a.numbers)) done
+    let l = c.loop-slot in
+    let none = map_none _ _ (either_empty_from_Zip l.slot-iterator c.next.new.self c.next.result c.in-None.is c.next.ensures.steps) in
+    sym (ap (bit_or l.map) none ∙ or_zero_r l.map) ∙ l.invariant.1
