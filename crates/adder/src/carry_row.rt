@@ -31,13 +31,11 @@ fn gathered(n: u64, like: bool, l: u64, r: u64, s: u64) -> u64
     requires { (n ≤ 62) × (l < 2 ^ 62) × (r < 2 ^ 62) × (s < 2) }
     ensures { result ≡ gather n (carry_in like l r s) }
 {
-    let mut row = 0u64;
-    let mut i = 0u64;
-    while i < n {
+    let mut row = 0;
+    for i in 0..n {
         if carry_at(like, l, r, s, i) {
             row += power(i);
         }
-        i += 1;
     }
     row
 }

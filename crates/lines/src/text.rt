@@ -37,10 +37,8 @@ pub(crate) fn with_text(line: Line, text: &[u8]) -> Line
     ensures { Grown line result text.now }
 {
     let mut next = line;
-    let mut i = 0;
-    while i < text.len() {
-        next = with_byte(next, text[i]);
-        i += 1;
+    for &b in text {
+        next = with_byte(next, b);
     }
     next
 }
