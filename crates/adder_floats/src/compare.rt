@@ -3,7 +3,7 @@ ghost use Rattle.std.specs.Prelude.{◌≡◌, ◌%◌, ◌<◌, nat_lt};
 
 use adder::Reply;
 use adder::result::rounded_result;
-use bits::{minus, power};
+use bits::power;
 use format::Format;
 use word::pack::word_of;
 
@@ -96,8 +96,8 @@ fn nan(format: Format) -> u64 {
     word_of(
         format,
         0,
-        minus(power(format.w), 1),
-        power(minus(format.f, 1)),
+        power(format.w).saturating_sub(1),
+        power(format.f.saturating_sub(1)),
     )
 }
 

@@ -7,7 +7,6 @@ mod pairs;
 
 use crate::compare::{Precision, Verdict, compared, format_of};
 use crate::pairs::{Draw, Pair};
-use bits::minus;
 use format::Format;
 use std::io;
 
@@ -65,7 +64,7 @@ fn pair_of(format: Format, class: u64, draw: Draw) -> Pair {
     match class {
         0 => pairs::any(format, draw),
         1 => pairs::apart(format, draw, 0),
-        2 => pairs::apart(format, draw, minus(format.f, 3)),
+        2 => pairs::apart(format, draw, format.f.saturating_sub(3)),
         3 => pairs::tied(format, draw),
         4 => pairs::cancelled(format, draw),
         5 => pairs::small(format, draw),

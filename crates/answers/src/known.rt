@@ -8,7 +8,7 @@ ghost use Rattle.classes.specs.Class.{field_at, most_field, least_field, ClassIn
 ghost use Rattle.answers.specs.Kept.{place_of, Never, bit_of, Refuses, Closed, closed_place, closed_bit, Kept, NoField};
 
 use crate::PLACES;
-use bits::{bit_at, minus, power};
+use bits::{bit_at, power};
 use classes::{Class, FAR_GAP, MOST_FIELD, TOP_FIELD, class_admits};
 use format::{Format, supported};
 use job::Job;
@@ -35,7 +35,7 @@ fn field_at(reach: u64, unit: Unit, field: Biased) -> Biased
     if field.0 == 0 {
         return Biased(0);
     }
-    Biased(minus(field.0 + unit.0, reach + FAR_GAP))
+    Biased((field.0 + unit.0).saturating_sub(reach + FAR_GAP))
 }
 
 // The bit of c's exponent field in the word of a class, the lowest for the largest field; 0 for one that has none and is asked each time.

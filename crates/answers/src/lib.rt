@@ -1,7 +1,7 @@
 // Whether a pair of exponent fields admits a case, with the answers kept that pairs of one class share.
 #![tactic(auto)]
 
-use bits::{minus, power};
+use bits::power;
 use classes::{FAR_GAP, Fields, MOST_FIELD, class_of, fields_of};
 use format::{Format, supported};
 use job::Job;
@@ -30,13 +30,13 @@ pub const PLACES: usize = 130;
 fn normal(reach: u64, fields: Fields) -> bool
     ensures { result ≡ true → Normal reach fields.larger fields.smaller }
 {
-    if reach < minus(fields.larger.0, FAR_GAP) {
+    if reach < fields.larger.0.saturating_sub(FAR_GAP) {
         return true;
     }
     if fields.smaller.0 == 0 {
         return false;
     }
-    2 <= minus(fields.larger.0, fields.smaller.0)
+    2 <= fields.larger.0.saturating_sub(fields.smaller.0)
 }
 
 // Whether a pair may admit a case, as far as the table tells or comes to tell.

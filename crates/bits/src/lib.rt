@@ -1,7 +1,7 @@
-// Single bits, low parts and quotients of a 64-bit word, for any position; and a difference that stops at 0.
+// Single bits, low parts and quotients of a 64-bit word, for any position.
 #![tactic(auto)]
 
-ghost use Rattle.std.specs.Prelude.{◌≡◌, ◌-◌, ◌/◌, ◌%◌, ◌^◌};
+ghost use Rattle.std.specs.Prelude.{◌≡◌, ◌/◌, ◌%◌, ◌^◌};
 ghost use Rattle.bits.specs.Bit.{bit};
 
 // Bit i of x; 0 from position 64 on.
@@ -30,11 +30,4 @@ pub fn low(x: u64, k: u64) -> u64
     ensures { result ≡ x % 2 ^ k }
 {
     if k < 64 { x % (1 << k) } else { x }
-}
-
-// a - b, or 0 where b is larger.
-pub fn minus(a: u64, b: u64) -> u64
-    ensures { result ≡ a - b }
-{
-    if b < a { a - b } else { 0 }
 }

@@ -7,7 +7,6 @@ ghost use Rattle.mask.specs.Mask.{WellFormed};
 ghost use Rattle.job.specs.Guards.{reach};
 ghost use Rattle.classes.specs.Class.{far_gap, fields_of, low_field, class_of, with_exponent, asking, ClassFor, ClassAdmits};
 
-use bits::minus;
 use format::Format;
 use job::guards::reach;
 use job::words::{with_mask, with_wanted};
@@ -76,8 +75,8 @@ fn low_field(reach: u64, larger: Biased, smaller: Biased) -> Biased
     if smaller.0 == 0 {
         return Biased(0);
     }
-    let gap = minus(unit_of(larger).0, unit_of(smaller).0);
-    field_of(Unit(minus(wrapping_add_u64(reach, FAR_GAP), gap)), 1)
+    let gap = unit_of(larger).0.saturating_sub(unit_of(smaller).0);
+    field_of(Unit(wrapping_add_u64(reach, FAR_GAP).saturating_sub(gap)), 1)
 }
 
 // The class of a pair, by the job's reach; free where that is 64 or more.

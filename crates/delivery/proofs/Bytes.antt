@@ -11,8 +11,11 @@ use Rattle.numbers.proofs.Numbers.{length_number, length_put, put_put, put_room}
 use borrow.Author.Tests.{le-leb, lt-leb}
 use lib.Dec.{leb}
 use mathlib.Core.Bool.{true, false}
+use Rattle.std.specs.Prelude.{Result, Ok}
+use Rattle.format.specs.declared.cause.Cause.{Cause}
 use Rattle.format.specs.declared.cause.Cause.TheVariants as cause
-use Rattle.delivery.specs.Answer.{Content, numbers, bytes_of, Delivered}
+use Rattle.format.specs.Cause.{number}
+use Rattle.delivery.specs.Answer.{bytes_of, Delivered}
 
 pub bytes_append : (ns ms : List ℕ) → bytes_of (ns ++ ms) ≡ bytes_of ns ++ bytes_of ms
 unfolding bytes_of
@@ -58,20 +61,20 @@ put_front s bs = ap (λ (n : ℕ). bs ++ drop n s) (zero-add (length bs))
 
 -- numbers that find no room are not delivered, and others are
 module _ (ns s : List ℕ) where
-  pub delivered_none : length s < length (bytes_of ns) → Delivered (numbers ns) s s cause.Buffer
+  pub delivered_none : length s < length (bytes_of ns) → Delivered (Ok ns) s s (number cause.Buffer)
   delivered_none h =
       let test : leb (length (bytes_of ns)) (length s) ≡ false = lt-leb (length (bytes_of ns)) (length s) h in
       record { number = rw test; buffer = rw test }
 
-  pub delivered_all : length (bytes_of ns) ≤ length s → Delivered (numbers ns) s (put s 0 (bytes_of ns)) 0
+  pub delivered_all : length (bytes_of ns) ≤ length s → Delivered (Ok ns) s (put s 0 (bytes_of ns)) 0
   delivered_all h =
       let test : leb (length (bytes_of ns)) (length s) ≡ true = le-leb (length (bytes_of ns)) (length s) h in
       record { number = rw test; buffer = rw test (put_front s (bytes_of ns)) }
 
--- what is delivered as one content is delivered as an equal one
-pub delivered_as : {x y : Content} {s t : List ℕ} {n : ℕ} → x ≡ y → Delivered x s t n → Delivered y s t n
-delivered_as {x} {y} {s} {t} {n} e h = subst (λ (z : Content). Delivered z s t n) e h
+-- what is delivered as one answer is delivered as an equal one
+pub delivered_as : {x y : Result (List ℕ) Cause} {s t : List ℕ} {n : ℕ} → x ≡ y → Delivered x s t n → Delivered y s t n
+delivered_as {x} {y} {s} {t} {n} e h = subst (λ (z : Result (List ℕ) Cause). Delivered z s t n) e h
 
--- of one content the number and the buffer are one alone
-pub delivered_unique : {x : Content} {s t u : List ℕ} {m n : ℕ} → Delivered x s t m → Delivered x s u n → (m ≡ n) × (t ≡ u)
+-- of one answer the number and the buffer are one alone
+pub delivered_unique : {x : Result (List ℕ) Cause} {s t u : List ℕ} {m n : ℕ} → Delivered x s t m → Delivered x s u n → (m ≡ n) × (t ≡ u)
 delivered_unique p q = (p.number ∙ sym q.number, p.buffer ∙ sym q.buffer)

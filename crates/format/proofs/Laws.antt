@@ -4,19 +4,42 @@ use mathlib.Core.Bool.{Bool, true, false, and-eq-true_iff}
 use mathlib.Core.Logic.{◌↔◌}
 use Prim.Native.Nat.{ℕ, zero, suc, ◌^◌, ◌≤◌, ◌<◌}
 use native.Mathlib.Nat.{suc-ne-zero}
+use native.Mathlib.Omega.{arith}
 use borrow.Author.Tests.{ltb-true, leb-true, lt-ltb, le-leb}
 use lib.Dec.{ltb, leb}
 use Rattle.format.specs.declared.Format.{Format}
 use Rattle.std.specs.Prelude.{Ok, Err, is_ok}
 use Rattle.format.specs.declared.cause.Cause.{Cause}
 use Rattle.format.specs.declared.cause.Cause.TheVariants as cause
-use Rattle.format.specs.Cause.{Check, clear, unless, first}
+use Rattle.format.specs.Cause.{number, Check, clear, unless, first}
 use Rattle.format.specs.Limits.{least_exponent_bits, most_exponent_bits, least_fraction_bits, most_fraction_bits, most_operation, most_mode, within}
 use Rattle.format.specs.Format.{Supported, format_cause, operation_cause, mode_cause, word_cause}
 
 -- a cause is not clear
 pub err_ok : {c : Cause} → Err c ≡ clear → ⊥
 err_ok e = mathlib.Core.Bool.false≢true (ap is_ok e)
+
+-- no cause has the number 0, so 0 can stand for none
+pub number_positive : (c : Cause) → 0 < number c
+unfolding number
+number_positive cause.ExponentBits = omega arith
+number_positive cause.FractionBits = omega arith
+number_positive cause.Operation = omega arith
+number_positive cause.Mode = omega arith
+number_positive cause.Mask = omega arith
+number_positive cause.Word = omega arith
+number_positive cause.NoCase = omega arith
+number_positive cause.Cut = omega arith
+number_positive cause.MapBits = omega arith
+number_positive cause.DefaultField = omega arith
+number_positive cause.Buffer = omega arith
+number_positive cause.WholeLength = omega arith
+number_positive cause.Clash = omega arith
+number_positive cause.SecondMask = omega arith
+number_positive cause.ThirdMask = omega arith
+number_positive cause.CarryMask = omega arith
+number_positive cause.DroppedMask = omega arith
+number_positive cause.Bounds = omega arith
 
 -- a check names one cause
 pub err_same : {c d : Cause} → ◌≡◌ {A = Check} (Err c) (Err d) → c ≡ d

@@ -6,7 +6,7 @@ ghost use Rattle.pass.specs.First.{NoneBefore};
 ghost use Rattle.left.specs.Left.{Left};
 ghost use Rattle.left.specs.Narrower.{openness, Narrower, Keeps, KeepsHalf, higher, further, Open, StepOf};
 
-use bits::{minus, power};
+use bits::power;
 use job::words::{wanted, with_word_mask};
 use job::{Job, Role};
 use mask::fix;
@@ -108,7 +108,7 @@ pub(crate) fn some_left(job: Job, at: Exponents) -> bool
             if some_left(with_bit(narrow, role, k, v), first) {
                 return true;
             }
-            some_left(with_bit(narrow, role, k, minus(1, v)), first)
+            some_left(with_bit(narrow, role, k, 1u64.saturating_sub(v)), first)
         }
     }
 }

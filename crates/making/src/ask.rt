@@ -10,7 +10,6 @@ ghost use Rattle.making.specs.Question.{Added};
 
 use crate::masks::{both, one_above, opposite, raised};
 use crate::{Aligned, columns, roomy};
-use bits::minus;
 use chain::Wires;
 use mask::Mask;
 use rounding::Direction;
@@ -129,18 +128,18 @@ pub fn rounds_at(
     ensures { Formed f aligned → Askable f aligned direction (rounded.0 + aligned.below - unit.0) x kept
         → (result ≡ true) ↔ Making f aligned (λ (n : ℕ). Meets n x × Meets (kept_part aligned.below direction n unit.0 rounded.0) kept) }
 {
-    let under = minus(unit.0, rounded.0);
-    let up = minus(under, aligned.below);
+    let under = unit.0.saturating_sub(rounded.0);
+    let up = under.saturating_sub(aligned.below);
     if bits::low(kept.value, up) != 0 {
         return false;
     }
     if !roomy(aligned.like, aligned.below, f) {
         return false;
     }
-    let over = minus(rounded.0, unit.0);
+    let over = rounded.0.saturating_sub(unit.0);
     if 1 < over {
         return false;
     }
-    let down = minus(aligned.below + over, under);
+    let down = (aligned.below + over).saturating_sub(under);
     rounds(aligned, f, direction, down, x, mask::high(kept, up))
 }

@@ -1,7 +1,6 @@
 // Whether two aligned significands make a number that meets a mask and, rounded off, another.
 #![tactic(auto)]
 
-use bits::minus;
 use mask::Mask;
 
 pub mod ask;
@@ -31,9 +30,9 @@ pub fn roomy(like: bool, below: u64, f: u64) -> bool
         return false;
     }
     if like {
-        f < minus(62, below)
+        f < 62u64.saturating_sub(below)
     } else {
-        f < minus(63, below)
+        f < 63u64.saturating_sub(below)
     }
 }
 

@@ -10,7 +10,7 @@ ghost use Rattle.job.specs.Job.{ValidWanted};
 ghost use Rattle.narrowing.specs.Range.{range_of, extent_of, Decided, Shares};
 ghost use Rattle.narrowing.specs.Narrowing.{Stands, Narrows};
 
-use bits::{bit_at, minus, power};
+use bits::{bit_at, power};
 use bounds::{Ends, rank};
 use format::{Format, supported};
 use job::Wanted;
@@ -52,13 +52,13 @@ fn range_of(format: Format, ends: Ends, sign: u64) -> Range
     let to = rank(format, ends.high);
     if sign == 0 {
         return Range {
-            low: minus(from, zero),
-            past: minus(to, minus(zero, 1)),
+            low: from.saturating_sub(zero),
+            past: to.saturating_sub(zero.saturating_sub(1)),
         };
     }
     Range {
-        low: minus(zero, to),
-        past: minus(zero + 1, from),
+        low: zero.saturating_sub(to),
+        past: (zero + 1).saturating_sub(from),
     }
 }
 
@@ -82,7 +82,7 @@ fn extent_of(format: Format, mask: Mask, ends: Ends) -> Extent
 fn highest(x: u64) -> u64
     ensures { result ≡ 63 - count_leading_zeros 64 x }
 {
-    minus(63, u64::leading_zeros(x) as u64)
+    63u64.saturating_sub(u64::leading_zeros(x) as u64)
 }
 
 // How the numbers that meet a mask stand to those within: with the highest free bit, and 1 for it where none is too large.
@@ -99,7 +99,7 @@ fn decided(extent: Extent) -> Standing
     if extent.most < within.low {
         return Standing::Outside;
     }
-    let bit = highest(minus(extent.most, extent.least));
+    let bit = highest(extent.most.saturating_sub(extent.least));
     if within.past <= extent.most {
         return Standing::Across(bit, 0);
     }
@@ -139,16 +139,16 @@ pub fn stands(format: Format, w: Wanted) -> Standing
 fn without_low(x: u64, k: u64) -> u64
     ensures { result ≡ x - x % 2 ^ k }
 {
-    minus(x, bits::low(x, k))
+    x.saturating_sub(bits::low(x, k))
 }
 
 // The mask with those bits below `place` also fixed that all numbers from l to h share: the ones above the highest at which l and h differ.
 fn shared(mask: Mask, place: u64, l: u64, h: u64) -> Mask
     ensures { place < 64 → l ≤ h → h < 2 ^ place → Shares place mask l h result }
 {
-    let apart = minus(64, u64::leading_zeros(l ^ h) as u64);
+    let apart = 64u64.saturating_sub(u64::leading_zeros(l ^ h) as u64);
     let alike = Mask {
-        care: without_low(minus(power(place), 1), apart),
+        care: without_low(power(place).saturating_sub(1), apart),
         value: without_low(l, apart),
     };
     match join(mask, alike) {
@@ -168,7 +168,7 @@ fn narrowed_between(format: Format, mask: Mask, ends: Ends) -> Mask
     }
     let extent = extent_of(format, mask, ends);
     let l = extent.within.low.max(extent.least);
-    let h = minus(extent.within.past, 1).min(extent.most);
+    let h = extent.within.past.saturating_sub(1).min(extent.most);
     if h < l {
         return mask;
     }

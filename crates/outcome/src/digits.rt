@@ -17,7 +17,6 @@ ghost use Rattle.outcome.specs.Question.{least_quotient, NextQuotient, KeepAlike
 use crate::dropped::{numbers, ways_at};
 use crate::sought::sought;
 use crate::{Target, masks};
-use bits::minus;
 use format::Format;
 use job::Dropped;
 use making::ask::rounds_at;
@@ -34,7 +33,7 @@ fn rounded_unit(f: u64, below: u64, count: u64, unit: Unit) -> Unit
     requires { (aligned_bits below f < 64) × (unit.0 < 2 ^ 63) × (count ≤ sum_bits below f) }
     ensures { result ≡ rounded_unit below f count unit }
 {
-    Unit(minus(count + unit.0, f + (1 + below)))
+    Unit((count + unit.0).saturating_sub(f + (1 + below)))
 }
 
 // The smaller of the two numbers that can stand above the fraction.
@@ -77,7 +76,7 @@ fn asked_direction(
         return Direction::TowardZero;
     }
     let unit_of_kept = rounded_unit(f, aligned.below, count, unit);
-    let j = minus(unit_of_kept.0 + aligned.below, unit.0);
+    let j = (unit_of_kept.0 + aligned.below).saturating_sub(unit.0);
     if exact(aligned, j) {
         Direction::TowardZero
     } else {

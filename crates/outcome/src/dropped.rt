@@ -8,7 +8,6 @@ ghost use Rattle.outcome.specs.Question.{OnlyDigits};
 ghost use Rattle.outcome.specs.Ways.{ways_of, upper_of, lower_of, ways_at, OfWay};
 
 use crate::masks::digits;
-use bits::minus;
 use job::Dropped;
 use making::masks::{both, raised};
 use mask::{Mask, high};
@@ -78,7 +77,7 @@ pub(crate) fn ways_at(below: u64, f: u64, unit: Unit, dropped: Dropped, count: u
     if count + unit.0 < f + (1 + below) {
         return 0;
     }
-    ways(dropped, minus(count, f + 1))
+    ways(dropped, count.saturating_sub(f + 1))
 }
 
 // The mask of the numbers of so many digits in one of these ways, among those that fit the columns.
@@ -91,6 +90,6 @@ pub(crate) fn numbers(columns: u64, f: u64, dropped: Dropped, count: u64, way: u
     if dropped.mask.care == 0 {
         return all;
     }
-    let j = minus(count, f + 1);
+    let j = count.saturating_sub(f + 1);
     both(all, both(upper(dropped, j), lower(dropped, j, way)))
 }

@@ -10,7 +10,6 @@ ghost use Rattle.outcome.specs.Question.{subnormal_word, Tells};
 use crate::digits::{exact, fits};
 use crate::sought::sought;
 use crate::{Target, fewest, masks};
-use bits::minus;
 use format::Format;
 use making::ask::rounds_at;
 use making::{Aligned, columns};
@@ -69,7 +68,7 @@ fn past_zero(
     if target.dropped.mask.care != 0 {
         return Known::AtLeast(small + 1);
     }
-    if !exact(aligned, minus(aligned.below, unit.0)) {
+    if !exact(aligned, aligned.below.saturating_sub(unit.0)) {
         return Known::AtLeast(1);
     }
     if !subnormal(format, sign, unit, aligned, target.c, small) {

@@ -8,7 +8,6 @@ ghost use Rattle.pass.specs.Steps.{NoneBelow, NoneNear, OnlyFar, PassOf};
 use crate::pairs::Pass;
 use answers::PLACES;
 use answers::open::all_closed;
-use bits::minus;
 use classes::far_gap;
 use job::Job;
 use mask::next::met_from;
@@ -20,7 +19,7 @@ pub(crate) fn near_from(job: Job, pass: Pass, n: Biased) -> Biased
     requires { Supported job.setting.format }
     ensures { (result.0 ≤ pass.end.0) × (Valid job → PassOf job pass → NoneNear job n result) }
 {
-    let near = minus(met_from(job.setting.format.w, pass.c, n.0), 2);
+    let near = met_from(job.setting.format.w, pass.c, n.0).saturating_sub(2);
     if near < pass.end.0 {
         Biased(near)
     } else {
@@ -36,20 +35,20 @@ fn far_end(job: Job, pass: Pass, ea: Biased, table: &[u64; PLACES]) -> Biased
     ensures { (ea.0 ≤ result.0) × (Valid job → PassOf job pass → Kept job table.now → OnlyFar job ea result) }
 {
     if !pass.signs {
-        return Biased(ea.0 + minus(pass.past.0 - 1, ea.0));
+        return Biased(ea.0 + (pass.past.0 - 1).saturating_sub(ea.0));
     }
     let gap = far_gap(job);
     if ea.0 <= gap {
         return ea;
     }
     if all_closed(job, table) {
-        return Biased(ea.0 + minus(minus(pass.end.0, gap - 1), ea.0));
+        return Biased(ea.0 + pass.end.0.saturating_sub(gap - 1).saturating_sub(ea.0));
     }
     if pass.zero {
         return ea;
     }
     let near = near_from(job, pass, Biased(ea.0 - gap));
-    Biased(ea.0 + minus(minus(near.0, gap - 1), ea.0))
+    Biased(ea.0 + near.0.saturating_sub(gap - 1).saturating_sub(ea.0))
 }
 
 // From n on, the next field of a that meets its mask and may admit a case, where none below n does. What one is far below was asked with the

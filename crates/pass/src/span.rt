@@ -13,7 +13,6 @@ use crate::field::near_from;
 use crate::pairs::Pass;
 use answers::PLACES;
 use answers::open::open_from;
-use bits::minus;
 use classes::far_gap;
 use job::Job;
 use mask::meets;
@@ -58,7 +57,7 @@ fn sum_from(job: Job, pass: Pass, larger: Biased) -> Biased
         return larger;
     }
     let near = near_from(job, pass, Biased(larger.0 - 1));
-    Biased(larger.0 + minus(near.0, larger.0))
+    Biased(larger.0 + near.0.saturating_sub(larger.0))
 }
 
 // The fields of b that are left to ask with one of a, where no smaller field of a has a case. With no signs left for finite operands they
@@ -86,7 +85,7 @@ pub(crate) fn span_of(job: Job, pass: Pass, ea: Biased) -> Span
         };
     }
     Span {
-        from: Biased(minus(ea.0, 1)),
+        from: Biased(ea.0.saturating_sub(1)),
         end,
     }
 }
@@ -100,7 +99,7 @@ pub(crate) fn after(job: Job, pass: Pass, ea: Biased, eb: Biased) -> Biased
     if (ea.0 == ones) & (eb.0 < ones) {
         return Biased(ones);
     }
-    let past_far = minus(ea.0 + 1, far_gap(job));
+    let past_far = (ea.0 + 1).saturating_sub(far_gap(job));
     if (ea.0 < ones) & (1 <= eb.0) & (eb.0 < past_far) {
         return Biased(past_far);
     }
@@ -114,7 +113,7 @@ fn asked_from(job: Job, pass: Pass, ea: Biased, eb: Biased, table: &[u64; PLACES
     ensures { (eb.0 ≤ result.0) × (Valid job → PassOf job pass → Kept job table.now → NoPartner job ea eb result) }
 {
     let open = open_from(job, ea, eb, pass.end, table);
-    if (open.0 == eb.0) & (ea.0 < minus(eb.0, 1)) {
+    if (open.0 == eb.0) & (ea.0 < eb.0.saturating_sub(1)) {
         return sum_from(job, pass, eb);
     }
     open

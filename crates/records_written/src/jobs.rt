@@ -78,7 +78,7 @@ fn larger(x: u64, y: u64) -> u64 {
 
 // The ends of an interval, both positive, both negative, or the low one negative: it is not above the high one, unless one is a NaN.
 fn ends(width: u64, state: u64) -> Ends {
-    let places = bits::minus(width, 1);
+    let places = width.saturating_sub(1);
     let sign = bits::power(places);
     let x = bits::low(word(state), places);
     let y = bits::low(word(next(state)), places);

@@ -1,131 +1,109 @@
-// The answer of each reply, by value.
+// The answer of each reply: so many numbers, or the refusal.
 #![tactic(auto)]
 
-ghost use Rattle.std.specs.Prelude.{◌≡◌};
-ghost use Rattle.generator.specs.declared.Reply.TheVariants.{Found};
-ghost use Rattle.delivery.specs.Answer.{numbers, content_of};
+ghost use Rattle.std.specs.Prelude.{◌≡◌, Ok};
 ghost use Rattle.replies.specs.Replies.{of_result, row_numbers, of_row, of_joined, of_first, of_confirmed, confirmation, of_case, OfEntry, OfRecord, of_whole};
 
-use adder::{Reply, Row, RowReply};
-use delivery::Answer;
-use fit::{Confirmed, confirm};
+use fit::confirm;
 use format::Cause;
 use generator::Case;
 use layout::Entry;
-use mask::Joined;
-use records::First;
+use mask::Mask;
 
 // The rounded result: c.
-pub fn of_result(reply: Reply) -> Answer
-    ensures { content_of result ≡ of_result reply }
+pub fn of_result(reply: Result<u64, Cause>) -> Result<[u64; 1], Cause>
+    ensures { result ≡ of_result reply }
 {
-    match reply {
-        Reply::Word(c) => Answer::One(c),
-        Reply::Refused(number) => Answer::Refused(number),
-    }
+    Ok([reply?])
 }
 
 // 1 and the row, or 0 and 0 where there is none.
-fn row_numbers(row: Row) -> Answer
-    ensures { content_of result ≡ numbers (row_numbers row) }
+fn row_numbers(row: Option<u64>) -> [u64; 2]
+    ensures { result ≡ row_numbers row }
 {
     match row {
-        Row::Carries(carries) => Answer::Two(1, carries),
-        Row::NoRow => Answer::Two(0, 0),
+        Some(carries) => [1, carries],
+        None => [0, 0],
     }
 }
 
 // The carry row, or that there is none.
-pub fn of_row(reply: RowReply) -> Answer
-    ensures { content_of result ≡ of_row reply }
+pub fn of_row(reply: Result<Option<u64>, Cause>) -> Result<[u64; 2], Cause>
+    ensures { result ≡ of_row reply }
 {
-    match reply {
-        RowReply::Row(row) => row_numbers(row),
-        RowReply::Refused(number) => Answer::Refused(number),
-    }
+    Ok(row_numbers(reply?))
 }
 
 // The joined mask: care, then value.
-pub fn of_joined(joined: Joined) -> Answer
-    ensures { content_of result ≡ of_joined joined }
+pub fn of_joined(joined: Result<Mask, Cause>) -> Result<[u64; 2], Cause>
+    ensures { result ≡ of_joined joined }
 {
-    match joined {
-        Ok(m) => Answer::Two(m.care, m.value),
-        Err(number) => Answer::Refused(number),
-    }
+    let m = joined?;
+    Ok([m.care, m.value])
 }
 
 // The length of the record that stands first; 0 where no byte is left.
-pub fn of_first(first: First) -> Answer
-    ensures { content_of result ≡ of_first first }
+pub fn of_first(first: Result<Option<(Entry, usize)>, Cause>) -> Result<[u64; 1], Cause>
+    ensures { result ≡ of_first first }
 {
-    match first {
-        First::End => Answer::One(0),
-        First::Job(_, length) => Answer::One(length as u64),
-        First::Refused(number) => Answer::Refused(number),
+    match first? {
+        None => Ok([0]),
+        Some((_, length)) => Ok([length as u64]),
     }
 }
 
 // 1 for yes, 0 for no.
-fn of_confirmed(confirmed: Confirmed) -> Answer
-    ensures { content_of result ≡ of_confirmed confirmed }
+fn of_confirmed(confirmed: Result<bool, Cause>) -> Result<[u64; 1], Cause>
+    ensures { result ≡ of_confirmed confirmed }
 {
-    match confirmed {
-        Confirmed::Yes => Answer::One(1),
-        Confirmed::No => Answer::One(0),
-        Confirmed::Refused(number) => Answer::Refused(number),
-    }
+    if confirmed? { Ok([1]) } else { Ok([0]) }
 }
 
 // The confirmation of a case for the job of a record; no byte at all is a record cut short.
-pub fn confirmed(first: First, a: u64, b: u64, c: u64) -> Answer
-    ensures { content_of result ≡ confirmation first a b c }
+pub fn confirmed(
+    first: Result<Option<(Entry, usize)>, Cause>,
+    a: u64,
+    b: u64,
+    c: u64,
+) -> Result<[u64; 1], Cause>
+    ensures { result ≡ confirmation first a b c }
 {
-    match first {
-        First::End => Answer::Refused(Cause::Cut),
-        First::Job(entry, _) => of_confirmed(confirm(entry.job, a, b, c)),
-        First::Refused(number) => Answer::Refused(number),
+    match first? {
+        None => Err(Cause::Cut),
+        Some((entry, _)) => of_confirmed(confirm(entry.job, a, b, c)),
     }
 }
 
 // A case: a, b, c, then 1 and its row, or 0 and 0 where it has none.
-fn of_case(case: Case) -> Answer
-    ensures { content_of result ≡ of_case (Found case) }
+fn of_case(case: Case) -> [u64; 5]
+    ensures { Ok result ≡ of_case (Ok case) }
 {
-    let row = case.row;
-    match row {
-        Row::Carries(carries) => Answer::Five(case.a, case.b, case.c, 1, carries),
-        Row::NoRow => Answer::Five(case.a, case.b, case.c, 0, 0),
-    }
+    let [is_there, row] = row_numbers(case.row);
+    [case.a, case.b, case.c, is_there, row]
 }
 
 // The case that the random words choose for a job.
-fn of_entry(entry: Entry) -> Answer
-    ensures { OfEntry entry (content_of result) }
+fn of_entry(entry: Entry) -> Result<[u64; 5], Cause>
+    ensures { OfEntry entry result }
 {
-    match generator::generate(entry.job, entry.r1, entry.r2) {
-        generator::Reply::Found(case) => of_case(case),
-        generator::Reply::Refused(number) => Answer::Refused(number),
-    }
+    let case = generator::generate(entry.job, entry.r1, entry.r2)?;
+    Ok(of_case(case))
 }
 
 // The same for the job of a record.
-pub fn generated(first: First) -> Answer
-    ensures { OfRecord first (content_of result) }
+pub fn generated(first: Result<Option<(Entry, usize)>, Cause>) -> Result<[u64; 5], Cause>
+    ensures { OfRecord first result }
 {
-    match first {
-        First::End => Answer::Refused(Cause::Cut),
-        First::Job(entry, _) => of_entry(entry),
-        First::Refused(number) => Answer::Refused(number),
+    match first? {
+        None => Err(Cause::Cut),
+        Some((entry, _)) => of_entry(entry),
     }
 }
 
 // A whole-number case: x, y, z and the carries.
-pub fn of_whole(reply: whole::Reply) -> Answer
-    ensures { content_of result ≡ of_whole reply }
+pub fn of_whole(reply: Result<whole::Case, Cause>) -> Result<[u64; 4], Cause>
+    ensures { result ≡ of_whole reply }
 {
-    match reply {
-        whole::Reply::Found(case) => Answer::Four(case.x, case.y, case.z, case.carries),
-        whole::Reply::Refused(number) => Answer::Refused(number),
-    }
+    let case = reply?;
+    Ok([case.x, case.y, case.z, case.carries])
 }

@@ -7,7 +7,7 @@ ghost use Rattle.rounding.specs.Width.{mask_bits};
 ghost use Rattle.significand.specs.Significand.{significand_mask};
 ghost use Rattle.significand.specs.Tail.{complement, greatest, spanned, aligned_mask, roomy, tail_mask};
 
-use bits::{minus, power};
+use bits::power;
 use mask::{Mask, fix, well_formed};
 use rounding::alignment::aligned;
 use rounding::width::MASK_BITS;
@@ -30,7 +30,7 @@ fn complement(k: u64, x: u64) -> u64
     requires { k < 64 }
     ensures { result ≡ complement k x }
 {
-    minus(power(k) - 1, x)
+    (power(k) - 1).saturating_sub(x)
 }
 
 // The greatest number of k bits that meets m; 0 where k is 64 or more, and what a word holds of it where m is not well formed for k bits.

@@ -6,10 +6,10 @@ use borrow.Author.Tests.{leb-true}
 use Rattle.answers.proofs.normal.Goals as goal
 
 pub returns-then-reach-minus : goal.returns-then-reach-minus
-returns-then-reach-minus c = λ t. inl (omega (arith, c.minus.ensures, c.if-reach-minus.true))
+returns-then-reach-minus c = λ t. inl (omega (arith, c.saturating_sub.ensures, c.if-reach-minus.true))
 
 pub returns-then-fields-eq0 : goal.returns-then-fields-eq0
 returns-then-fields-eq0 c = λ t. absurd (false≢true t)
 
 pub returns : goal.returns
-returns c = λ t. inr (omega (arith, c.if-fields-eq0.false), omega (arith, c.minus-2.ensures, leb-true 2 c.minus-2.result t))
+returns c = λ t. inr (omega (arith, c.if-fields-eq0.false), omega (arith, c.saturating_sub-2.ensures, leb-true 2 c.saturating_sub-2.result t))

@@ -21,6 +21,6 @@ pub returns : goal.returns
 returns c = λ short.
     let a = c.args in
     let far = c.wrapping_add_u64.ensures.value ∙ mod-eq_of_lt (omega arith) in
-    let gap = c.minus-gap.ensures ∙ ap₂ (λ (x y : exponent.Unit). x.0 - y.0) c.unit_of.ensures c.unit_of-2.ensures in
-    let low = c.minus.ensures ∙ ap₂ ◌-◌ far gap in
+    let gap = c.saturating_sub-gap.ensures ∙ ap₂ (λ (x y : exponent.Unit). x.0 - y.0) c.unit_of.ensures c.unit_of-2.ensures in
+    let low = c.saturating_sub.ensures ∙ ap₂ ◌-◌ far gap in
     ap field_is (c.field_of.ensures ∙ mod-eq_of_lt (omega arith) ∙ ap (λ (n : ℕ). n + 1) low) ∙ some a.reach _ a.smaller.0 c.if-smaller-eq0.false

@@ -6,7 +6,7 @@ use Rattle.delivery.proofs.deliver_numbers.Goals as goal
 pub returns-then-out-given : goal.returns-then-out-given
 returns-then-out-given c =
     let ns = c.args.given.now in
-    delivered_none ns c.args.out.now (omega (arith, bytes_length ns))
+    rw c.number.ensures (delivered_none ns c.args.out.now (omega (arith, bytes_length ns)))
 
 pub returns : goal.returns
 returns c =

@@ -10,7 +10,7 @@ returns-then-below-eq0 c = (λ t. absurd (false≢true t), λ r. absurd (omega (
 pub returns-then-like : goal.returns-then-like
 returns-then-like c =
     let a = c.args in
-    let m = c.minus in (
+    let m = c.saturating_sub in (
       (λ t. record {
         some = omega (arith, c.if-below-eq0.false);
         columns = rw c.if-like.true (omega (arith, ltb-true a.f m.result t, m.ensures));
@@ -21,7 +21,7 @@ returns-then-like c =
 pub returns-else-like : goal.returns-else-like
 returns-else-like c =
     let a = c.args in
-    let m = c.minus-else-like in (
+    let m = c.saturating_sub-else-like in (
       (λ t. record {
         some = omega (arith, c.if-below-eq0.false);
         columns = rw c.if-like.false (omega (arith, ltb-true a.f m.result t, m.ensures));

@@ -20,10 +20,10 @@ returns-then-within-extent-2 c =
     let a = c.args.extent in
     let small = c.if-within-extent.false in
     let cut = c.if-within-extent-2.true in
-    (omega arith, (λ e. omega (arith, small, cut, e)), c.highest-bit.ensures ∙ ap (λ (n : ℕ). 63 - count_leading_zeros 64 n) c.minus.ensures)
+    (omega arith, (λ e. omega (arith, small, cut, e)), c.highest-bit.ensures ∙ ap (λ (n : ℕ). 63 - count_leading_zeros 64 n) c.saturating_sub.ensures)
 
 pub returns : goal.returns
 returns c =
     let large = c.if-extent-within.false in
     let cut = c.if-within-extent-3.false in
-    (omega arith, (λ e. omega (arith, large, cut, e)), c.highest-bit.ensures ∙ ap (λ (n : ℕ). 63 - count_leading_zeros 64 n) c.minus.ensures)
+    (omega arith, (λ e. omega (arith, large, cut, e)), c.highest-bit.ensures ∙ ap (λ (n : ℕ). 63 - count_leading_zeros 64 n) c.saturating_sub.ensures)

@@ -35,5 +35,5 @@ returns c =
           let r = (meets_between F c.requires c.args.mask w fixed c.args.ends v n met).0 within in
           shares.kept n met
           (omega (arith, c.max-l.ensures, least, from, a.0, r.0))
-          (omega (arith, c.min-h.ensures, c.minus.ensures, most, past, a.1, r.1));
+          (omega (arith, c.min-h.ensures, c.saturating_sub.ensures, most, past, a.1, r.1));
     }

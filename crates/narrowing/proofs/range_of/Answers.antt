@@ -20,8 +20,8 @@ returns-then-sign-eq0 c =
     let from = c.rank-from.ensures.0 c.requires in
     let to = c.rank-to.ensures.0 c.requires in
     rw c.if-sign-eq0.true
-    (ap₂ (λ (l p : ℕ). record { low = l; past = p }) (c.minus.ensures ∙ ap₂ (λ (a b : ℕ). a - b) from z)
-    (c.minus-then-sign-eq0-2.ensures ∙ ap₂ (λ (a b : ℕ). a - b) to (c.minus-then-sign-eq0.ensures ∙ ap (λ (n : ℕ). n - 1) z)))
+    (ap₂ (λ (l p : ℕ). record { low = l; past = p }) (c.saturating_sub.ensures ∙ ap₂ (λ (a b : ℕ). a - b) from z)
+    (c.saturating_sub-then-sign-eq0-2.ensures ∙ ap₂ (λ (a b : ℕ). a - b) to (c.saturating_sub-then-sign-eq0.ensures ∙ ap (λ (n : ℕ). n - 1) z)))
 
 pub overflow_add-zero : goal.overflow_add-zero
 overflow_add-zero c =
@@ -32,7 +32,7 @@ returns c =
     let z = sign_place c.args.format c.requires c.power-zero.ensures in
     let from = c.rank-from.ensures.0 c.requires in
     let to = c.rank-to.ensures.0 c.requires in
-    subst (λ (e : interval.Range). record { low = c.minus-2.result; past = c.minus-3.result } ≡ e)
+    subst (λ (e : interval.Range). record { low = c.saturating_sub-2.result; past = c.saturating_sub-3.result } ≡ e)
     (sym (negative c.args.format c.args.ends c.args.sign c.if-sign-eq0.false))
-    (ap₂ (λ (l p : ℕ). record { low = l; past = p }) (c.minus-2.ensures ∙ ap₂ (λ (a b : ℕ). a - b) z to)
-    (c.minus-3.ensures ∙ ap₂ (λ (a b : ℕ). a - b) (ap (λ (n : ℕ). n + 1) z) from))
+    (ap₂ (λ (l p : ℕ). record { low = l; past = p }) (c.saturating_sub-2.ensures ∙ ap₂ (λ (a b : ℕ). a - b) z to)
+    (c.saturating_sub-3.ensures ∙ ap₂ (λ (a b : ℕ). a - b) (ap (λ (n : ℕ). n + 1) z) from))

@@ -15,8 +15,8 @@ pub returns-in-Ok : goal.returns-in-Ok
 returns-in-Ok c =
     let a = c.args in
     λ room le hh.
-    joined_shares a.place a.l a.h room le hh c.minus-apart.result c.minus-apart.ensures a.mask c.in-Ok.m
+    joined_shares a.place a.l a.h room le hh c.saturating_sub-apart.result c.saturating_sub-apart.ensures a.mask c.in-Ok.m
     (record { care = c.without_low.result; value = c.without_low-2.result })
     (c.without_low.ensures
-    ∙ ap (λ (n : ℕ). n - n % 2 ^ c.minus-apart.result) (c.minus.ensures ∙ ap (λ (n : ℕ). n - 1) (c.power.ensures ∙ power_exact a.place room)))
+    ∙ ap (λ (n : ℕ). n - n % 2 ^ c.saturating_sub-apart.result) (c.saturating_sub.ensures ∙ ap (λ (n : ℕ). n - 1) (c.power.ensures ∙ power_exact a.place room)))
     c.without_low-2.ensures (sym c.join.ensures ∙ c.in-Ok.is)

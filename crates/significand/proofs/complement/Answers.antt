@@ -8,4 +8,4 @@ overflow_sub-power c = let k = c.args.k in omega (arith, c.power.ensures ∙ pow
 
 pub returns : goal.returns
 returns c =
-    c.minus.ensures ∙ ap (λ (n : ℕ). n - 1 - c.args.x) (c.power.ensures ∙ power_exact c.args.k c.requires)
+    c.saturating_sub.ensures ∙ ap (λ (n : ℕ). n - 1 - c.args.x) (c.power.ensures ∙ power_exact c.args.k c.requires)

@@ -19,4 +19,4 @@ pub returns-then-field-eq0 : goal.returns-then-field-eq0
 returns-then-field-eq0 c = let a = c.args in ap field_is (none (far_gap a.reach) a.unit.0 a.field.0 c.if-field-eq0.true)
 
 pub returns : goal.returns
-returns c = let a = c.args in ap field_is (c.minus.ensures ∙ some (far_gap a.reach) a.unit.0 a.field.0 c.if-field-eq0.false)
+returns c = let a = c.args in ap field_is (c.saturating_sub.ensures ∙ some (far_gap a.reach) a.unit.0 a.field.0 c.if-field-eq0.false)

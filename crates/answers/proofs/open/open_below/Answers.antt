@@ -27,21 +27,21 @@ overflow_add-result c = record { fits = omega (arith, c.requires.2) }
 pub returns-then-ea-from : goal.returns-then-ea-from
 returns-then-ea-from c =
     let closed_at : 0 < c.run_from-run.result → (d : Biased) → c.args.eb.0 ≤ d.0 → d.0 ≤ c.args.ea.0
-    → d.0 < c.args.eb.0 + c.minus.result + c.run_from-run.result
-    → bit c.args.closed (closed_bit c.args.reach 0 (low_field c.args.reach c.args.ea d).0) ≡ 1 = λ pos d from to l. let is = c.minus.ensures in
+    → d.0 < c.args.eb.0 + c.saturating_sub.result + c.run_from-run.result
+    → bit c.args.closed (closed_bit c.args.reach 0 (low_field c.args.reach c.args.ea d).0) ≡ 1 = λ pos d from to l. let is = c.saturating_sub.ensures in
     run_below c.args.reach c.args.closed c.args.ea.0 c.args.eb.0 d.0 c.run_from-run.result (omega (arith, c.requires.1)) (omega (arith, c.if-eb-eq0.false)) from to pos (omega (arith, is))
     (λ k h. ap (λ (n : ℕ). bit c.args.closed (c.args.eb.0 + n - (c.args.ea.0 - (c.args.reach + 3)) + 1 + k)) (sym is) ∙ c.run_from-run.ensures.1 k h) in
-    (omega (arith, c.requires.3), λ d from l. (omega arith, closed_at (omega (arith, c.if-run-eq0.false)) d from (omega arith) (omega (arith, c.if-ea-from.true, c.minus.ensures))))
+    (omega (arith, c.requires.3), λ d from l. (omega arith, closed_at (omega (arith, c.if-run-eq0.false)) d from (omega arith) (omega (arith, c.if-ea-from.true, c.saturating_sub.ensures))))
 
 pub returns : goal.returns
 returns c =
     let closed_at : 0 < c.run_from-run.result → (d : Biased) → c.args.eb.0 ≤ d.0 → d.0 ≤ c.args.ea.0
-    → d.0 < c.args.eb.0 + c.minus.result + c.run_from-run.result
-    → bit c.args.closed (closed_bit c.args.reach 0 (low_field c.args.reach c.args.ea d).0) ≡ 1 = λ pos d from to l. let is = c.minus.ensures in
+    → d.0 < c.args.eb.0 + c.saturating_sub.result + c.run_from-run.result
+    → bit c.args.closed (closed_bit c.args.reach 0 (low_field c.args.reach c.args.ea d).0) ≡ 1 = λ pos d from to l. let is = c.saturating_sub.ensures in
     run_below c.args.reach c.args.closed c.args.ea.0 c.args.eb.0 d.0 c.run_from-run.result (omega (arith, c.requires.1)) (omega (arith, c.if-eb-eq0.false)) from to pos (omega (arith, is))
     (λ k h. ap (λ (n : ℕ). bit c.args.closed (c.args.eb.0 + n - (c.args.ea.0 - (c.args.reach + 3)) + 1 + k)) (sym is) ∙ c.run_from-run.ensures.1 k h) in (
-      omega (arith, c.minus.ensures),
+      omega (arith, c.saturating_sub.ensures),
       λ d from l.
-          let to : d.0 ≤ c.args.ea.0 = omega (arith, c.if-ea-from.false, c.minus.ensures, c.requires.3) in
+          let to : d.0 ≤ c.args.ea.0 = omega (arith, c.if-ea-from.false, c.saturating_sub.ensures, c.requires.3) in
           (to, closed_at (omega (arith, c.if-run-eq0.false)) d from to l),
     )

@@ -50,7 +50,7 @@ returns-then-some_left t c =
 pub with_bit-requires-in-Split : goal.with_bit-requires-in-Split
 with_bit-requires-in-Split t c =
     let o = subst (StepOf 3 c.narrow_job-narrow.result) c.in-Split.is c.next_step-step.ensures in
-    (c.narrow_job-narrow.ensures.0.valid, (o.0, o.1, omega (arith, c.minus.ensures)))
+    (c.narrow_job-narrow.ensures.0.valid, (o.0, o.1, omega (arith, c.saturating_sub.ensures)))
 
 pub some_left-requires-in-Split : goal.some_left-requires-in-Split
 some_left-requires-in-Split t c =
@@ -86,6 +86,6 @@ returns-else-some_left t c =
     let one = c.some_left.ensures (none_narrower J c.with_bit.result c.with_bit.ensures.0 c.first_pair-first.result is.none) in
     let other = c.some_left-in-Split.ensures (none_narrower J c.with_bit-in-Split.result c.with_bit-in-Split.ensures.0 c.first_pair-first.result is.none) in (
       (λ e. narrower_left j J law.0 (narrower_left J c.with_bit-in-Split.result c.with_bit-in-Split.ensures.0 (other.0 e))),
-      λ l. halves_left J c.in-Split.role c.in-Split.k c.in-Split.v c.minus.result o.2 c.minus.ensures c.with_bit.result c.with_bit-in-Split.result
+      λ l. halves_left J c.in-Split.role c.in-Split.k c.in-Split.v c.saturating_sub.result o.2 c.saturating_sub.ensures c.with_bit.result c.with_bit-in-Split.result
           c.with_bit.ensures.1 c.with_bit-in-Split.ensures.1 (λ t. true≢false (sym (one.1 t) ∙ c.if-some_left.false)) c.some_left-in-Split.result other (keeps_left j J law.1 l),
     )

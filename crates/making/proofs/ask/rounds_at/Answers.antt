@@ -65,8 +65,8 @@ module _ (f : ℕ) (A : pair.Aligned) (d : Direction) (u k : ℕ) (x kept : Mask
 pub returns-then-low-ne0 : goal.returns-then-low-ne0
 returns-then-low-ne0 c =
     let a = c.args in
-    let under = c.minus-under in
-    let up = c.minus-up in
+    let under = c.saturating_sub-under in
+    let up = c.saturating_sub-up in
     λ formed given. refused a.f a.aligned a.direction a.unit.0 a.rounded.0 a.x a.kept (one_over a.f a.aligned a.unit.0 a.rounded.0 given.columns)
     up.result (up_is a.unit.0 a.rounded.0 a.aligned.below under.result up.result under.ensures up.ensures)
     (λ z. c.if-low-ne0.true (c.low.ensures ∙ z))
@@ -77,7 +77,7 @@ returns-then-not-roomy c = λ formed given. absurd (false≢true (sym (not-true 
 pub returns-then-over-gt1 : goal.returns-then-over-gt1
 returns-then-over-gt1 c =
     let a = c.args in
-    λ formed given. absurd (omega (arith, c.if-over-gt1.true, c.minus-over.ensures, one_over a.f a.aligned a.unit.0 a.rounded.0 given.columns))
+    λ formed given. absurd (omega (arith, c.if-over-gt1.true, c.saturating_sub-over.ensures, one_over a.f a.aligned a.unit.0 a.rounded.0 given.columns))
 
 -- there is room
 pub overflow_add-aligned : goal.overflow_add-aligned
@@ -91,15 +91,15 @@ rounds-requires c =
     let a = c.args in
     let r = c.roomy in
     let room = r.ensures.0 (not-false r.result c.if-not-roomy.false-raw) in
-    (room, omega (arith, c.minus-down.ensures, c.if-over-gt1.false, aligned_lt a.f a.aligned room))
+    (room, omega (arith, c.saturating_sub-down.ensures, c.if-over-gt1.false, aligned_lt a.f a.aligned room))
 
 pub returns : goal.returns
 returns c =
     let a = c.args in
-    let over = c.minus-over in
-    let under = c.minus-under in
-    let up = c.minus-up in
-    let down = c.minus-down in
+    let over = c.saturating_sub-over in
+    let under = c.saturating_sub-under in
+    let up = c.saturating_sub-up in
+    let down = c.saturating_sub-down in
     let y = c.high in
     let e = down_is a.unit.0 a.rounded.0 a.aligned.below over.result under.result down.result over.ensures under.ensures down.ensures in
     λ formed given. asked a.f a.aligned a.direction a.unit.0 a.rounded.0 a.x a.kept (one_over a.f a.aligned a.unit.0 a.rounded.0 given.columns)

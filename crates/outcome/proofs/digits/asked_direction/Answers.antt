@@ -36,13 +36,13 @@ overflow_add-unit_of_kept c =
 
 pub exact-requires : goal.exact-requires
 exact-requires c =
-    omega (arith, c.minus-j.ensures, ap (λ (n : exponent.Unit). n.0) c.rounded_unit-unit_of_kept.ensures, most c.args.f c.args.aligned c.args.count c.requires.3, aligned_lt c.args.f c.args.aligned c.requires.0)
+    omega (arith, c.saturating_sub-j.ensures, ap (λ (n : exponent.Unit). n.0) c.rounded_unit-unit_of_kept.ensures, most c.args.f c.args.aligned c.args.count c.requires.3, aligned_lt c.args.f c.args.aligned c.requires.0)
 
 pub returns-then-exact : goal.returns-then-exact
 returns-then-exact c =
     let a = c.args in
     let k = c.rounded_unit-unit_of_kept in
-    let m = c.minus-j in record {
+    let m = c.saturating_sub-j in record {
       alike = λ formed. exact_alike a.f TowardZero a.direction a.unit a.aligned a.count c.requires.2 (most a.f a.aligned a.count c.requires.3)
           (λ x made digits. subst (λ (j : ℕ). x % 2 ^ j ≡ 0) (m.ensures ∙ ap (λ (n : exponent.Unit). n.0 + a.aligned.below - a.unit.0) k.ensures)
           (c.exact.ensures c.if-exact.true a.f x made));

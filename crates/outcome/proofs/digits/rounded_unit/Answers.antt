@@ -9,4 +9,4 @@ of n = record { 0 = n }
 
 pub returns : goal.returns
 unfolding of
-returns c = ap of c.minus.ensures
+returns c = ap of c.saturating_sub.ensures

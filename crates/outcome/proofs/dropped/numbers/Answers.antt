@@ -22,17 +22,17 @@ pub overflow_add-f : goal.overflow_add-f
 overflow_add-f c = omega (arith, c.requires.1)
 
 pub upper-requires : goal.upper-requires
-upper-requires c = (c.requires.2, omega (arith, c.minus-j.ensures, c.requires.3, c.requires.0))
+upper-requires c = (c.requires.2, omega (arith, c.saturating_sub-j.ensures, c.requires.3, c.requires.0))
 
 pub lower-requires : goal.lower-requires
 lower-requires c =
-    (c.requires.2, omega (arith, c.minus-j.ensures, c.requires.3, c.requires.0), rw c.minus-j.ensures (c.requires.4 c.if-dropped-eq0.false))
+    (c.requires.2, omega (arith, c.saturating_sub-j.ensures, c.requires.3, c.requires.0), rw c.saturating_sub-j.ensures (c.requires.4 c.if-dropped-eq0.false))
 
 pub returns : goal.returns
 returns c =
     let a = c.args in
     let x = c.digits-all in
-    let j = c.minus-j in
+    let j = c.saturating_sub-j in
     let inner = c.both in
     let outer = c.both-2 in record {
       only = λ k lt met. (x.ensures k lt).0 ((outer.ensures k).0 met).0;

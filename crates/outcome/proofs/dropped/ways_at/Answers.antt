@@ -26,8 +26,8 @@ pub overflow_add-f-2 : goal.overflow_add-f-2
 overflow_add-f-2 c = omega (arith, c.requires.0)
 
 pub ways-requires : goal.ways-requires
-ways-requires c = (c.requires.1, omega (arith, c.minus.ensures, c.requires.3))
+ways-requires c = (c.requires.1, omega (arith, c.saturating_sub.ensures, c.requires.3))
 
 pub returns : goal.returns
 unfolding ways_at
-returns c = rw (ne_eqb _ _ c.if-dropped-eq0.false, le-ltb _ _ c.if-count-unit.false) (c.ways.ensures ∙ ap (ways_of c.args.dropped) c.minus.ensures)
+returns c = rw (ne_eqb _ _ c.if-dropped-eq0.false, le-ltb _ _ c.if-count-unit.false) (c.ways.ensures ∙ ap (ways_of c.args.dropped) c.saturating_sub.ensures)

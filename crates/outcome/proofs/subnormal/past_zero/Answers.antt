@@ -26,7 +26,7 @@ returns-then-target-ne0 c =
     λ formed x made some serves. fixed_normal a.format a.mode a.sign a.unit a.aligned a.target (a.format.f + a.aligned.below - a.unit.0) (omega (arith, c.if-place-unit.false)) c.if-target-ne0.true x serves
 
 pub exact-requires : goal.exact-requires
-exact-requires c = omega (arith, c.minus.ensures, aligned_lt c.args.format.f c.args.aligned c.requires.1)
+exact-requires c = omega (arith, c.saturating_sub.ensures, aligned_lt c.args.format.f c.args.aligned c.requires.1)
 
 pub returns-then-not-exact : goal.returns-then-not-exact
 returns-then-not-exact c = λ formed x made some met. some
@@ -40,7 +40,7 @@ overflow_add-result-then-not-subnormal c = omega (arith, aligned_lt c.args.forma
 pub returns-then-not-subnormal : goal.returns-then-not-subnormal
 returns-then-not-subnormal c =
     let a = c.args in
-    let k = c.minus in
+    let k = c.saturating_sub in
     let exact = c.exact in
     let r = c.subnormal in
     λ formed. none_subnormal a.format c.requires.0.supported a.mode a.sign a.unit a.aligned a.target c.if-target-ne0.false (a.format.f + a.aligned.below - a.unit.0)
@@ -51,7 +51,7 @@ returns-then-not-subnormal c =
 pub returns-then-aligned : goal.returns-then-aligned
 returns-then-aligned c =
     let a = c.args in
-    let k = c.minus in
+    let k = c.saturating_sub in
     let exact = c.exact in
     let r = c.subnormal in
     λ formed. found_like a.format c.requires.0.supported a.mode a.sign a.unit a.aligned a.target c.if-target-ne0.false (a.format.f + a.aligned.below - a.unit.0)
@@ -62,7 +62,7 @@ returns-then-aligned c =
 pub returns-then-low-ne0 : goal.returns-then-low-ne0
 returns-then-low-ne0 c =
     let a = c.args in
-    let k = c.minus in
+    let k = c.saturating_sub in
     let exact = c.exact in
     let r = c.subnormal in
     λ formed. found_fraction a.format c.requires.0.supported a.mode a.sign a.unit a.aligned a.target c.if-target-ne0.false (a.format.f + a.aligned.below - a.unit.0)

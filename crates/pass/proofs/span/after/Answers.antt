@@ -21,13 +21,13 @@ returns-then-ea-ones c =
 pub returns-then-ea-ones-2 : goal.returns-then-ea-ones-2
 returns-then-ea-ones-2 c =
     let a = c.args in
-    let near = c.minus-past_far.result in
+    let near = c.saturating_sub-past_far.result in
     let t = (and-eq-true_iff (ltb a.ea.0 (a.pass.past.0 - 1) && leb 1 a.eb.0) (ltb a.eb.0 near)).0 c.if-ea-ones-2.true in
     let u = (and-eq-true_iff (ltb a.ea.0 (a.pass.past.0 - 1)) (leb 1 a.eb.0)).0 t.0 in
     let finite = ltb-true a.ea.0 (a.pass.past.0 - 1) u.0 in
     let some = leb-true 1 a.eb.0 u.1 in
     let below = ltb-true a.eb.0 near t.1 in
-    let is = c.minus-past_far.ensures in
+    let is = c.saturating_sub-past_far.ensures in
     let gap = c.far_gap.ensures.1 in
     (below, λ valid met none d from to. field_answered a.job valid a.ea a.eb d (inl (some, omega arith, omega (arith, c.requires.1))) (inl (omega arith, omega arith, omega (arith, c.requires.1))) met none)
 

@@ -12,7 +12,7 @@ sum_from-requires c = c.requires
 pub returns-then-open-eb : goal.returns-then-open-eb
 returns-then-open-eb c =
     let a = c.args in
-    let below = c.minus in
+    let below = c.saturating_sub in
     let above = ltb-true a.ea.0 below.result ((and-eq-true_iff (eqb c.open_from-open.result.0 a.eb.0) (ltb a.ea.0 below.result)).0 c.if-open-eb.true).1 in
     (c.sum_from.ensures.0, λ valid is kept d from to. c.sum_from.ensures.1 valid is 1 d a.ea from to (omega (arith, below.ensures)))
 

@@ -75,5 +75,5 @@ returns c =
       (λ valid is. record { within = omega (arith, c.span_end-end.ensures.0, c.requires.1); meets = λ l. met_at is }),
       (λ valid is none. record { low = low valid is; high = c.span_end-end.ensures.1 valid is none }),
     ) in
-    span_at (field_is c.minus.result)
-    (λ valid is d from l. sum.ensures.1 valid is 0 a.ea d (omega arith) (omega (arith, sum.ensures.0, c.if-sum_from-ea.false)) (omega (arith, c.minus.ensures)))
+    span_at (field_is c.saturating_sub.result)
+    (λ valid is d from l. sum.ensures.1 valid is 0 a.ea d (omega arith) (omega (arith, sum.ensures.0, c.if-sum_from-ea.false)) (omega (arith, c.saturating_sub.ensures)))
