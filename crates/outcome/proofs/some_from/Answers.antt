@@ -16,16 +16,6 @@ more n k h below same = go (dec_lt n k)
     go (yes l) = below l
     go (no l) = same (omega arith)
 
-pub fits-requires : goal.fits-requires
-fits-requires c = (c.requires.0, c.requires.1, c.requires.2, omega (arith, c.columns-last.ensures c.requires.1))
-
-pub returns-then-fits : goal.returns-then-fits
-returns-then-fits c =
-    λ formed valid. (
-      (λ t. let p = (c.fits.ensures formed valid).0 c.if-fits.true in record { x = p.x; made = p.made; holds = (omega (arith, p.holds.0), p.holds.1) }),
-      λ p. refl,
-    )
-
 pub loop-count-preserved : goal.loop-count-preserved
 loop-count-preserved c =
     let l = c.loop-count in

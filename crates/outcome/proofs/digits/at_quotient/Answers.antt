@@ -13,9 +13,6 @@ rounded_unit-requires c =
     let a = c.args in
     (aligned_lt a.format.f a.aligned c.requires.1, unit_short a.format a.sign a.unit c.requires.0, omega (arith, c.requires.3, (most_digits_bounds a.aligned.below a.format.f a.aligned.like).1))
 
-pub sought-requires : goal.sought-requires
-sought-requires c = (c.requires.0.supported, c.requires.0.sign_lt)
-
 pub rounds_as-requires : goal.rounds_as-requires
 rounds_as-requires c =
     let a = c.args in

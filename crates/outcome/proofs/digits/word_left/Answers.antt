@@ -1,15 +1,11 @@
 -- `outcome::digits::word_left` meets its contract: a number of so many digits has one of the two quotients that are asked. Assumes nothing.
 use mathlib.Core.Path.{sym, ◌∙◌}
-use mathlib.Core.Bool.{true≢false}
 use Prim.Native.Nat.{◌+◌}
 use native.Mathlib.Omega.{arith}
 use Rattle.outcome.proofs.Room.{unit_short, field_formed}
 use Rattle.outcome.proofs.Kept.{least_le}
 use Rattle.outcome.proofs.Counted.{no_word, sought_none}
 use Rattle.outcome.proofs.digits.word_left.Goals as goal
-
-pub returns-then-above-eq0 : goal.returns-then-above-eq0
-returns-then-above-eq0 c = λ f. absurd (true≢false f)
 
 pub least_quotient-least-requires : goal.least_quotient-least-requires
 least_quotient-least-requires c =
@@ -21,19 +17,10 @@ rounded_unit-rounded-requires c =
     let a = c.args in
     (c.requires.1, unit_short a.format a.sign a.unit c.requires.0, c.requires.3)
 
-pub sought-first-requires : goal.sought-first-requires
-sought-first-requires c = (c.requires.0.supported, c.requires.0.sign_lt)
-
-pub returns-then-is_some : goal.returns-then-is_some
-returns-then-is_some c = λ f. absurd (true≢false f)
-
 pub overflow_add-least : goal.overflow_add-least
 overflow_add-least c =
     let a = c.args in
     omega (arith, c.least_quotient-least.ensures, least_le a.below a.format.f a.count a.unit)
-
-pub sought-next-requires : goal.sought-next-requires
-sought-next-requires c = (c.requires.0.supported, c.requires.0.sign_lt)
 
 pub returns : goal.returns
 returns c =

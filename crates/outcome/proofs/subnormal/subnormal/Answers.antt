@@ -19,9 +19,6 @@ low_room q f u small columns n place wide lt =
     let b = pow_mono {i = 0 + q - u} {j = columns - 1} (omega arith) in
     omega arith
 
-pub sought-requires : goal.sought-requires
-sought-requires c = (c.requires.0.supported, c.requires.0.sign_lt)
-
 pub returns-in_default : goal.returns-in_default
 returns-in_default c =
     let a = c.args in
