@@ -9,4 +9,4 @@ use Rattle.outcome.proofs.some_from.Given as goal
 
 abbrev pub invariant-loop-count : goal.invariant-loop-count
 invariant-loop-count l =
-    (n : ℕ) → l.first ≤ n → n < l.count → Formed l.format.f l.aligned → ValidDropped l.target.dropped → Making l.format.f l.aligned (λ (x : ℕ). (size x ≡ n) × Serves l.format l.mode l.sign l.unit l.aligned l.target x) → ⊥
+    (n : ℕ) → n < l.count → l.first ≤ n → Formed l.format.f l.aligned → ValidDropped l.target.dropped → Making l.format.f l.aligned (λ (x : ℕ). (size x ≡ n) × Serves l.format l.mode l.sign l.unit l.aligned l.target x) → ⊥

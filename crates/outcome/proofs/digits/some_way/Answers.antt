@@ -1,10 +1,10 @@
 -- `outcome::digits::some_way` meets its contract. The invariant: no way that was passed has an answer. Assumes nothing.
-use mathlib.Core.Path.{◌≡◌, refl, sym, ◌∙◌, subst}
+use mathlib.Core.Path.{refl, sym, ◌∙◌, subst}
 use mathlib.Core.Bool.{false≢true}
 use mathlib.Core.Logic.{◌↔◌}
 use Prim.Native.Nat.{ℕ, ◌+◌, ◌-◌, ◌<◌}
-use native.Mathlib.Decide.{dec_lt}
 use native.Mathlib.Omega.{arith}
+use Rattle.std.proofs.Common.{below_more}
 use Rattle.format.specs.declared.Format.{Format}
 use Rattle.mask.specs.declared.Mask.{Mask}
 use Rattle.mask.specs.Mask.{Meets}
@@ -20,14 +20,6 @@ use Rattle.outcome.proofs.Ways.{ways_at_of}
 use Rattle.outcome.proofs.Counted.{InOne, in_one_sized, sized_in_one}
 use Rattle.outcome.proofs.digits.some_way.Invariants.{Keeps}
 use Rattle.outcome.proofs.digits.some_way.Goals as goal
-
--- below one more is below, or it
-more : (n k : ℕ) → n < k + 1 → (n < k → ⊥) → (n ≡ k → ⊥) → ⊥
-more n k h below same = go (dec_lt n k)
-  where
-    go : Dec (n < k) → ⊥
-    go (yes l) = below l
-    go (no l) = same (omega arith)
 
 -- the numbers of a way, by its mask
 by_mask : (F : Format) (u : exponent.Unit) (A : pair.Aligned) (D : Dropped) (valid : ValidDropped D) (count : ℕ) (some : 0 < count) (Q : ℕ → Type 0)
@@ -81,11 +73,10 @@ loop-way-preserved c =
     let n = c.columns-last in
     let x = c.numbers-x in
     let w = c.loop-way.way in
-    λ t h formed valid some m. more t w h (λ below. c.loop-way.invariant t below formed valid some m)
-    (λ e.
+    below_more _ _ c.loop-way.invariant
+    (λ formed valid some m.
     let of : OfWay (columns_of a.format.f a.aligned) a.count a.dropped (a.count - (a.format.f + 1)) w x.result = subst (λ (k : ℕ). OfWay k a.count a.dropped (a.count - (a.format.f + 1)) w x.result) (n.ensures c.requires.0) (x.ensures.exact valid) in
-    let o = subst (λ (k : ℕ). InOne a.format a.aligned.below a.unit a.dropped valid a.count some (Keeps a.format a.direction a.unit a.aligned a.quotient a.fraction) k m.x) e m.holds in
-    let p = (by_mask a.format a.unit a.aligned a.dropped valid a.count some (Keeps a.format a.direction a.unit a.aligned a.quotient a.fraction) w x.result of m.x m.made).0 o in
+    let p = (by_mask a.format a.unit a.aligned a.dropped valid a.count some (Keeps a.format a.direction a.unit a.aligned a.quotient a.fraction) w x.result of m.x m.made).0 m.holds in
     false≢true (sym c.if-rounds_to.false ∙ (c.rounds_to.ensures formed).1 (record { x = m.x; made = m.made; holds = (p.0, p.1.0, p.1.1) })))
 
 pub returns : goal.returns
