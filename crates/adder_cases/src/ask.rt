@@ -1,204 +1,145 @@
 // A case of each kind: the function is asked, and its reply held against the one expected.
-use crate::line::{ask_result, ask_row, put_reply, put_row};
-use crate::same::{same_reply, same_row};
+use crate::line::{ADD, Carried, Question, Rounded, SUBTRACT};
 use crate::words::Sized;
 use adder::carry_row::carry_row;
 use adder::result::rounded_result;
 use adder::{Reply, Row, RowReply};
 use format::Format;
 use std::io;
-use tally::{Count, count_line};
+use tally::Cases;
 
-const ADD: u64 = 0;
-
-const SUBTRACT: u64 = 1;
-
-// A rounded result of a format whose words have `digits` hexadecimal digits.
+// A rounded result.
 fn result(
-    rt: &impl Print,
-    count: Count,
-    format: Format,
-    operation: u64,
+    cases: &mut Cases<'_, impl Print>,
+    question: Question,
     mode: u64,
-    a: u64,
-    b: u64,
-    digits: usize,
     expected: Reply,
-) -> io::Result<Count> {
-    ask_result(rt, format, operation, mode, a, b, digits)?;
-    let reply = rounded_result(format, operation, mode, a, b);
-    put_reply(rt, reply, digits)?;
-    count_line(rt, count, same_reply(reply, expected))
+) -> io::Result<()> {
+    let Question {
+        sized,
+        operation,
+        a,
+        b,
+    } = question;
+    let reply = rounded_result(sized.format, operation, mode, a, b);
+    let digits = sized.digits;
+    print!(cases.rt; "{question} mode {mode} = {}", Rounded { reply, digits })?;
+    cases.end_line(reply == expected)
 }
 
+// A carry row.
 fn row(
-    rt: &impl Print,
-    count: Count,
-    format: Format,
-    operation: u64,
-    a: u64,
-    b: u64,
-    digits: usize,
+    cases: &mut Cases<'_, impl Print>,
+    question: Question,
     expected: RowReply,
-) -> io::Result<Count> {
-    ask_row(rt, format, operation, a, b, digits)?;
-    let reply = carry_row(format, operation, a, b);
-    put_row(rt, reply, digits)?;
-    count_line(rt, count, same_row(reply, expected))
-}
-
-// The eight-bit format of source document 000.
-fn eight() -> Format {
-    Format { w: 3, f: 4 }
-}
-
-pub(crate) fn eight_sum(
-    rt: &impl Print,
-    count: Count,
-    mode: u64,
-    a: u64,
-    b: u64,
-    c: u64,
-) -> io::Result<Count> {
-    result(rt, count, eight(), ADD, mode, a, b, 2, Reply::Word(c))
-}
-
-pub(crate) fn eight_difference(
-    rt: &impl Print,
-    count: Count,
-    mode: u64,
-    a: u64,
-    b: u64,
-    c: u64,
-) -> io::Result<Count> {
-    result(rt, count, eight(), SUBTRACT, mode, a, b, 2, Reply::Word(c))
-}
-
-pub(crate) fn eight_sum_row(
-    rt: &impl Print,
-    count: Count,
-    a: u64,
-    b: u64,
-    carries: u64,
-) -> io::Result<Count> {
-    row(
-        rt,
-        count,
-        eight(),
-        ADD,
+) -> io::Result<()> {
+    let Question {
+        sized,
+        operation,
         a,
         b,
-        2,
-        RowReply::Row(Row::Carries(carries)),
-    )
+    } = question;
+    let reply = carry_row(sized.format, operation, a, b);
+    let digits = sized.digits;
+    print!(cases.rt; "{question} row {}", Carried { reply, digits })?;
+    cases.end_line(reply == expected)
 }
 
-pub(crate) fn eight_difference_row(
-    rt: &impl Print,
-    count: Count,
-    a: u64,
-    b: u64,
-    carries: u64,
-) -> io::Result<Count> {
-    row(
-        rt,
-        count,
-        eight(),
-        SUBTRACT,
+fn adding(sized: Sized, a: u64, b: u64) -> Question {
+    Question {
+        sized,
+        operation: ADD,
         a,
         b,
-        2,
-        RowReply::Row(Row::Carries(carries)),
-    )
+    }
 }
 
-pub(crate) fn eight_difference_no_row(
-    rt: &impl Print,
-    count: Count,
-    a: u64,
-    b: u64,
-) -> io::Result<Count> {
-    row(
-        rt,
-        count,
-        eight(),
-        SUBTRACT,
+fn subtracting(sized: Sized, a: u64, b: u64) -> Question {
+    Question {
+        sized,
+        operation: SUBTRACT,
         a,
         b,
-        2,
-        RowReply::Row(Row::NoRow),
-    )
+    }
 }
 
 pub(crate) fn sum(
-    rt: &impl Print,
-    count: Count,
+    cases: &mut Cases<'_, impl Print>,
     z: Sized,
     mode: u64,
     a: u64,
     b: u64,
     c: u64,
-) -> io::Result<Count> {
-    result(
-        rt,
-        count,
-        z.format,
-        ADD,
-        mode,
-        a,
-        b,
-        z.digits,
-        Reply::Word(c),
-    )
+) -> io::Result<()> {
+    result(cases, adding(z, a, b), mode, Reply::Word(c))
 }
 
 pub(crate) fn difference(
-    rt: &impl Print,
-    count: Count,
+    cases: &mut Cases<'_, impl Print>,
     z: Sized,
     mode: u64,
     a: u64,
     b: u64,
     c: u64,
-) -> io::Result<Count> {
-    result(
-        rt,
-        count,
-        z.format,
-        SUBTRACT,
-        mode,
-        a,
-        b,
-        z.digits,
-        Reply::Word(c),
+) -> io::Result<()> {
+    result(cases, subtracting(z, a, b), mode, Reply::Word(c))
+}
+
+pub(crate) fn sum_row(
+    cases: &mut Cases<'_, impl Print>,
+    z: Sized,
+    a: u64,
+    b: u64,
+    carries: u64,
+) -> io::Result<()> {
+    row(cases, adding(z, a, b), RowReply::Row(Row::Carries(carries)))
+}
+
+pub(crate) fn difference_row(
+    cases: &mut Cases<'_, impl Print>,
+    z: Sized,
+    a: u64,
+    b: u64,
+    carries: u64,
+) -> io::Result<()> {
+    row(
+        cases,
+        subtracting(z, a, b),
+        RowReply::Row(Row::Carries(carries)),
     )
 }
 
-// 0 + 0 in a format of these widths: accepted.
-pub(crate) fn accepted(rt: &impl Print, count: Count, w: u64, f: u64) -> io::Result<Count> {
-    let format = Format { w, f };
-    let one = result(rt, count, format, ADD, 0, 0, 0, 8, Reply::Word(0))?;
-    row(
-        rt,
-        one,
-        format,
-        ADD,
-        0,
-        0,
-        8,
-        RowReply::Row(Row::Carries(0)),
-    )
+pub(crate) fn difference_no_row(
+    cases: &mut Cases<'_, impl Print>,
+    z: Sized,
+    a: u64,
+    b: u64,
+) -> io::Result<()> {
+    row(cases, subtracting(z, a, b), RowReply::Row(Row::NoRow))
+}
+
+// 0 + 0 in a format of these widths.
+fn zeros(w: u64, f: u64) -> Question {
+    let sized = Sized {
+        format: Format { w, f },
+        digits: 8,
+    };
+    adding(sized, 0, 0)
+}
+
+// Zeros in such a format: accepted.
+pub(crate) fn accepted(cases: &mut Cases<'_, impl Print>, w: u64, f: u64) -> io::Result<()> {
+    result(cases, zeros(w, f), 0, Reply::Word(0))?;
+    row(cases, zeros(w, f), RowReply::Row(Row::Carries(0)))
 }
 
 // The same, refused with this number.
 pub(crate) fn refused(
-    rt: &impl Print,
-    count: Count,
+    cases: &mut Cases<'_, impl Print>,
     w: u64,
     f: u64,
     number: u64,
-) -> io::Result<Count> {
-    let format = Format { w, f };
-    let one = result(rt, count, format, ADD, 0, 0, 0, 8, Reply::Refused(number))?;
-    row(rt, one, format, ADD, 0, 0, 8, RowReply::Refused(number))
+) -> io::Result<()> {
+    result(cases, zeros(w, f), 0, Reply::Refused(number))?;
+    row(cases, zeros(w, f), RowReply::Refused(number))
 }

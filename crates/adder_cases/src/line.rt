@@ -1,70 +1,64 @@
-// A line for each case: what was asked, what came, and whether that is what was expected.
+// A line for each case: what is asked, and what comes.
+use crate::words::Sized;
 use adder::{Reply, Row, RowReply};
-use format::Format;
-use std::io;
+use std::fmt;
 
-// The format, and the operands with the operation between them.
-fn put_operands(
-    rt: &impl Print,
-    format: Format,
-    operation: u64,
-    a: u64,
-    b: u64,
-    digits: usize,
-) -> io::Result<()> {
-    let sign = if operation == 0 { "+" } else { "-" };
-    print!(rt;
-        "w {} f {}: {a:0digits$x} {sign} {b:0digits$x}",
-        format.w, format.f
-    )
+pub const ADD: u64 = 0;
+
+pub const SUBTRACT: u64 = 1;
+
+// The operands in a format, with the operation between them.
+#[derive(Clone, Copy)]
+pub struct Question {
+    pub sized: Sized,
+    pub operation: u64,
+    pub a: u64,
+    pub b: u64,
 }
 
-pub(crate) fn ask_result(
-    rt: &impl Print,
-    format: Format,
-    operation: u64,
-    mode: u64,
-    a: u64,
-    b: u64,
-    digits: usize,
-) -> io::Result<()> {
-    put_operands(rt, format, operation, a, b, digits)?;
-    print!(rt; " mode {mode} = ")
-}
-
-pub(crate) fn ask_row(
-    rt: &impl Print,
-    format: Format,
-    operation: u64,
-    a: u64,
-    b: u64,
-    digits: usize,
-) -> io::Result<()> {
-    put_operands(rt, format, operation, a, b, digits)?;
-    print!(rt; " row ")
-}
-
-fn put_refused(rt: &impl Print, number: u64) -> io::Result<()> {
-    print!(rt; "refused {number}")
-}
-
-pub(crate) fn put_reply(rt: &impl Print, reply: Reply, digits: usize) -> io::Result<()> {
-    match reply {
-        Reply::Word(c) => print!(rt; "{c:0digits$x}"),
-        Reply::Refused(number) => put_refused(rt, number),
+impl fmt::Display for Question {
+    fn fmt<W: fmt::Write>(&self, f: &mut fmt::Formatter<W>) -> fmt::Result {
+        let Sized { format, digits } = self.sized;
+        let sign = if self.operation == ADD { "+" } else { "-" };
+        write!(
+            f,
+            "w {} f {}: {:0digits$x} {sign} {:0digits$x}",
+            format.w, format.f, self.a, self.b
+        )
     }
 }
 
-fn put_carries(rt: &impl Print, row: Row, digits: usize) -> io::Result<()> {
-    match row {
-        Row::Carries(carries) => print!(rt; "{carries:0digits$x}"),
-        Row::NoRow => print!(rt; "-"),
+// A rounded result in so many digits, or the number of the refusal.
+#[derive(Clone, Copy)]
+pub struct Rounded {
+    pub reply: Reply,
+    pub digits: usize,
+}
+
+impl fmt::Display for Rounded {
+    fn fmt<W: fmt::Write>(&self, f: &mut fmt::Formatter<W>) -> fmt::Result {
+        let digits = self.digits;
+        match self.reply {
+            Reply::Word(c) => write!(f, "{c:0digits$x}"),
+            Reply::Refused(number) => write!(f, "refused {number}"),
+        }
     }
 }
 
-pub(crate) fn put_row(rt: &impl Print, reply: RowReply, digits: usize) -> io::Result<()> {
-    match reply {
-        RowReply::Row(row) => put_carries(rt, row, digits),
-        RowReply::Refused(number) => put_refused(rt, number),
+// The same of a carry row.
+#[derive(Clone, Copy)]
+pub struct Carried {
+    pub reply: RowReply,
+    pub digits: usize,
+}
+
+impl fmt::Display for Carried {
+    fn fmt<W: fmt::Write>(&self, f: &mut fmt::Formatter<W>) -> fmt::Result {
+        let digits = self.digits;
+        match self.reply {
+            RowReply::Row(Row::Carries(carries)) => write!(f, "{carries:0digits$x}"),
+            RowReply::Row(Row::NoRow) => write!(f, "-"),
+            RowReply::Refused(number) => write!(f, "refused {number}"),
+        }
     }
 }

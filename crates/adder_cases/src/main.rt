@@ -5,27 +5,21 @@
 mod ask;
 mod document;
 mod line;
-mod same;
 mod vectors;
 mod words;
 
-use crate::words::Words;
+use crate::words::{DOUBLE, SINGLE, WIDER};
 use std::io;
-use tally::Count;
-
-// The vectors in one format.
-fn vectors_of(rt: &impl Print, count: Count, words: Words) -> io::Result<Count> {
-    let published = vectors::published(rt, count, words)?;
-    vectors::built(rt, published, words)
-}
+use tally::Cases;
 
 fn main(rt: HostRuntime) -> io::Result<()> {
-    let none = Count { lines: 0, wrong: 0 };
-    let document = document::eight_bit_cases(&rt, none)?;
-    let limits = document::limits(&rt, document)?;
-    let eight = vectors::eight_bit(&rt, limits)?;
-    let single = vectors_of(&rt, eight, words::single())?;
-    let wider = vectors_of(&rt, single, words::wider())?;
-    let double = vectors_of(&rt, wider, words::double())?;
-    tally::put_count(&rt, double)
+    let mut cases = Cases::new(&rt);
+    document::eight_bit_cases(&mut cases)?;
+    document::limits(&mut cases)?;
+    vectors::eight_bit(&mut cases)?;
+    for words in [SINGLE, WIDER, DOUBLE] {
+        vectors::published(&mut cases, words)?;
+        vectors::built(&mut cases, words)?;
+    }
+    cases.put_count()
 }

@@ -3,8 +3,9 @@ ghost use Rattle.std.specs.Prelude.{◌≡◌, ◌%◌, ◌<◌, nat_lt};
 
 use adder::Reply;
 use adder::result::rounded_result;
-use bits::power;
+use bits::{minus, power};
 use format::Format;
+use std::fmt;
 use word::pack::word_of;
 
 // The precisions in which the language adds.
@@ -14,18 +15,22 @@ pub enum Precision {
     Double,
 }
 
-pub(crate) fn format_of(precision: Precision) -> Format {
-    match precision {
-        Precision::Single => Format { w: 8, f: 23 },
-        Precision::Double => Format { w: 11, f: 52 },
+impl Precision {
+    pub(crate) fn format(self) -> Format {
+        match self {
+            Precision::Single => Format { w: 8, f: 23 },
+            Precision::Double => Format { w: 11, f: 52 },
+        }
     }
 }
 
-// A sum of the language's own; the pattern of its NaN is not fixed.
-#[derive(Clone, Copy)]
-pub enum Sum {
-    Word(u64),
-    Nan,
+impl fmt::Display for Precision {
+    fn fmt<W: fmt::Write>(&self, f: &mut fmt::Formatter<W>) -> fmt::Result {
+        f.write_str(match self {
+            Precision::Single => "single",
+            Precision::Double => "double",
+        })
+    }
 }
 
 // What a comparison found.
@@ -44,47 +49,35 @@ fn is_nan(x: u64, sign: u64, infinity: u64) -> bool
     infinity < x % sign
 }
 
-fn wide(x: u32) -> u64
-    ensures { result ≡ x }
-{
-    x as u64
-}
-
-// The sum of the language's own. A NaN's pattern is no float here, so it is told apart before.
-fn single_sum(a: u32, b: u32) -> Sum {
-    if is_nan(wide(a), 0x80000000, 0x7F800000) {
-        return Sum::Nan;
+// The sum of the language's own, if it is no NaN, whose pattern is not fixed. A NaN's pattern is no float here, so it is told apart before.
+fn single_sum(a: u32, b: u32) -> Option<u64> {
+    if is_nan(u64::from(a), 0x80000000, 0x7F800000) {
+        return None;
     }
-    if is_nan(wide(b), 0x80000000, 0x7F800000) {
-        return Sum::Nan;
+    if is_nan(u64::from(b), 0x80000000, 0x7F800000) {
+        return None;
     }
     let c = f32::from_bits(a) + f32::from_bits(b);
     if c == c {
-        let bits = f32::to_bits(c);
-        Sum::Word(wide(bits))
+        Some(u64::from(c.to_bits()))
     } else {
-        Sum::Nan
+        None
     }
 }
 
 // The same of f64.
-fn double_sum(a: u64, b: u64) -> Sum {
+fn double_sum(a: u64, b: u64) -> Option<u64> {
     if is_nan(a, 0x8000000000000000, 0x7FF0000000000000) {
-        return Sum::Nan;
+        return None;
     }
     if is_nan(b, 0x8000000000000000, 0x7FF0000000000000) {
-        return Sum::Nan;
+        return None;
     }
     let c = f64::from_bits(a) + f64::from_bits(b);
-    if c == c {
-        let bits = f64::to_bits(c);
-        Sum::Word(bits)
-    } else {
-        Sum::Nan
-    }
+    if c == c { Some(c.to_bits()) } else { None }
 }
 
-fn native_sum(precision: Precision, a: u64, b: u64) -> Sum {
+fn native_sum(precision: Precision, a: u64, b: u64) -> Option<u64> {
     match precision {
         Precision::Single => single_sum((a % 4294967296) as u32, (b % 4294967296) as u32),
         Precision::Double => double_sum(a, b),
@@ -96,35 +89,20 @@ fn nan(format: Format) -> u64 {
     word_of(
         format,
         0,
-        power(format.w).saturating_sub(1),
-        power(format.f.saturating_sub(1)),
+        minus(power(format.w), 1),
+        power(minus(format.f, 1)),
     )
-}
-
-fn verdict_of(c: u64, native: Sum, nan: u64) -> Verdict {
-    match native {
-        Sum::Word(d) => {
-            if c == d {
-                Verdict::Equal
-            } else {
-                Verdict::Unlike
-            }
-        }
-        Sum::Nan => {
-            if c == nan {
-                Verdict::BothNan
-            } else {
-                Verdict::Unlike
-            }
-        }
-    }
 }
 
 // Both sums of two words.
 pub(crate) fn compared(precision: Precision, a: u64, b: u64) -> Verdict {
-    let format = format_of(precision);
-    match rounded_result(format, 0, 0, a, b) {
-        Reply::Word(c) => verdict_of(c, native_sum(precision, a, b), nan(format)),
-        Reply::Refused(_) => Verdict::Unlike,
+    let format = precision.format();
+    let Reply::Word(c) = rounded_result(format, 0, 0, a, b) else {
+        return Verdict::Unlike;
+    };
+    match native_sum(precision, a, b) {
+        Some(d) if c == d => Verdict::Equal,
+        None if c == nan(format) => Verdict::BothNan,
+        _ => Verdict::Unlike,
     }
 }

@@ -1,4 +1,6 @@
 -- Demand 3, undivided, of every reply that the promise allows. Assumes nothing.
+use Rattle.format.specs.Cause.{Check, clear}
+use Rattle.format.proofs.Laws.{err_ok, err_same}
 use Rattle.std.specs.Prelude.{Result, Ok, Err}
 use Rattle.format.specs.declared.cause.Cause.{Cause}
 use mathlib.Core.Path.{◌≡◌, refl, sym, ap, ap₂, ◌∙◌}
@@ -49,10 +51,10 @@ demand_3 j r1 r2 h p q = record {
   every_case = reached j r1 r2 h;
 }
   where
-    taken : request_cause j r1 r2 ≡ 0
+    taken : request_cause j r1 r2 ≡ clear
     taken = (request_none j r1 r2).1 h
 
     said : (p : Result Case Cause) → Replied j r1 r2 p → (p ≡ Err cause.NoCase) ⊎ ((x : Case) × (p ≡ Ok x) × Best j r1 r2 x)
     said (Ok x) q = inr (x, refl, chosen_best j r1 r2 x q.1)
-    said (Err k) (inl q) = absurd (omega (arith, q.0, taken))
+    said (Err k) (inl q) = absurd (err_ok (sym q ∙ taken))
     said (Err k) (inr q) = inl (ap Err q.1)

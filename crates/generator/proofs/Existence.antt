@@ -1,5 +1,6 @@
 -- The promise can be kept: every job has a reply to every two random words. Whether two words fit is decidable, and a format has finitely
 -- many. With `reply_unique`, the promise is a function. Assumes nothing.
+use Rattle.format.specs.Cause.{Check, clear}
 use Rattle.generator.specs.declared.Case.{Case}
 use Rattle.std.specs.Prelude.{Result, Ok, Err}
 use Rattle.format.specs.declared.cause.Cause.{Cause}
@@ -45,15 +46,15 @@ module _ (j : Job) (ok : Supported j.setting.format) where
 pub reply_exists : (j : Job) (r1 r2 : ℕ) → (p : Result Case Cause) × Replied j r1 r2 p
 reply_exists j r1 r2 = go (request_cause j r1 r2) refl
   where
-    taken : Request j r1 r2 → request_cause j r1 r2 ≡ 0
+    taken : Request j r1 r2 → request_cause j r1 r2 ≡ clear
         → ((a : ℕ) × (b : ℕ) × ClosestPair (Fitting j) r1 r2 a b) ⊎ ((a b : ℕ) → Fitting j a b → ⊥)
         → (p : Result Case Cause) × Replied j r1 r2 p
     taken h e (inl w) = (Ok (case_of j w.0 w.1), (e, case_chosen j r1 r2 w.0 w.1 w.2))
     taken h e (inr none) = (Err cause.NoCase, inr (record { taken = e; none = λ a b c f. none a b (c, f) }, refl))
 
-    go : (k : ℕ) → request_cause j r1 r2 ≡ k → (p : Result Case Cause) × Replied j r1 r2 p
-    go zero e =
+    go : (k : Check) → request_cause j r1 r2 ≡ k → (p : Result Case Cause) × Replied j r1 r2 p
+    go (Ok u) e =
         let h = (request_none j r1 r2).0 e in
         taken h e
         (pair_or_none (Fitting j) (fitting_decided j h.valid.setting.format) (word_bits j.setting.format) (λ a b m. (m.1.right.a_word, m.1.right.b_word)) r1 r2 h.first_word h.second_word)
-    go (suc k) e = (Err (request_cause j r1 r2), inl (omega arith, refl))
+    go (Err k) e = (Err k, inl e)

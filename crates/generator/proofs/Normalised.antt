@@ -1,6 +1,9 @@
 -- A job that is taken has the replies of the same with g taken as 0 where no dropped bit is fixed (document 02, W-206), and no others: the
 -- same cases fit.
 -- Assumes nothing.
+use Rattle.format.specs.Cause.{Check, clear}
+use Rattle.format.proofs.Laws.{err_ok, err_same}
+use mathlib.Core.Path.{sym}
 use Rattle.std.specs.Prelude.{Result, Ok, Err}
 use Rattle.format.specs.declared.cause.Cause.{Cause}
 use mathlib.Core.Path.{◌≡◌, refl, ap, ◌∙◌}
@@ -28,12 +31,12 @@ module _ (j k : Job) (e : j.setting ≡ k.setting) (same : (a b c : ℕ) → Fit
         closest = record { member = (x.c, fits); least = λ a b m. h.closest.least a b (m.0, (same a b m.0).1 m.1) };
       }
 
-  same_replied : request_cause j r1 r2 ≡ 0 → request_cause k r1 r2 ≡ 0 → (r : Result Case Cause) → Replied j r1 r2 r → Replied k r1 r2 r
+  same_replied : request_cause j r1 r2 ≡ clear → request_cause k r1 r2 ≡ clear → (r : Result Case Cause) → Replied j r1 r2 r → Replied k r1 r2 r
   same_replied ok taken (Ok x) p = (taken, same_chosen x p.1)
-  same_replied ok taken (Err n) (inl p) = absurd (omega (arith, ok, p.0))
+  same_replied ok taken (Err n) (inl p) = absurd (err_ok (sym p ∙ ok))
   same_replied ok taken (Err n) (inr p) = inr (record { taken = taken; none = λ a b c f. p.0.none a b c ((same a b c).1 f) }, p.1)
 
-pub normalised_replied : (j : Job) (r1 r2 : ℕ) (r : Result Case Cause) → request_cause j r1 r2 ≡ 0 → Replied j r1 r2 r ↔ Replied (normalised_job j) r1 r2 r
+pub normalised_replied : (j : Job) (r1 r2 : ℕ) (r : Result Case Cause) → request_cause j r1 r2 ≡ clear → Replied j r1 r2 r ↔ Replied (normalised_job j) r1 r2 r
 normalised_replied j r1 r2 r ok =
     let taken = (request_none (normalised_job j) r1 r2).1 (normalised_request j r1 r2 ((request_none j r1 r2).0 ok)) in (
       same_replied j (normalised_job j) refl (normalised_fits j) r1 r2 ok taken r,

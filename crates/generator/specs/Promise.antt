@@ -1,9 +1,10 @@
 -- The promise of the case generator: the reply to a job and two random words, by cases (document 01, "Masks and choice", "Causes and
 -- replies"). `Fits` tells a fitting case by sums, and no search stands in it. Assumes nothing.
-use Rattle.std.specs.Prelude.{None, Result, Ok, Err}
+use Rattle.std.specs.Prelude.{Result, Ok, Err}
 use Rattle.format.specs.declared.cause.Cause.{Cause}
 use Rattle.std.specs.Prelude.{◌≡◌, ◌⊎◌, ℕ, ◌<◌}
 use Rattle.format.specs.declared.cause.Cause.TheVariants as cause
+use Rattle.format.specs.Cause.{clear}
 use Rattle.choice.specs.Choice.{ClosestPair}
 use Rattle.job.specs.declared.Job.{Job}
 use Rattle.job.specs.Job.{request_cause}
@@ -23,10 +24,10 @@ pub record Chosen (j : Job) (r1 r2 : ℕ) (x : Case) : Type 0 where
 
 -- no cause stands, and no three words fit
 pub record None (j : Job) (r1 r2 : ℕ) : Type 0 where
-  pub taken : request_cause j r1 r2 ≡ 0
+  pub taken : request_cause j r1 r2 ≡ clear
   pub none : (a b c : ℕ) → Fits j a b c → ⊥
 
--- a found case is the chosen one of a job that is taken; a number is that of the first cause, or 7 where no case fits
+-- a found case is the chosen one of a job that is taken; a refusal is the first cause, or 7 where no case fits
 abbrev pub Replied : Job → ℕ → ℕ → Result Case Cause → Type 0
-Replied j r1 r2 (Ok x) = (request_cause j r1 r2 ≡ 0) × Chosen j r1 r2 x
-Replied j r1 r2 (Err k) = ((0 < request_cause j r1 r2) × (k ≡ request_cause j r1 r2)) ⊎ (None j r1 r2 × (k ≡ cause.NoCase))
+Replied j r1 r2 (Ok x) = (request_cause j r1 r2 ≡ clear) × Chosen j r1 r2 x
+Replied j r1 r2 (Err k) = (request_cause j r1 r2 ≡ Err k) ⊎ (None j r1 r2 × (k ≡ cause.NoCase))

@@ -9,25 +9,17 @@ ghost use Rattle.generator.specs.Promise.{case_of, Replied};
 
 use adder::carry_row::carry_row;
 use adder::result::rounded_result;
-use adder::{Row, RowReply};
 use format::Cause;
 use job::{Job, request_cause};
-use search::{Choice, choose};
+use search::choose;
 
-// Operands, their rounded result and their carry row.
+// Operands, their rounded result and their carry row; there is none where an operand is infinite or a NaN.
 #[derive(Clone, Copy)]
 pub struct Case {
     pub a: u64,
     pub b: u64,
     pub c: u64,
-    pub row: Row,
-}
-
-// What is said of a job: its chosen case, or the number of the refusal.
-#[derive(Clone, Copy)]
-pub enum Reply {
-    Found(Case),
-    Refused(u64),
+    pub row: Option<u64>,
 }
 
 // The rounded result of a and b.
@@ -42,19 +34,19 @@ fn result_of(job: Job, a: u64, b: u64) -> u64
         a,
         b,
     ) {
-        adder::Reply::Word(word) => word,
-        adder::Reply::Refused(_) => 0,
+        Ok(word) => word,
+        Err(_) => 0,
     }
 }
 
 // The carry row of a and b.
-fn row_of(job: Job, a: u64, b: u64) -> Row
+fn row_of(job: Job, a: u64, b: u64) -> Option<u64>
     requires { Request job a b }
     ensures { result ≡ row_of job.setting.format job.setting.operation a b }
 {
     match carry_row(job.setting.format, job.setting.operation, a, b) {
-        RowReply::Row(row) => row,
-        RowReply::Refused(_) => Row::NoRow,
+        Ok(row) => row,
+        Err(_) => None,
     }
 }
 
@@ -71,16 +63,13 @@ fn case_of(job: Job, a: u64, b: u64) -> Case
     }
 }
 
-// The reply to a job and two random words.
-pub fn generate(job: Job, r1: u64, r2: u64) -> Reply
+// The reply to a job and two random words: its chosen case, or the refusal.
+pub fn generate(job: Job, r1: u64, r2: u64) -> Result<Case, Cause>
     ensures { Replied job r1 r2 result }
 {
-    let refusal = request_cause(job, r1, r2);
-    if refusal != 0 {
-        return Reply::Refused(refusal);
-    }
+    request_cause(job, r1, r2)?;
     match choose(job, r1, r2) {
-        Choice::Operands(pair) => Reply::Found(case_of(job, pair.a, pair.b)),
-        Choice::Nothing => Reply::Refused(Cause::NoCase),
+        Some(pair) => Ok(case_of(job, pair.a, pair.b)),
+        None => Err(Cause::NoCase),
     }
 }

@@ -5,7 +5,7 @@ use crate::jobs::{asked, dropping, found, free, mask, numbers};
 use format::Format;
 use job::words::masked_job;
 use std::io;
-use tally::Count;
+use tally::Cases;
 
 const SUBTRACT: u64 = 1;
 
@@ -24,65 +24,56 @@ struct Words {
 
 // A line: c is 1 where the difference is rounded up, else the number before it.
 fn line(
-    rt: &impl Print,
-    count: Count,
+    cases: &mut Cases<'_, impl Print>,
     words: Words,
     mode: u64,
     bits: u64,
     b: u64,
     up: bool,
-) -> io::Result<Count> {
+) -> io::Result<()> {
     let setting = numbers(words.format.w, words.format.f, SUBTRACT, mode);
     let one = mask(words.all, words.one);
     let near = mask(words.all / 4 * 4, b / 4 * 4);
     let job = masked_job(setting, one, near, free(), free());
     let c = if up { words.one } else { words.down };
     let expected = found(words.one, b, c, words.borrows);
-    asked(rt, count, dropping(job, 8, 0x1FF, bits), 0, 0, expected)
+    asked(cases, dropping(job, 8, 0x1FF, bits), 0, 0, expected)
 }
 
 // The tie, the number after it and the one before it: 1 has the even significand of the two that a tie lies between.
-fn near(rt: &impl Print, count: Count, words: Words, mode: u64) -> io::Result<Count> {
+fn near(cases: &mut Cases<'_, impl Print>, words: Words, mode: u64) -> io::Result<()> {
     let up = mode == 2;
     let nearest = (mode == 0) | (mode == 4);
-    let tie = line(rt, count, words, mode, 0x100, words.quarter, up | nearest)?;
-    let less = line(rt, tie, words, mode, 0x0FF, words.quarter | 1, up)?;
-    line(rt, less, words, mode, 0x101, words.before, up | nearest)
+    line(cases, words, mode, 0x100, words.quarter, up | nearest)?;
+    line(cases, words, mode, 0x0FF, words.quarter | 1, up)?;
+    line(cases, words, mode, 0x101, words.before, up | nearest)
 }
 
-fn every_mode(rt: &impl Print, count: Count, words: Words) -> io::Result<Count> {
-    let one = near(rt, count, words, 0)?;
-    let two = near(rt, one, words, 1)?;
-    let three = near(rt, two, words, 2)?;
-    let four = near(rt, three, words, 3)?;
-    near(rt, four, words, 4)
-}
+const SINGLE: Words = Words {
+    format: Format { w: 8, f: 23 },
+    all: 0xFFFFFFFF,
+    one: 0x3F800000,
+    down: 0x3F7FFFFF,
+    quarter: 0x33000000,
+    before: 0x32FFFFFC,
+    borrows: 0x7FFFFF,
+};
 
-fn single() -> Words {
-    Words {
-        format: Format { w: 8, f: 23 },
-        all: 0xFFFFFFFF,
-        one: 0x3F800000,
-        down: 0x3F7FFFFF,
-        quarter: 0x33000000,
-        before: 0x32FFFFFC,
-        borrows: 0x7FFFFF,
+const DOUBLE: Words = Words {
+    format: Format { w: 11, f: 52 },
+    all: 0xFFFFFFFFFFFFFFFF,
+    one: 0x3FF0000000000000,
+    down: 0x3FEFFFFFFFFFFFFF,
+    quarter: 0x3C90000000000000,
+    before: 0x3C8FFFFFFFFFFFFC,
+    borrows: 0xFFFFFFFFFFFFF,
+};
+
+pub(crate) fn ties(cases: &mut Cases<'_, impl Print>) -> io::Result<()> {
+    for words in [SINGLE, DOUBLE] {
+        for mode in 0..5 {
+            near(cases, words, mode)?;
+        }
     }
-}
-
-fn double() -> Words {
-    Words {
-        format: Format { w: 11, f: 52 },
-        all: 0xFFFFFFFFFFFFFFFF,
-        one: 0x3FF0000000000000,
-        down: 0x3FEFFFFFFFFFFFFF,
-        quarter: 0x3C90000000000000,
-        before: 0x3C8FFFFFFFFFFFFC,
-        borrows: 0xFFFFFFFFFFFFF,
-    }
-}
-
-pub(crate) fn ties(rt: &impl Print, count: Count) -> io::Result<Count> {
-    let one = every_mode(rt, count, single())?;
-    every_mode(rt, one, double())
+    Ok(())
 }

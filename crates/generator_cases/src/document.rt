@@ -1,94 +1,95 @@
 // The cases of document 01, "Cases, in hexadecimal", and its causes 1 to 6; of document 02 mode 4 (W-201), the widths of W-202, which mask
 // is malformed (W-203, W-206), and the borrows of equal exponents (W-205).
 use crate::jobs::{
-    adding, asked, both_words, dropping, eight, found, free, mask, none, numbers, open,
+    adding, asked, both_words, dropping, eight, found, free, mask, none, numbers, open, refused,
 };
-use format::Cause;
-use generator::Reply;
+use format::cause;
 use job::Setting;
 use job::words::masked_job;
 use mask::Mask;
 use std::io;
-use tally::Count;
+use tally::Cases;
 
 // 1 to 3. (45, 2B, 4C) row 04 and (4D, 3B, 55) row 1D in mode 0; the second in mode 3, the first in mode 2. W-201: mode 4 as mode 0.
-pub(crate) fn masked_cases(rt: &impl Print, count: Count) -> io::Result<Count> {
+pub(crate) fn masked_cases(cases: &mut Cases<'_, impl Print>) -> io::Result<()> {
     let first = found(0x45, 0x2B, 0x4C, 0x04);
     let second = found(0x4D, 0x3B, 0x55, 0x1D);
-    let nearest = both_words(rt, count, eight(0, free()), first, second)?;
-    let down = both_words(rt, nearest, eight(3, free()), second, second)?;
-    let up = both_words(rt, down, eight(2, free()), first, first)?;
-    both_words(rt, up, eight(4, free()), first, second)
+    both_words(cases, eight(0, free()), first, second)?;
+    both_words(cases, eight(3, free()), second, second)?;
+    both_words(cases, eight(2, free()), first, first)?;
+    both_words(cases, eight(4, free()), first, second)
 }
 
 // 4. Carry position 1 fixed to 1.
-pub(crate) fn carry_fixed(rt: &impl Print, count: Count) -> io::Result<Count> {
-    both_words(rt, count, eight(0, mask(0x02, 0x02)), none(), none())
+pub(crate) fn carry_fixed(cases: &mut Cases<'_, impl Print>) -> io::Result<()> {
+    both_words(cases, eight(0, mask(0x02, 0x02)), none(), none())
 }
 
-fn accepted(rt: &impl Print, count: Count, w: u64, f: u64) -> io::Result<Count> {
-    asked(rt, count, open(adding(w, f, 0)), 0, 0, found(0, 0, 0, 0))
+fn accepted(cases: &mut Cases<'_, impl Print>, w: u64, f: u64) -> io::Result<()> {
+    asked(cases, open(adding(w, f, 0)), 0, 0, found(0, 0, 0, 0))
 }
 
-fn refused(rt: &impl Print, count: Count, w: u64, f: u64, number: u64) -> io::Result<Count> {
-    asked(
-        rt,
-        count,
-        open(adding(w, f, 0)),
-        0,
-        0,
-        Reply::Refused(number),
-    )
+fn refused_widths(
+    cases: &mut Cases<'_, impl Print>,
+    w: u64,
+    f: u64,
+    number: u64,
+) -> io::Result<()> {
+    asked(cases, open(adding(w, f, 0)), 0, 0, refused(number))
 }
 
 // 12, as W-202 moves it. w = 2 and 11 accepted, 1 and 12 refused; f = 2 and 52 accepted, 1 and 53 refused.
-pub(crate) fn limits(rt: &impl Print, count: Count) -> io::Result<Count> {
-    let one = accepted(rt, count, 2, 4)?;
-    let two = accepted(rt, one, 11, 4)?;
-    let three = refused(rt, two, 1, 4, Cause::ExponentBits)?;
-    let four = refused(rt, three, 12, 4, Cause::ExponentBits)?;
-    let five = accepted(rt, four, 3, 2)?;
-    let six = accepted(rt, five, 3, 52)?;
-    let seven = refused(rt, six, 3, 1, Cause::FractionBits)?;
-    refused(rt, seven, 3, 53, Cause::FractionBits)
+pub(crate) fn limits(cases: &mut Cases<'_, impl Print>) -> io::Result<()> {
+    accepted(cases, 2, 4)?;
+    accepted(cases, 11, 4)?;
+    refused_widths(cases, 1, 4, cause::EXPONENT_BITS)?;
+    refused_widths(cases, 12, 4, cause::EXPONENT_BITS)?;
+    accepted(cases, 3, 2)?;
+    accepted(cases, 3, 52)?;
+    refused_widths(cases, 3, 1, cause::FRACTION_BITS)?;
+    refused_widths(cases, 3, 53, cause::FRACTION_BITS)
 }
 
 // Two positive operands and a negative sum, in the format whose words have this sign bit.
-fn signs(rt: &impl Print, count: Count, w: u64, f: u64, sign: u64, mode: u64) -> io::Result<Count> {
+fn signs(
+    cases: &mut Cases<'_, impl Print>,
+    w: u64,
+    f: u64,
+    sign: u64,
+    mode: u64,
+) -> io::Result<()> {
     let plus = mask(sign, 0);
     let minus = mask(sign, sign);
     let job = masked_job(adding(w, f, mode), plus, plus, minus, free());
-    asked(rt, count, job, 0, 0, none())
+    asked(cases, job, 0, 0, none())
 }
 
 // In each mode no case fits.
-fn every_mode(rt: &impl Print, count: Count, w: u64, f: u64, sign: u64) -> io::Result<Count> {
-    let one = signs(rt, count, w, f, sign, 0)?;
-    let two = signs(rt, one, w, f, sign, 1)?;
-    let three = signs(rt, two, w, f, sign, 2)?;
-    let four = signs(rt, three, w, f, sign, 3)?;
-    signs(rt, four, w, f, sign, 4)
+fn every_mode(cases: &mut Cases<'_, impl Print>, w: u64, f: u64, sign: u64) -> io::Result<()> {
+    for mode in 0..5 {
+        signs(cases, w, f, sign, mode)?;
+    }
+    Ok(())
 }
 
 // 13. In single precision, and in words of 33 and 64 bits.
-pub(crate) fn impossible_signs(rt: &impl Print, count: Count) -> io::Result<Count> {
-    let single = every_mode(rt, count, 8, 23, 0x80000000)?;
-    let wider = every_mode(rt, single, 8, 24, 0x100000000)?;
-    every_mode(rt, wider, 11, 52, 0x8000000000000000)
+pub(crate) fn impossible_signs(cases: &mut Cases<'_, impl Print>) -> io::Result<()> {
+    every_mode(cases, 8, 23, 0x80000000)?;
+    every_mode(cases, 8, 24, 0x100000000)?;
+    every_mode(cases, 11, 52, 0x8000000000000000)
 }
 
 // Double precision, 1 plus a half of its last place: a tie, which goes to 1 in mode 0 and to the next number in mode 4; c fixed to that
 // number has no case in mode 0.
-pub(crate) fn double_tie(rt: &impl Print, count: Count) -> io::Result<Count> {
+pub(crate) fn double_tie(cases: &mut Cases<'_, impl Print>) -> io::Result<()> {
     let unity = mask(0xFFFFFFFFFFFFFFFF, 0x3FF0000000000000);
     let half = mask(0xFFFFFFFFFFFFFFFF, 0x3CA0000000000000);
     let next = mask(0xFFFFFFFFFFFFFFFF, 0x3FF0000000000001);
     let even = masked_job(adding(11, 52, 0), unity, half, free(), free());
     let away = masked_job(adding(11, 52, 4), unity, half, next, free());
     let next_up = masked_job(adding(11, 52, 0), unity, half, next, free());
-    let one = asked(
-        rt,
-        count,
+    asked(
+        cases,
         even,
         0,
         0,
@@ -99,9 +100,8 @@ pub(crate) fn double_tie(rt: &impl Print, count: Count) -> io::Result<Count> {
             0,
         ),
     )?;
-    let two = asked(
-        rt,
-        one,
+    asked(
+        cases,
         away,
         0,
         0,
@@ -112,16 +112,16 @@ pub(crate) fn double_tie(rt: &impl Print, count: Count) -> io::Result<Count> {
             0,
         ),
     )?;
-    asked(rt, two, next_up, 0, 0, none())
+    asked(cases, next_up, 0, 0, none())
 }
 
 // W-205. A difference of two numbers with the exponent 3 and any fractions: where every borrow is 1 b is the larger, and where none is and
 // b is fixed to a larger one there is no case. And of two with e = 0: 05 - 0A has row 1A.
-pub(crate) fn borrows(rt: &impl Print, count: Count) -> io::Result<Count> {
+pub(crate) fn borrows(cases: &mut Cases<'_, impl Print>) -> io::Result<()> {
     let setting = numbers(3, 4, 1, 0);
     let three = mask(0xF0, 0x30);
     let all = masked_job(setting, three, three, free(), mask(0x1F, 0x1F));
-    let one = asked(rt, count, all, 0, 0, found(0x30, 0x31, 0x84, 0x1F))?;
+    asked(cases, all, 0, 0, found(0x30, 0x31, 0x84, 0x1F))?;
     let larger = masked_job(
         setting,
         mask(0xFF, 0x30),
@@ -129,10 +129,10 @@ pub(crate) fn borrows(rt: &impl Print, count: Count) -> io::Result<Count> {
         free(),
         mask(0x1F, 0x00),
     );
-    let two = asked(rt, one, larger, 0, 0, none())?;
+    asked(cases, larger, 0, 0, none())?;
     let zero = mask(0xF0, 0x00);
     let some = masked_job(setting, zero, zero, free(), mask(0x1F, 0x1A));
-    asked(rt, two, some, 0x05, 0x0A, found(0x05, 0x0A, 0x85, 0x1A))
+    asked(cases, some, 0x05, 0x0A, found(0x05, 0x0A, 0x85, 0x1A))
 }
 
 // The mask at a place: of the first masks, so many, each fixes nothing, and the others have a bit above every width.
@@ -146,12 +146,11 @@ fn above_from(formed: u64, place: u64) -> Mask {
 
 // A line for a job that is refused: the first masks, so many, are well formed, and the words have a bit above every width.
 fn wide(
-    rt: &impl Print,
-    count: Count,
+    cases: &mut Cases<'_, impl Print>,
     setting: Setting,
     formed: u64,
     number: u64,
-) -> io::Result<Count> {
+) -> io::Result<()> {
     let job = masked_job(
         setting,
         above_from(formed, 0),
@@ -161,51 +160,44 @@ fn wide(
     );
     let last = above_from(formed, 4);
     let job = dropping(job, 0, last.care, last.value);
-    asked(rt, count, job, 0x100, 0x100, Reply::Refused(number))
+    asked(cases, job, 0x100, 0x100, refused(number))
 }
 
 // Of the causes 1 to 4 each line has one fewer: the first is named. Masks and words have a bit above every width.
-fn first_cause(rt: &impl Print, count: Count) -> io::Result<Count> {
-    let one = wide(rt, count, numbers(1, 1, 2, 5), 0, Cause::ExponentBits)?;
-    let two = wide(rt, one, numbers(3, 1, 2, 5), 0, Cause::FractionBits)?;
-    let three = wide(rt, two, numbers(3, 4, 2, 5), 0, Cause::Operation)?;
-    wide(rt, three, numbers(3, 4, 0, 5), 0, Cause::Mode)
+fn first_cause(cases: &mut Cases<'_, impl Print>) -> io::Result<()> {
+    wide(cases, numbers(1, 1, 2, 5), 0, cause::EXPONENT_BITS)?;
+    wide(cases, numbers(3, 1, 2, 5), 0, cause::FRACTION_BITS)?;
+    wide(cases, numbers(3, 4, 2, 5), 0, cause::OPERATION)?;
+    wide(cases, numbers(3, 4, 0, 5), 0, cause::MODE)
 }
 
 // The same of malformed masks, with the words after them.
-fn first_mask(rt: &impl Print, count: Count) -> io::Result<Count> {
-    let one = wide(rt, count, adding(3, 4, 0), 0, Cause::Mask)?;
-    let two = wide(rt, one, adding(3, 4, 0), 1, Cause::SecondMask)?;
-    let three = wide(rt, two, adding(3, 4, 0), 2, Cause::ThirdMask)?;
-    let four = wide(rt, three, adding(3, 4, 0), 3, Cause::CarryMask)?;
-    let five = wide(rt, four, adding(3, 4, 0), 4, Cause::DroppedMask)?;
-    wide(rt, five, adding(3, 4, 0), 5, Cause::Word)
+fn first_mask(cases: &mut Cases<'_, impl Print>) -> io::Result<()> {
+    wide(cases, adding(3, 4, 0), 0, cause::MASK)?;
+    wide(cases, adding(3, 4, 0), 1, cause::SECOND_MASK)?;
+    wide(cases, adding(3, 4, 0), 2, cause::THIRD_MASK)?;
+    wide(cases, adding(3, 4, 0), 3, cause::CARRY_MASK)?;
+    wide(cases, adding(3, 4, 0), 4, cause::DROPPED_MASK)?;
+    wide(cases, adding(3, 4, 0), 5, cause::WORD)
 }
 
 // Words alone too wide.
-fn words(rt: &impl Print, count: Count, r1: u64, r2: u64) -> io::Result<Count> {
-    asked(
-        rt,
-        count,
-        open(adding(3, 4, 0)),
-        r1,
-        r2,
-        Reply::Refused(Cause::Word),
-    )
+fn words(cases: &mut Cases<'_, impl Print>, r1: u64, r2: u64) -> io::Result<()> {
+    asked(cases, open(adding(3, 4, 0)), r1, r2, refused(cause::WORD))
 }
 
 // A value outside care, and a carry above the precision.
-fn masks(rt: &impl Print, count: Count) -> io::Result<Count> {
+fn masks(cases: &mut Cases<'_, impl Print>) -> io::Result<()> {
     let outside = masked_job(adding(3, 4, 0), free(), mask(1, 3), free(), free());
-    let one = asked(rt, count, outside, 0, 0, Reply::Refused(Cause::SecondMask))?;
+    asked(cases, outside, 0, 0, refused(cause::SECOND_MASK))?;
     let carry = masked_job(adding(3, 4, 0), free(), free(), free(), mask(0x20, 0x20));
-    asked(rt, one, carry, 0, 0, Reply::Refused(Cause::CarryMask))
+    asked(cases, carry, 0, 0, refused(cause::CARRY_MASK))
 }
 
-pub(crate) fn bad_input(rt: &impl Print, count: Count) -> io::Result<Count> {
-    let causes = first_cause(rt, count)?;
-    let malformed = first_mask(rt, causes)?;
-    let masked = masks(rt, malformed)?;
-    let one = words(rt, masked, 0x100, 0)?;
-    words(rt, one, 0, 0x100)
+pub(crate) fn bad_input(cases: &mut Cases<'_, impl Print>) -> io::Result<()> {
+    first_cause(cases)?;
+    first_mask(cases)?;
+    masks(cases)?;
+    words(cases, 0x100, 0)?;
+    words(cases, 0, 0x100)
 }

@@ -1,15 +1,14 @@
 // Jobs and the replies to them: what the cases are made of, and the line of a case.
-use crate::line::{ask, put_reply};
-use crate::same::same_reply;
+use crate::line::{Question, Shown};
 use adder::Row;
 use bounds::{Bounds, Ends};
-use format::{Format, Cause};
+use format::{Format, cause};
 use generator::{Case, Reply};
 use job::words::{masked_job, wanted, with_wanted};
 use job::{Dropped, Job, Role, Setting, Wanted};
 use mask::Mask;
 use std::io;
-use tally::{Count, count_line};
+use tally::Cases;
 
 const ADD: u64 = 0;
 
@@ -53,24 +52,18 @@ pub(crate) fn open(setting: Setting) -> Job {
 
 // The job with bounds on a word.
 pub(crate) fn bounding(job: Job, role: Role, low: u64, high: u64) -> Job {
-    let own = wanted(job, role);
-    let mask = own.mask;
-    let with = Wanted {
-        mask,
-        bounds: Some(Ends { low, high }),
-    };
-    with_wanted(job, role, with)
+    let mask = wanted(job, role).mask;
+    let bounds = Bounds::Between(Ends { low, high });
+    with_wanted(job, role, Wanted { mask, bounds })
 }
 
 // The job with a mask on g dropped bits and the sticky bit.
 pub(crate) fn dropping(job: Job, g: u64, care: u64, value: u64) -> Job {
-    let mut with = job;
-    let dropped = Dropped {
-        g,
-        mask: mask(care, value),
-    };
-    with.dropped = dropped;
-    with
+    let mask = mask(care, value);
+    Job {
+        dropped: Dropped { g, mask },
+        ..job
+    }
 }
 
 pub(crate) fn found(a: u64, b: u64, c: u64, carries: u64) -> Reply {
@@ -82,33 +75,34 @@ pub(crate) fn found(a: u64, b: u64, c: u64, carries: u64) -> Reply {
     })
 }
 
+pub(crate) fn refused(number: u64) -> Reply {
+    Reply::Refused(number)
+}
+
 pub(crate) fn none() -> Reply {
-    Reply::Refused(Cause::NoCase)
+    refused(cause::NO_CASE)
 }
 
 // A line: the generator is asked, and its reply held against the one expected.
 pub(crate) fn asked(
-    rt: &impl Print,
-    count: Count,
+    cases: &mut Cases<'_, impl Print>,
     job: Job,
     r1: u64,
     r2: u64,
     expected: Reply,
-) -> io::Result<Count> {
-    ask(rt, job, r1, r2)?;
+) -> io::Result<()> {
     let reply = generator::generate(job, r1, r2);
-    put_reply(rt, reply)?;
-    count_line(rt, count, same_reply(reply, expected))
+    print!(cases.rt; "{}: {}", Question { job, r1, r2 }, Shown(reply))?;
+    cases.end_line(reply == expected)
 }
 
 // Words 0, 0 and words 4D, 0.
 pub(crate) fn both_words(
-    rt: &impl Print,
-    count: Count,
+    cases: &mut Cases<'_, impl Print>,
     job: Job,
     zeros: Reply,
     others: Reply,
-) -> io::Result<Count> {
-    let one = asked(rt, count, job, 0, 0, zeros)?;
-    asked(rt, one, job, 0x4D, 0, others)
+) -> io::Result<()> {
+    asked(cases, job, 0, 0, zeros)?;
+    asked(cases, job, 0x4D, 0, others)
 }

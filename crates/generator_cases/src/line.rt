@@ -1,89 +1,96 @@
-// A line for each case: what was asked, what came, and whether that is what was expected.
+// What is asked, and what comes, as a line writes them.
 use adder::Row;
 use bounds::Bounds;
-use generator::{Case, Reply};
+use generator::Reply;
 use job::{Dropped, Job, Wanted};
 use mask::Mask;
-use std::io;
+use std::fmt;
 
-// A space and a word, in the digits of the widest.
-fn put_word(rt: &impl Print, word: u64) -> io::Result<()> {
-    print!(rt; " {word:016x}")
-}
+// The mask of this name, by its care and value; nothing where both are 0.
+#[derive(Clone, Copy)]
+struct NamedMask<'a>(&'a str, Mask);
 
-// The care and the value of the mask of this name; nothing where both are 0.
-fn put_mask(rt: &impl Print, name: &str, m: Mask) -> io::Result<()> {
-    if (m.care == 0) & (m.value == 0) {
-        return Ok(());
+impl fmt::Display for NamedMask<'_> {
+    fn fmt<W: fmt::Write>(&self, f: &mut fmt::Formatter<W>) -> fmt::Result {
+        let NamedMask(name, Mask { care, value }) = *self;
+        if (care == 0) & (value == 0) {
+            return Ok(());
+        }
+        write!(f, " {name} {care:016x} {value:016x}")
     }
-    print!(rt; " {name}")?;
-    put_word(rt, m.care)?;
-    put_word(rt, m.value)
 }
 
 // The bounds of the word of this name; nothing where none are stated.
-fn put_bounds(rt: &impl Print, name: &str, w: Wanted) -> io::Result<()> {
-    match w.bounds {
-        None => Ok(()),
-        Some(ends) => {
-            print!(rt; " {name} within")?;
-            put_word(rt, ends.low)?;
-            put_word(rt, ends.high)
+#[derive(Clone, Copy)]
+struct NamedBounds<'a>(&'a str, Wanted);
+
+impl fmt::Display for NamedBounds<'_> {
+    fn fmt<W: fmt::Write>(&self, f: &mut fmt::Formatter<W>) -> fmt::Result {
+        let NamedBounds(name, wanted) = *self;
+        match wanted.bounds {
+            Bounds::Unbounded => Ok(()),
+            Bounds::Between(ends) => {
+                write!(f, " {name} within {:016x} {:016x}", ends.low, ends.high)
+            }
         }
     }
 }
 
 // g, and the care and the value of its mask; nothing where all are 0.
-fn put_dropped(rt: &impl Print, dropped: Dropped) -> io::Result<()> {
-    let mask = dropped.mask;
-    if (dropped.g == 0) & (mask.care == 0) & (mask.value == 0) {
-        return Ok(());
-    }
-    print!(rt; " dropped {}", dropped.g)?;
-    put_word(rt, mask.care)?;
-    put_word(rt, mask.value)
-}
+#[derive(Clone, Copy)]
+struct Stated(Dropped);
 
-fn put_numbers(rt: &impl Print, job: Job) -> io::Result<()> {
-    let setting = job.setting;
-    print!(rt; "w {} f {}", setting.format.w, setting.format.f)?;
-    print!(rt; " operation {} mode {}", setting.operation, setting.mode)
-}
-
-pub(crate) fn ask(rt: &impl Print, job: Job, r1: u64, r2: u64) -> io::Result<()> {
-    put_numbers(rt, job)?;
-    put_mask(rt, "a", job.a.mask)?;
-    put_mask(rt, "b", job.b.mask)?;
-    put_mask(rt, "c", job.c.mask)?;
-    put_mask(rt, "carries", job.carries)?;
-    put_dropped(rt, job.dropped)?;
-    put_bounds(rt, "a", job.a)?;
-    put_bounds(rt, "b", job.b)?;
-    put_bounds(rt, "c", job.c)?;
-    print!(rt; " words")?;
-    put_word(rt, r1)?;
-    put_word(rt, r2)?;
-    print!(rt; ":")
-}
-
-fn put_row(rt: &impl Print, row: Row) -> io::Result<()> {
-    match row {
-        Row::Carries(carries) => put_word(rt, carries),
-        Row::NoRow => print!(rt; " -"),
+impl fmt::Display for Stated {
+    fn fmt<W: fmt::Write>(&self, f: &mut fmt::Formatter<W>) -> fmt::Result {
+        let Dropped { g, mask } = self.0;
+        if (g == 0) & (mask.care == 0) & (mask.value == 0) {
+            return Ok(());
+        }
+        write!(f, " dropped {g} {:016x} {:016x}", mask.care, mask.value)
     }
 }
 
-fn put_case(rt: &impl Print, x: Case) -> io::Result<()> {
-    print!(rt; " found")?;
-    put_word(rt, x.a)?;
-    put_word(rt, x.b)?;
-    put_word(rt, x.c)?;
-    put_row(rt, x.row)
+// A job, and the random words.
+#[derive(Clone, Copy)]
+pub struct Question {
+    pub job: Job,
+    pub r1: u64,
+    pub r2: u64,
 }
 
-pub(crate) fn put_reply(rt: &impl Print, reply: Reply) -> io::Result<()> {
-    match reply {
-        Reply::Found(x) => put_case(rt, x),
-        Reply::Refused(number) => print!(rt; " refused {number}"),
+impl fmt::Display for Question {
+    fn fmt<W: fmt::Write>(&self, f: &mut fmt::Formatter<W>) -> fmt::Result {
+        let job = self.job;
+        let format = job.setting.format;
+        write!(f, "w {} f {}", format.w, format.f)?;
+        write!(f, " operation {}", job.setting.operation)?;
+        write!(f, " mode {}", job.setting.mode)?;
+        write!(f, "{}", NamedMask("a", job.a.mask))?;
+        write!(f, "{}", NamedMask("b", job.b.mask))?;
+        write!(f, "{}", NamedMask("c", job.c.mask))?;
+        write!(f, "{}", NamedMask("carries", job.carries))?;
+        write!(f, "{}", Stated(job.dropped))?;
+        write!(f, "{}", NamedBounds("a", job.a))?;
+        write!(f, "{}", NamedBounds("b", job.b))?;
+        write!(f, "{}", NamedBounds("c", job.c))?;
+        write!(f, " words {:016x} {:016x}", self.r1, self.r2)
+    }
+}
+
+// A reply: the case, or the number of the refusal.
+#[derive(Clone, Copy)]
+pub struct Shown(pub Reply);
+
+impl fmt::Display for Shown {
+    fn fmt<W: fmt::Write>(&self, f: &mut fmt::Formatter<W>) -> fmt::Result {
+        let x = match self.0 {
+            Reply::Found(x) => x,
+            Reply::Refused(number) => return write!(f, "refused {number}"),
+        };
+        write!(f, "found {:016x} {:016x} {:016x}", x.a, x.b, x.c)?;
+        match x.row {
+            Row::Carries(carries) => write!(f, " {carries:016x}"),
+            Row::NoRow => write!(f, " -"),
+        }
     }
 }

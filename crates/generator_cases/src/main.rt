@@ -9,25 +9,24 @@ mod dropped;
 mod jobs;
 mod line;
 mod near;
-mod same;
 
 use std::io;
-use tally::Count;
+use tally::Cases;
 
 fn main(rt: HostRuntime) -> io::Result<()> {
-    let none = Count { lines: 0, wrong: 0 };
-    let masked = document::masked_cases(&rt, none)?;
-    let fixed = document::carry_fixed(&rt, masked)?;
-    let limits = document::limits(&rt, fixed)?;
-    let signs = document::impossible_signs(&rt, limits)?;
-    let double = document::double_tie(&rt, signs)?;
-    let borrows = document::borrows(&rt, double)?;
-    let near = near::ties(&rt, borrows)?;
-    let ties = difference::ties(&rt, near)?;
-    let dropped = dropped::stated(&rt, ties)?;
-    let stated = bounded::stated(&rt, dropped)?;
-    let refused = document::bad_input(&rt, stated)?;
-    let malformed = dropped::malformed(&rt, refused)?;
-    let all = bounded::malformed(&rt, malformed)?;
-    tally::put_count(&rt, all)
+    let mut cases = Cases::new(&rt);
+    document::masked_cases(&mut cases)?;
+    document::carry_fixed(&mut cases)?;
+    document::limits(&mut cases)?;
+    document::impossible_signs(&mut cases)?;
+    document::double_tie(&mut cases)?;
+    document::borrows(&mut cases)?;
+    near::ties(&mut cases)?;
+    difference::ties(&mut cases)?;
+    dropped::stated(&mut cases)?;
+    bounded::stated(&mut cases)?;
+    document::bad_input(&mut cases)?;
+    dropped::malformed(&mut cases)?;
+    bounded::malformed(&mut cases)?;
+    cases.put_count()
 }

@@ -1,21 +1,27 @@
 // Entries written into a buffer of 144 bytes, all 255 before.
-use crate::reading;
+use crate::reading::{self, sameness};
 use format::Format;
 use job::Setting;
 use job::words::masked_job;
 use layout::Entry;
 use mask::Mask;
 use records::{First, Writing};
-use std::io;
+use std::{fmt, io};
 
 fn blank() -> [u8; 144] {
     [255u8; 144]
 }
 
-fn show_reply(rt: &impl Print, reply: Writing) -> io::Result<()> {
-    match reply {
-        Writing::Written(n) => print!(rt; "written {n}"),
-        Writing::Refused(k) => print!(rt; "refused {k}"),
+// The count of bytes written, or the number of a refusal.
+#[derive(Clone, Copy)]
+struct Shown(Writing);
+
+impl fmt::Display for Shown {
+    fn fmt<W: fmt::Write>(&self, f: &mut fmt::Formatter<W>) -> fmt::Result {
+        match self.0 {
+            Writing::Written(n) => write!(f, "written {n}"),
+            Writing::Refused(k) => write!(f, "refused {k}"),
+        }
     }
 }
 
@@ -32,9 +38,8 @@ fn kept(rt: &impl Print, buffer: &[u8], n: usize) -> io::Result<()> {
     let before = blank();
     if n <= buffer.len() {
         if n <= 144 {
-            print!(rt; ", after it ")?;
-            reading::show_same(rt, buffer[n..] == before[n..])?;
-            println!(rt)?;
+            let same = sameness(buffer[n..] == before[n..]);
+            println!(rt; ", after it {same}")?;
         }
     }
     Ok(())
@@ -44,7 +49,7 @@ fn kept(rt: &impl Print, buffer: &[u8], n: usize) -> io::Result<()> {
 fn put(rt: &impl Print, entry: Entry, buffer: &mut [u8], room: usize) -> io::Result<()> {
     if room <= buffer.len() {
         let reply = records::write(entry, &mut buffer[..room]);
-        show_reply(rt, reply)?;
+        print!(rt; "{}", Shown(reply))?;
         kept(rt, buffer, length(reply))?;
     }
     Ok(())
@@ -59,8 +64,8 @@ pub(crate) fn show(rt: &impl Print, entry: Entry, room: usize) -> io::Result<()>
 fn compare(rt: &impl Print, buffer: &[u8], s: &[u8], n: usize) -> io::Result<()> {
     if n <= buffer.len() {
         if n <= s.len() {
-            print!(rt; ", record ")?;
-            reading::show_same(rt, buffer[..n] == s[..n])?;
+            let same = sameness(buffer[..n] == s[..n]);
+            print!(rt; ", record {same}")?;
         }
     }
     Ok(())
@@ -74,7 +79,7 @@ pub(crate) fn back(rt: &impl Print, s: &[u8]) -> io::Result<()> {
     };
     let mut buffer = blank();
     let reply = records::write(entry, &mut buffer);
-    show_reply(rt, reply)?;
+    print!(rt; "{}", Shown(reply))?;
     compare(rt, &buffer, s, n)?;
     kept(rt, &buffer, n)
 }
@@ -82,8 +87,8 @@ pub(crate) fn back(rt: &impl Print, s: &[u8]) -> io::Result<()> {
 // Writes an entry, and reads and writes what then stands in the buffer.
 pub(crate) fn read_back(rt: &impl Print, entry: Entry) -> io::Result<()> {
     let mut buffer = blank();
-    show_reply(rt, records::write(entry, &mut buffer))?;
-    print!(rt; "; ")?;
+    let reply = records::write(entry, &mut buffer);
+    print!(rt; "{}; ", Shown(reply))?;
     reading::show(rt, &buffer)?;
     back(rt, &buffer)
 }

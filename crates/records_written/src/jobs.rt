@@ -68,22 +68,14 @@ fn dropped(state: u64) -> Dropped {
     }
 }
 
-fn smaller(x: u64, y: u64) -> u64 {
-    if x < y { x } else { y }
-}
-
-fn larger(x: u64, y: u64) -> u64 {
-    if x < y { y } else { x }
-}
-
 // The ends of an interval, both positive, both negative, or the low one negative: it is not above the high one, unless one is a NaN.
 fn ends(width: u64, state: u64) -> Ends {
-    let places = width.saturating_sub(1);
+    let places = bits::minus(width, 1);
     let sign = bits::power(places);
     let x = bits::low(word(state), places);
     let y = bits::low(word(next(state)), places);
-    let low = smaller(x, y);
-    let high = larger(x, y);
+    let low = x.min(y);
+    let high = x.max(y);
     match state / 48 % 3 {
         0 => Ends { low, high },
         1 => Ends {
@@ -100,22 +92,22 @@ fn ends(width: u64, state: u64) -> Ends {
 // No bounds, or in one of three cases ends as above. Of these one in 16 has any two words, and one in 16 its ends exchanged.
 fn bounds(width: u64, state: u64) -> Bounds {
     if state % 3 != 0 {
-        return None;
+        return Bounds::Unbounded;
     }
     if state / 3 % 16 == 0 {
-        return Some(Ends {
+        return Bounds::Between(Ends {
             low: word(state),
             high: word(next(state)),
         });
     }
     let drawn = ends(width, state);
     if state / 144 % 16 == 0 {
-        return Some(Ends {
+        return Bounds::Between(Ends {
             low: drawn.high,
             high: drawn.low,
         });
     }
-    Some(drawn)
+    Bounds::Between(drawn)
 }
 
 fn wanted(width: u64, fixed: u64, bounded: u64) -> Wanted {

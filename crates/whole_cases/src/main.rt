@@ -2,7 +2,7 @@
 #![tactic(auto)]
 
 use mask::Mask;
-use std::io;
+use std::{fmt, io};
 use whole::{Case, Job, Masks, Reply, Words};
 
 fn free() -> Mask {
@@ -26,19 +26,25 @@ fn words(x: u64, y: u64, z: u64) -> Words {
     Words { x, y, z }
 }
 
-fn show_case(rt: &impl Print, c: Case) -> io::Result<()> {
-    println!(rt;
-        "found {:08x} {:08x} {:08x} {:09x}",
-        c.x, c.y, c.z, c.carries
-    )
+// A reply: the case, or the number of the refusal.
+#[derive(Clone, Copy)]
+struct Shown(Reply);
+
+impl fmt::Display for Shown {
+    fn fmt<W: fmt::Write>(&self, f: &mut fmt::Formatter<W>) -> fmt::Result {
+        match self.0 {
+            Reply::Found(c) => {
+                let Case { x, y, z, carries } = c;
+                write!(f, "found {x:08x} {y:08x} {z:08x} {carries:09x}")
+            }
+            Reply::Refused(k) => write!(f, "refused {k}"),
+        }
+    }
 }
 
 // A line for a job: the reply to it.
 fn show(rt: &impl Print, job: Job) -> io::Result<()> {
-    match whole::generate(job) {
-        Reply::Found(c) => show_case(rt, c),
-        Reply::Refused(k) => println!(rt; "refused {k}"),
-    }
+    println!(rt; "{}", Shown(whole::generate(job)))
 }
 
 // Document 01, case 11.

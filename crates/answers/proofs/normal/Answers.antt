@@ -5,8 +5,8 @@ use native.Mathlib.Omega.{arith}
 use borrow.Author.Tests.{leb-true}
 use Rattle.answers.proofs.normal.Goals as goal
 
-pub returns-then-reach-minus : goal.returns-then-reach-minus
-returns-then-reach-minus c = λ t. inl (omega (arith, c.saturating_sub.ensures, c.if-reach-minus.true))
+pub returns-then-reach-saturating_sub : goal.returns-then-reach-saturating_sub
+returns-then-reach-saturating_sub c = λ t. inl (omega (arith, c.saturating_sub.ensures, c.if-reach-saturating_sub.true))
 
 pub returns-then-fields-eq0 : goal.returns-then-fields-eq0
 returns-then-fields-eq0 c = λ t. absurd (false≢true t)

@@ -11,5 +11,5 @@ float_from_bits-c c = no_nan binary64 refl c.is_nan.ensures c.if-is_nan.false
 pub float_from_bits-c-2 : goal.float_from_bits-c-2
 float_from_bits-c-2 c = no_nan binary64 refl c.is_nan-2.ensures c.if-is_nan-2.false
 
-pub float_to_bits-bits : goal.float_to_bits-bits
-float_to_bits-bits c = number _ c.if-c.true
+pub float_to_bits-result : goal.float_to_bits-result
+float_to_bits-result c = number _ c.if-c.true

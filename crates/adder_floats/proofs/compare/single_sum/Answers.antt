@@ -6,10 +6,10 @@ use Rattle.adder_floats.proofs.compare.single_sum.Goals as goal
 
 pub float_from_bits-c : goal.float_from_bits-c
 float_from_bits-c c =
-    no_nan binary32 c.wide.ensures c.is_nan.ensures c.if-is_nan.false
+    no_nan binary32 c.from.ensures c.is_nan.ensures c.if-is_nan.false
 
 pub float_from_bits-c-2 : goal.float_from_bits-c-2
-float_from_bits-c-2 c = no_nan binary32 c.wide-2.ensures c.is_nan-2.ensures c.if-is_nan-2.false
+float_from_bits-c-2 c = no_nan binary32 c.from-2.ensures c.is_nan-2.ensures c.if-is_nan-2.false
 
-pub float_to_bits-bits : goal.float_to_bits-bits
-float_to_bits-bits c = number _ c.if-c.true
+pub float_to_bits-c : goal.float_to_bits-c
+float_to_bits-c c = number _ c.if-c.true
