@@ -8,7 +8,7 @@ use native.Mathlib.Omega.{arith}
 use borrow.Author.Tests.{ltb-true, leb-true, lt-ltb, le-leb}
 use lib.Dec.{ltb, leb}
 use Rattle.format.specs.declared.Format.{Format}
-use Rattle.std.specs.Prelude.{Ok, Err, is_ok}
+use Rattle.std.specs.Prelude.{Ok, Err, is_ok, is_err}
 use Rattle.format.specs.declared.cause.Cause.{Cause}
 use Rattle.format.specs.declared.cause.Cause.TheVariants as cause
 use Rattle.format.specs.Cause.{number, Check, clear, unless, first}
@@ -49,6 +49,10 @@ err_same e = cc
 pub ok_clear : {r : Check} → is_ok r ≡ true → r ≡ clear
 ok_clear {r = Ok u} e = refl
 ok_clear {r = Err c} e = absurd (mathlib.Core.Bool.false≢true e)
+
+pub not_err : {r : Check} → is_err r ≡ false → r ≡ clear
+not_err {r = Ok u} e = refl
+not_err {r = Err c} e = absurd (mathlib.Core.Bool.false≢true (sym e))
 
 -- the first of two causes is none exactly when both checks are clear
 pub first_none : (m n : Check) → first m n ≡ clear ↔ ((m ≡ clear) × (n ≡ clear))

@@ -31,7 +31,7 @@ pub fn first_left(job: Job, start: Exponents) -> Exponents
     if !(states_bounds(job.a) | states_bounds(job.b) | states_bounds(job.c)) {
         return first;
     }
-    if cause_with(job, 0) != 0 {
+    if cause_with(job, Ok(())).is_err() {
         return first;
     }
     let past = power(job.setting.format.w);

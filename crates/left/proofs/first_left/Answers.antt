@@ -1,7 +1,8 @@
 -- `left::first_left` meets its contract. Assumes nothing.
-use Rattle.std.specs.Prelude.{Option, Some, None}
+use Rattle.std.specs.Prelude.{None, is_err}
+use Rattle.format.proofs.Laws.{not_err}
 use mathlib.Core.Bool.{Bool, true, false, not, ◌||◌, true≢false}
-use mathlib.Core.Path.{◌≡◌, refl, sym, ◌∙◌}
+use mathlib.Core.Path.{◌≡◌, refl, sym, ap, ◌∙◌}
 use Prim.Native.Nat.{◌^◌, ◌≤◌}
 use native.Mathlib.Omega.{arith}
 use Rattle.job.specs.declared.Job.{Job}
@@ -39,10 +40,10 @@ returns-then-not-states_bounds c =
     let none = neither c.states_bounds.result c.states_bounds-2.result c.states_bounds-3.result c.if-not-states_bounds.true-raw in
     λ v before. unstated j (c.states_bounds.ensures none.0) (c.states_bounds-2.ensures none.1) (c.states_bounds-3.ensures none.2) c.first_pair-first.result (c.first_pair-first.ensures v before)
 
-pub returns-then-cause_with-ne0 : goal.returns-then-cause_with-ne0
-returns-then-cause_with-ne0 c =
+pub returns-then-is_err : goal.returns-then-is_err
+returns-then-is_err c =
     let j = c.args.job in
-    λ v. absurd (c.if-cause_with-ne0.true (c.cause_with.ensures ∙ (job_none j).1 v))
+    λ v. absurd (true≢false (sym c.if-is_err.true ∙ c.is_err.ensures.value ∙ ap is_err (c.cause_with.ensures ∙ (job_none j).1 v)))
 
 pub returns-then-past-first : goal.returns-then-past-first
 returns-then-past-first c =
@@ -53,7 +54,7 @@ returns-then-past-first c =
 
 pub some_left-requires : goal.some_left-requires
 some_left-requires c =
-    (job_none c.args.job).0 (sym c.cause_with.ensures ∙ c.if-cause_with-ne0.false)
+    (job_none c.args.job).0 (sym c.cause_with.ensures ∙ not_err (sym c.is_err.ensures.value ∙ c.if-is_err.false))
 
 pub returns-then-some_left : goal.returns-then-some_left
 returns-then-some_left c =
