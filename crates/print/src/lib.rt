@@ -12,15 +12,13 @@ use std::io::Write;
 pub fn print_listing<W: Write>(out: &mut W, file: &[u8]) -> io::Result<()>
     ensures { OnOk result (Prints file.now (W.contents out.old) (W.contents out.new)) }
 {
-    let mut place = first_place();
-    loop {
+    let mut next = Then::On(first_place());
+    while let Then::On(place) = next {
         let step = next_line(file, place);
         let bytes = step.line.bytes;
         let n = step.line.len;
         out.write_all(&bytes[..n])?;
-        match step.then {
-            Then::On(next) => place = next,
-            Then::Done => return Ok(()),
-        }
+        next = step.then;
     }
+    Ok(())
 }
