@@ -3,8 +3,7 @@ use crate::line::{ADD, Carried, Question, Rounded, SUBTRACT};
 use crate::words::Sized;
 use adder::carry_row::carry_row;
 use adder::result::rounded_result;
-use adder::{Reply, Row, RowReply};
-use format::Format;
+use format::{Cause, Format};
 use std::io;
 use tally::Cases;
 
@@ -13,7 +12,7 @@ fn result(
     cases: &mut Cases<'_, impl Print>,
     question: Question,
     mode: u64,
-    expected: Reply,
+    expected: Result<u64, Cause>,
 ) -> io::Result<()> {
     let Question {
         sized,
@@ -31,7 +30,7 @@ fn result(
 fn row(
     cases: &mut Cases<'_, impl Print>,
     question: Question,
-    expected: RowReply,
+    expected: Result<Option<u64>, Cause>,
 ) -> io::Result<()> {
     let Question {
         sized,
@@ -71,7 +70,7 @@ pub(crate) fn sum(
     b: u64,
     c: u64,
 ) -> io::Result<()> {
-    result(cases, adding(z, a, b), mode, Reply::Word(c))
+    result(cases, adding(z, a, b), mode, Ok(c))
 }
 
 pub(crate) fn difference(
@@ -82,7 +81,7 @@ pub(crate) fn difference(
     b: u64,
     c: u64,
 ) -> io::Result<()> {
-    result(cases, subtracting(z, a, b), mode, Reply::Word(c))
+    result(cases, subtracting(z, a, b), mode, Ok(c))
 }
 
 pub(crate) fn sum_row(
@@ -92,7 +91,7 @@ pub(crate) fn sum_row(
     b: u64,
     carries: u64,
 ) -> io::Result<()> {
-    row(cases, adding(z, a, b), RowReply::Row(Row::Carries(carries)))
+    row(cases, adding(z, a, b), Ok(Some(carries)))
 }
 
 pub(crate) fn difference_row(
@@ -105,7 +104,7 @@ pub(crate) fn difference_row(
     row(
         cases,
         subtracting(z, a, b),
-        RowReply::Row(Row::Carries(carries)),
+        Ok(Some(carries)),
     )
 }
 
@@ -115,7 +114,7 @@ pub(crate) fn difference_no_row(
     a: u64,
     b: u64,
 ) -> io::Result<()> {
-    row(cases, subtracting(z, a, b), RowReply::Row(Row::NoRow))
+    row(cases, subtracting(z, a, b), Ok(None))
 }
 
 // 0 + 0 in a format of these widths.
@@ -129,8 +128,8 @@ fn zeros(w: u64, f: u64) -> Question {
 
 // Zeros in such a format: accepted.
 pub(crate) fn accepted(cases: &mut Cases<'_, impl Print>, w: u64, f: u64) -> io::Result<()> {
-    result(cases, zeros(w, f), 0, Reply::Word(0))?;
-    row(cases, zeros(w, f), RowReply::Row(Row::Carries(0)))
+    result(cases, zeros(w, f), 0, Ok(0))?;
+    row(cases, zeros(w, f), Ok(Some(0)))
 }
 
 // The same, refused with this number.
@@ -138,8 +137,8 @@ pub(crate) fn refused(
     cases: &mut Cases<'_, impl Print>,
     w: u64,
     f: u64,
-    number: u64,
+    cause: Cause,
 ) -> io::Result<()> {
-    result(cases, zeros(w, f), 0, Reply::Refused(number))?;
-    row(cases, zeros(w, f), RowReply::Refused(number))
+    result(cases, zeros(w, f), 0, Err(cause))?;
+    row(cases, zeros(w, f), Err(cause))
 }

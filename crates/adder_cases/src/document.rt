@@ -1,7 +1,7 @@
 // The cases of document 01, "Cases, in hexadecimal", and of document 02, W-201 and W-205.
 use crate::ask::{accepted, difference, difference_no_row, difference_row, refused, sum, sum_row};
 use crate::words::EIGHT;
-use format::cause;
+use format::Cause;
 use std::io;
 use tally::Cases;
 
@@ -86,10 +86,10 @@ pub(crate) fn eight_bit_cases(cases: &mut Cases<'_, impl Print>) -> io::Result<(
 pub(crate) fn limits(cases: &mut Cases<'_, impl Print>) -> io::Result<()> {
     accepted(cases, 2, 4)?;
     accepted(cases, 11, 4)?;
-    refused(cases, 1, 4, cause::EXPONENT_BITS)?;
-    refused(cases, 12, 4, cause::EXPONENT_BITS)?;
+    refused(cases, 1, 4, Cause::ExponentBits)?;
+    refused(cases, 12, 4, Cause::ExponentBits)?;
     accepted(cases, 3, 2)?;
     accepted(cases, 3, 52)?;
-    refused(cases, 3, 1, cause::FRACTION_BITS)?;
-    refused(cases, 3, 53, cause::FRACTION_BITS)
+    refused(cases, 3, 1, Cause::FractionBits)?;
+    refused(cases, 3, 53, Cause::FractionBits)
 }

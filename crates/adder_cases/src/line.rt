@@ -1,6 +1,6 @@
 // A line for each case: what is asked, and what comes.
 use crate::words::Sized;
-use adder::{Reply, Row, RowReply};
+use format::Cause;
 use std::fmt;
 
 pub const ADD: u64 = 0;
@@ -31,7 +31,7 @@ impl fmt::Display for Question {
 // A rounded result in so many digits, or the number of the refusal.
 #[derive(Clone, Copy)]
 pub struct Rounded {
-    pub reply: Reply,
+    pub reply: Result<u64, Cause>,
     pub digits: usize,
 }
 
@@ -39,8 +39,8 @@ impl fmt::Display for Rounded {
     fn fmt<W: fmt::Write>(&self, f: &mut fmt::Formatter<W>) -> fmt::Result {
         let digits = self.digits;
         match self.reply {
-            Reply::Word(c) => write!(f, "{c:0digits$x}"),
-            Reply::Refused(number) => write!(f, "refused {number}"),
+            Ok(c) => write!(f, "{c:0digits$x}"),
+            Err(cause) => write!(f, "refused {cause}"),
         }
     }
 }
@@ -48,7 +48,7 @@ impl fmt::Display for Rounded {
 // The same of a carry row.
 #[derive(Clone, Copy)]
 pub struct Carried {
-    pub reply: RowReply,
+    pub reply: Result<Option<u64>, Cause>,
     pub digits: usize,
 }
 
@@ -56,9 +56,9 @@ impl fmt::Display for Carried {
     fn fmt<W: fmt::Write>(&self, f: &mut fmt::Formatter<W>) -> fmt::Result {
         let digits = self.digits;
         match self.reply {
-            RowReply::Row(Row::Carries(carries)) => write!(f, "{carries:0digits$x}"),
-            RowReply::Row(Row::NoRow) => write!(f, "-"),
-            RowReply::Refused(number) => write!(f, "refused {number}"),
+            Ok(Some(carries)) => write!(f, "{carries:0digits$x}"),
+            Ok(None) => write!(f, "-"),
+            Err(cause) => write!(f, "refused {cause}"),
         }
     }
 }

@@ -1,9 +1,8 @@
 // The rounded sum in mode 0, held against the language's own addition: of f32 in single precision, of f64 in double.
 ghost use Rattle.std.specs.Prelude.{◌≡◌, ◌%◌, ◌<◌, nat_lt};
 
-use adder::Reply;
 use adder::result::rounded_result;
-use bits::{minus, power};
+use bits::power;
 use format::Format;
 use std::fmt;
 use word::pack::word_of;
@@ -89,15 +88,15 @@ fn nan(format: Format) -> u64 {
     word_of(
         format,
         0,
-        minus(power(format.w), 1),
-        power(minus(format.f, 1)),
+        power(format.w).saturating_sub(1),
+        power(format.f.saturating_sub(1)),
     )
 }
 
 // Both sums of two words.
 pub(crate) fn compared(precision: Precision, a: u64, b: u64) -> Verdict {
     let format = precision.format();
-    let Reply::Word(c) = rounded_result(format, 0, 0, a, b) else {
+    let Ok(c) = rounded_result(format, 0, 0, a, b) else {
         return Verdict::Unlike;
     };
     match native_sum(precision, a, b) {

@@ -1,5 +1,5 @@
 // Pairs of words of a format from a fixed generator, by classes in which adders go wrong.
-use bits::{low, minus, power};
+use bits::{low, power};
 use format::Format;
 use std::fmt;
 use word::pack::{signed, word_of};
@@ -78,7 +78,7 @@ impl Class {
         match self {
             Class::Any => any(format, draw),
             Class::Near => apart(format, draw, 0),
-            Class::Far => apart(format, draw, minus(format.f, 3)),
+            Class::Far => apart(format, draw, format.f.saturating_sub(3)),
             Class::Tied => tied(format, draw),
             Class::Cancelled => cancelled(format, draw),
             Class::Small => small(format, draw),
@@ -128,16 +128,16 @@ fn any(format: Format, draw: Draw) -> Pair {
 
 // An exponent field from the middle half of all, which leaves room on either side.
 fn middle(format: Format, chance: u64) -> u64 {
-    power(minus(format.w, 1 + chance % 2)) | low(chance >> 1, minus(format.w, 2))
+    power(format.w.saturating_sub(1 + chance % 2)) | low(chance >> 1, format.w.saturating_sub(2))
 }
 
 // Exponents that differ by `least` to `least + 7`, a's the larger.
 fn apart(format: Format, draw: Draw, least: u64) -> Pair {
     let exponent = middle(format, draw.common >> 8);
-    let highest = minus(exponent, least);
+    let highest = exponent.saturating_sub(least);
     Pair {
         a: drawn(format, draw.a, exponent),
-        b: drawn(format, draw.b, minus(highest, draw.common % 8)),
+        b: drawn(format, draw.b, highest.saturating_sub(draw.common % 8)),
     }
 }
 
@@ -155,8 +155,8 @@ fn edged(chance: u64, fraction: u64) -> u64 {
 // sums just off a tie.
 fn tied(format: Format, draw: Draw) -> Pair {
     let exponent = middle(format, draw.common >> 8);
-    let last_place = minus(exponent, minus(format.f, 1));
-    let two_bits = power(minus(format.f, 1)) | power(minus(format.f, 2));
+    let last_place = exponent.saturating_sub(format.f.saturating_sub(1));
+    let two_bits = power(format.f.saturating_sub(1)) | power(format.f.saturating_sub(2));
     Pair {
         a: word(
             format,
@@ -167,7 +167,7 @@ fn tied(format: Format, draw: Draw) -> Pair {
         b: word(
             format,
             draw.b >> 63,
-            minus(last_place, draw.common % 4),
+            last_place.saturating_sub(draw.common % 4),
             draw.b & (two_bits | 1),
         ),
     }
@@ -175,14 +175,14 @@ fn tied(format: Format, draw: Draw) -> Pair {
 
 // Unlike signs, and magnitudes that differ by 7 at most in their words. The exponent field is one below a drawn one, so never all ones.
 fn cancelled(format: Format, draw: Draw) -> Pair {
-    let exponent = minus(low(draw.a >> 52, format.w), 1);
+    let exponent = low(draw.a >> 52, format.w).saturating_sub(1);
     let magnitude = word(format, 0, exponent, draw.a);
     Pair {
         a: signed(format, draw.a >> 63, magnitude),
         b: signed(
             format,
             1 - (draw.a >> 63),
-            minus(magnitude, draw.common % 8),
+            magnitude.saturating_sub(draw.common % 8),
         ),
     }
 }
@@ -197,7 +197,7 @@ fn small(format: Format, draw: Draw) -> Pair {
 
 // One of the last four exponent fields below all ones.
 fn last_fields(format: Format, chance: u64) -> u64 {
-    minus(power(format.w), 2 + chance % 4)
+    power(format.w).saturating_sub(2 + chance % 4)
 }
 
 // The last four exponent fields, and mostly like signs.

@@ -1,6 +1,7 @@
 -- Every row of the table holds: a test of a row that antt computes, and one law that turns a passed test into the row's claim.
 -- Assumes nothing.
-use Rattle.std.specs.Prelude.{Option, Some, None, Result, Ok, Err}
+use Rattle.generator.specs.Promise.{Replied}
+use Rattle.std.specs.Prelude.{Option, Some, None, Result, Ok, Err, is_ok}
 use Rattle.format.specs.declared.cause.Cause.{Cause}
 use mathlib.Core.Path.{◌≡◌, refl, ap, subst, sym, ◌∙◌}
 use mathlib.Core.Bool.{Bool, true, false, ◌&&◌, ◌||◌, and-eq-true_iff, false≢true}
@@ -14,9 +15,9 @@ use lib.Bits.{bit_xor}
 use lib.Dec.{eqb, ltb}
 use lib.Ieee.{size}
 use Rattle.format.specs.Limits.{least_length, most_length, within}
-use Rattle.format.specs.Cause.{first}
+use Rattle.format.specs.Cause.{number, Check, clear, first}
 use Rattle.format.specs.Format.{word_bits, format_cause, operation_cause, mode_cause, word_cause}
-use Rattle.format.proofs.Laws.{both_none, word_none, within_holds}
+use Rattle.format.proofs.Laws.{ok_clear, both_none, word_none, within_holds}
 use Rattle.mask.specs.Mask.{mask_cause, masks_cause}
 use Rattle.choice.specs.Choice.{Farther}
 use Rattle.columns.proofs.Some.{or_cases}
@@ -67,6 +68,10 @@ is_below (Some m) None = false
 is_below None (Some n) = false
 is_below None None = true
 
+is_refused : ℕ → Check → Bool
+is_refused k (Ok u) = false
+is_refused k (Err c) = eqb (number c) k
+
 all_fit : Job → List (ℕ × ℕ × ℕ) → Bool
 all_fit j [] = true
 all_fit j (t ∷ ts) = is_case j t.0 t.1 t.2 && all_fit j ts
@@ -86,10 +91,10 @@ is_whole n x y c z carries =
 passes : Claim → Bool
 passes (sum F operation mode a b c carried) = is_word (result_reply F operation mode a b) c && is_carried carried (row_reply F operation a b)
 passes (below F operation g a b bits) = is_below (below_of F operation g a b) bits
-passes (exactly j fitting) = eqb (job_cause j) 0 && (all_fit j fitting && each_case j (listed fitting))
+passes (exactly j fitting) = is_ok (job_cause j) && (all_fit j fitting && each_case j (listed fitting))
 passes (found j r1 r2 a b c carries) =
-    eqb (request_cause j r1 r2) 0 && ((is_case j a b c && is_row carries (row_of j.setting.format j.setting.operation a b)) && each_case j (λ x y z. not_closer r1 r2 a b x y))
-passes (refused j k) = (ltb 0 k && eqb k (job_cause j)) || (eqb (job_cause j) 0 && (eqb k cause.NoCase && each_case j (λ x y z. false)))
+    is_ok (request_cause j r1 r2) && ((is_case j a b c && is_row carries (row_of j.setting.format j.setting.operation a b)) && each_case j (λ x y z. not_closer r1 r2 a b x y))
+passes (refused j k) = is_refused k (job_cause j) || (is_ok (job_cause j) && (eqb k (number cause.NoCase) && each_case j (λ x y z. false)))
 passes (whole_sum n x y carry_in z carries) = is_whole n x y carry_in z carries
 
 every : List Claim → Bool
@@ -185,10 +190,10 @@ unfolding passes
 found_is j r1 r2 a b c carries e =
     let test : ℕ → ℕ → ℕ → Bool = λ x y z. not_closer r1 r2 a b x y in
     let row_of = row_of j.setting.format j.setting.operation a b in
-    let p = (and-eq-true_iff (eqb (request_cause j r1 r2) 0) ((is_case j a b c && is_row carries row_of) && each_case j test)).0 e in
+    let p = (and-eq-true_iff (is_ok (request_cause j r1 r2)) ((is_case j a b c && is_row carries row_of) && each_case j test)).0 e in
     let q = (and-eq-true_iff (is_case j a b c && is_row carries row_of) (each_case j test)).0 p.1 in
     let s = (and-eq-true_iff (is_case j a b c) (is_row carries row_of)).0 q.0 in
-    let none = eqb-true (request_cause j r1 r2) 0 p.0 in
+    let none : request_cause j r1 r2 ≡ clear = ok_clear p.0 in
     let fit = is_case_lem j a b c s.0 in (
       none,
       record {
@@ -202,36 +207,40 @@ found_is j r1 r2 a b c carries e =
     )
 
 -- a cause against the job is the one that is named
-caused_is : (j : Job) (k : ℕ) → (ltb 0 k && eqb k (job_cause j)) ≡ true → Holds (refused j k)
-unfolding request_cause
-caused_is j k e r1 r2 h1 h2 =
-    let p = (and-eq-true_iff (ltb 0 k) (eqb k (job_cause j))).0 e in
-    let positive = ltb-true 0 k p.0 in
-    let is = eqb-true k (job_cause j) p.1 in
-    let width = word_bits j.setting.format in
-    let words = (both_none _ _ (word_none width r1) (word_none width r2)).1 (h1, h2) in
-    let named = taken_words j (first (word_cause width r1) (word_cause width r2)) words in
-    inl (subst (λ (n : ℕ). 0 < n) (is ∙ sym named) positive, is ∙ sym named)
+caused_is : (j : Job) (k : ℕ) → is_refused k (job_cause j) ≡ true → Holds (refused j k)
+unfolding request_cause is_refused
+caused_is j k e r1 r2 h1 h2 = by (job_cause j) refl e
+  where
+    named : request_cause j r1 r2 ≡ job_cause j
+    named =
+        let width = word_bits j.setting.format in
+        taken_words j (first (word_cause width r1) (word_cause width r2)) ((both_none _ _ (word_none width r1) (word_none width r2)).1 (h1, h2))
 
-no_case_is : (j : Job) (k : ℕ) → (eqb (job_cause j) 0 && (eqb k cause.NoCase && each_case j (λ x y z. false))) ≡ true → Holds (refused j k)
+    by : (r : Check) → job_cause j ≡ r → is_refused k r ≡ true → (c : Cause) × (number c ≡ k) × Replied j r1 r2 (Err c)
+    by (Ok u) is t = absurd (false≢true t)
+    by (Err c) is t = (c, (eqb-true (number c) k t, inl (named ∙ is)))
+
+no_case_is : (j : Job) (k : ℕ) → (is_ok (job_cause j) && (eqb k (number cause.NoCase) && each_case j (λ x y z. false))) ≡ true → Holds (refused j k)
 no_case_is j k e r1 r2 h1 h2 =
     let test : ℕ → ℕ → ℕ → Bool = λ x y z. false in
-    let p = (and-eq-true_iff (eqb (job_cause j) 0) (eqb k cause.NoCase && each_case j test)).0 e in
-    let q = (and-eq-true_iff (eqb k cause.NoCase) (each_case j test)).0 p.1 in
-    let valid = (job_none j).0 (eqb-true (job_cause j) 0 p.0) in
-    inr (
-      record {
-        taken = (request_none j r1 r2).1 (record { valid = valid; first_word = h1; second_word = h2 });
-        none = λ a b c f. false≢true (every_case j test valid q.1 a b c f);
-      },
-      eqb-true k cause.NoCase q.0,
+    let p = (and-eq-true_iff (is_ok (job_cause j)) (eqb k (number cause.NoCase) && each_case j test)).0 e in
+    let q = (and-eq-true_iff (eqb k (number cause.NoCase)) (each_case j test)).0 p.1 in
+    let valid = (job_none j).0 (ok_clear p.0) in (
+      cause.NoCase,
+      (sym (eqb-true k (number cause.NoCase) q.0), inr (
+        record {
+          taken = (request_none j r1 r2).1 (record { valid = valid; first_word = h1; second_word = h2 });
+          none = λ a b c f. false≢true (every_case j test valid q.1 a b c f);
+        },
+        refl,
+      )),
     )
 
 refused_is : (j : Job) (k : ℕ) → passes (refused j k) ≡ true → Holds (refused j k)
 unfolding passes
 refused_is j k e =
     ⊎_elim (caused_is j k) (no_case_is j k)
-    (or_cases (ltb 0 k && eqb k (job_cause j)) (eqb (job_cause j) 0 && (eqb k cause.NoCase && each_case j (λ x y z. false))) e)
+    (or_cases (is_refused k (job_cause j)) (is_ok (job_cause j) && (eqb k (number cause.NoCase) && each_case j (λ x y z. false))) e)
 
 passes_holds : (x : Claim) → passes x ≡ true → Holds x
 unfolding passes
@@ -240,9 +249,9 @@ passes_holds (sum F operation mode a b c carried) e =
     (word_is (result_reply F operation mode a b) c both.0, carried_is carried (row_reply F operation a b) both.1)
 passes_holds (below F operation g a b bits) e = below_is (below_of F operation g a b) bits e
 passes_holds (exactly j fitting) e =
-    let p = (and-eq-true_iff (eqb (job_cause j) 0) (all_fit j fitting && each_case j (listed fitting))).0 e in
+    let p = (and-eq-true_iff (is_ok (job_cause j)) (all_fit j fitting && each_case j (listed fitting))).0 e in
     let q = (and-eq-true_iff (all_fit j fitting) (each_case j (listed fitting))).0 p.1 in
-    let none = eqb-true (job_cause j) 0 p.0 in (
+    let none : job_cause j ≡ clear = ok_clear p.0 in (
       none,
       λ a b c. (
         λ f. is_listed fitting a b c (every_case j (listed fitting) ((job_none j).0 none) q.1 a b c f),
@@ -266,5 +275,5 @@ every_holds (y ∷ ys) t x m =
 -- ---- the table
 
 pub cases_hold : (x : Claim) → Memᴰ x cases → Holds x
-unfolding every passes is_word is_carried is_row is_below all_fit listed not_closer is_whole is_case each_case each_word fits satisfies case_cause cause_with form_cause setting_cause request_cause masks_cause mask_cause dropped_cause ends_cause bounds_cause rank format_cause operation_cause mode_cause word_cause result_cause row_cause size significand operand_of direction increment round_off magnitude_word overflow_word bounded_word cancelled_sign finite_sum infinite_sum kind_sum result_of gather finite_row kind_row row_of with_sticky dropped_word exact_magnitude finite_below kind_below below_of
+unfolding every passes is_refused number is_word is_carried is_row is_below all_fit listed not_closer is_whole is_case each_case each_word fits satisfies case_cause cause_with form_cause setting_cause request_cause masks_cause mask_cause dropped_cause ends_cause bounds_cause rank format_cause operation_cause mode_cause word_cause result_cause row_cause size significand operand_of direction increment round_off magnitude_word overflow_word bounded_word cancelled_sign finite_sum infinite_sum kind_sum result_of gather finite_row kind_row row_of with_sticky dropped_word exact_magnitude finite_below kind_below below_of
 cases_hold = every_holds cases refl

@@ -1,5 +1,7 @@
 -- A test of one case of a job, and one of every case that fits: a runs over the words that meet its mask, b over those that meet its own,
 -- and c is the rounded result. Assumes nothing.
+use Rattle.std.specs.Prelude.{is_ok}
+use Rattle.format.proofs.Laws.{ok_clear}
 use mathlib.Core.Path.{◌≡◌, sym, subst}
 use mathlib.Core.Bool.{Bool, true, ◌&&◌, and-eq-true_iff}
 use Prim.Native.Nat.{ℕ}
@@ -18,13 +20,13 @@ abbrev pub result_at : Job → ℕ → ℕ → ℕ
 result_at j a b = result_of j.setting.format j.setting.operation j.setting.mode a b
 
 unfoldable pub is_case : Job → ℕ → ℕ → ℕ → Bool
-is_case j a b c = eqb (case_cause j a b c) 0 && fits j a b c
+is_case j a b c = is_ok (case_cause j a b c) && fits j a b c
 
 pub is_case_lem : (j : Job) (a b c : ℕ) → is_case j a b c ≡ true → Fits j a b c
 unfolding is_case
 is_case_lem j a b c e =
-    let both = (and-eq-true_iff (eqb (case_cause j a b c) 0) (fits j a b c)).0 e in
-    (fits_true j a b c ((case_none j a b c).0 (eqb-true (case_cause j a b c) 0 both.0)).1).0 both.1
+    let both = (and-eq-true_iff (is_ok (case_cause j a b c)) (fits j a b c)).0 e in
+    (fits_true j a b c ((case_none j a b c).0 (ok_clear both.0)).1).0 both.1
 
 unfoldable pub each_case : Job → (ℕ → ℕ → ℕ → Bool) → Bool
 each_case j test =

@@ -8,6 +8,7 @@ use Rattle.std.specs.Prelude.{◌≡◌, ◌↔◌, ℕ, ◌^◌, ◌<◌}
 use mathlib.Core.List.{List, [], ◌∷◌, ◌++◌, Memᴰ}
 use Rattle.format.specs.declared.Format.{Format}
 use Rattle.format.specs.Format.{word_bits}
+use Rattle.format.specs.Cause.{number, clear}
 use Rattle.mask.specs.declared.Mask.{Mask}
 use Rattle.mask.specs.Mask.{free_mask}
 use Rattle.job.specs.declared.Job.{Job}
@@ -40,7 +41,7 @@ pub data Claim : Type 0 where
   exactly : Job → List (ℕ × ℕ × ℕ) → Claim
   -- of a job and two random words: the reply is the case a, b, c with its carry row
   found : Job → ℕ → ℕ → ℕ → ℕ → ℕ → ℕ → Claim
-  -- of a job: the reply is a number, whatever the random words
+  -- of a job: the reply is the refusal of this number, whatever the random words
   refused : Job → ℕ → Claim
   -- of whole numbers of a length, x, y and the carry in: z and the carries, whatever the random words
   whole_sum : ℕ → ℕ → ℕ → ℕ → ℕ → ℕ → Claim
@@ -54,9 +55,10 @@ CarriedIs unsaid r = Unit {0}
 abbrev pub Holds : Claim → Type 0
 Holds (sum F operation mode a b c carried) = (result_reply F operation mode a b ≡ Ok c) × CarriedIs carried (row_reply F operation a b)
 Holds (below F operation g a b bits) = below_of F operation g a b ≡ bits
-Holds (exactly j fitting) = (job_cause j ≡ 0) × ((a b c : ℕ) → Fits j a b c ↔ Memᴰ (a, b, c) fitting)
+Holds (exactly j fitting) = (job_cause j ≡ clear) × ((a b c : ℕ) → Fits j a b c ↔ Memᴰ (a, b, c) fitting)
 Holds (found j r1 r2 a b c carries) = generator.Replied j r1 r2 (Ok (record { a = a; b = b; c = c; row = Some carries }))
-Holds (refused j k) = (r1 r2 : ℕ) → r1 < 2 ^ word_bits j.setting.format → r2 < 2 ^ word_bits j.setting.format → generator.Replied j r1 r2 (Err k)
+Holds (refused j k) = (r1 r2 : ℕ) → r1 < 2 ^ word_bits j.setting.format → r2 < 2 ^ word_bits j.setting.format
+    → (c : Cause) × (number c ≡ k) × generator.Replied j r1 r2 (Err c)
 Holds (whole_sum n x y carry_in z carries) =
     (w : Words) → w.x < 2 ^ n → w.y < 2 ^ n → w.z < 2 ^ n
     → whole.Replied (record { length = n; masks = addends n x y carry_in; words = w }) (Ok (record { x = x; y = y; z = z; carries = carries }))

@@ -14,7 +14,7 @@ use job::{Job, request_cause};
 use search::choose;
 
 // Operands, their rounded result and their carry row; there is none where an operand is infinite or a NaN.
-#[derive(Clone, Copy)]
+#[derive(Clone, Copy, Debug, PartialEq, Eq)]
 pub struct Case {
     pub a: u64,
     pub b: u64,

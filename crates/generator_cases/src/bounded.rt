@@ -1,6 +1,6 @@
 // W-207: jobs that state bounds, impossible ones among them, and their refusals.
 use crate::jobs::{adding, asked, both_words, bounding, eight, found, free, none, open, refused};
-use format::cause;
+use format::Cause;
 use job::{Job, Role};
 use std::io;
 use tally::Cases;
@@ -71,9 +71,9 @@ pub(crate) fn stated(cases: &mut Cases<'_, impl Print>) -> io::Result<()> {
 pub(crate) fn malformed(cases: &mut Cases<'_, impl Print>) -> io::Result<()> {
     let job = open(adding(3, 4, 0));
     let nan = bounding(job, Role::A, 0x00, 0x78);
-    asked(cases, nan, 0, 0, refused(cause::BOUNDS))?;
+    asked(cases, nan, 0, 0, refused(Cause::Bounds))?;
     let turned = bounding(job, Role::C, 0x31, 0x30);
-    asked(cases, turned, 0, 0, refused(cause::BOUNDS))?;
+    asked(cases, turned, 0, 0, refused(Cause::Bounds))?;
     let wide = bounding(turned, Role::B, 0x00, 0x100);
-    asked(cases, wide, 0, 0, refused(cause::WORD))
+    asked(cases, wide, 0, 0, refused(Cause::Word))
 }

@@ -3,7 +3,7 @@
 use crate::jobs::{
     adding, asked, both_words, dropping, eight, found, free, mask, none, numbers, open, refused,
 };
-use format::cause;
+use format::Cause;
 use job::Setting;
 use job::words::masked_job;
 use mask::Mask;
@@ -33,21 +33,21 @@ fn refused_widths(
     cases: &mut Cases<'_, impl Print>,
     w: u64,
     f: u64,
-    number: u64,
+    cause: Cause,
 ) -> io::Result<()> {
-    asked(cases, open(adding(w, f, 0)), 0, 0, refused(number))
+    asked(cases, open(adding(w, f, 0)), 0, 0, refused(cause))
 }
 
 // 12, as W-202 moves it. w = 2 and 11 accepted, 1 and 12 refused; f = 2 and 52 accepted, 1 and 53 refused.
 pub(crate) fn limits(cases: &mut Cases<'_, impl Print>) -> io::Result<()> {
     accepted(cases, 2, 4)?;
     accepted(cases, 11, 4)?;
-    refused_widths(cases, 1, 4, cause::EXPONENT_BITS)?;
-    refused_widths(cases, 12, 4, cause::EXPONENT_BITS)?;
+    refused_widths(cases, 1, 4, Cause::ExponentBits)?;
+    refused_widths(cases, 12, 4, Cause::ExponentBits)?;
     accepted(cases, 3, 2)?;
     accepted(cases, 3, 52)?;
-    refused_widths(cases, 3, 1, cause::FRACTION_BITS)?;
-    refused_widths(cases, 3, 53, cause::FRACTION_BITS)
+    refused_widths(cases, 3, 1, Cause::FractionBits)?;
+    refused_widths(cases, 3, 53, Cause::FractionBits)
 }
 
 // Two positive operands and a negative sum, in the format whose words have this sign bit.
@@ -149,7 +149,7 @@ fn wide(
     cases: &mut Cases<'_, impl Print>,
     setting: Setting,
     formed: u64,
-    number: u64,
+    cause: Cause,
 ) -> io::Result<()> {
     let job = masked_job(
         setting,
@@ -160,38 +160,38 @@ fn wide(
     );
     let last = above_from(formed, 4);
     let job = dropping(job, 0, last.care, last.value);
-    asked(cases, job, 0x100, 0x100, refused(number))
+    asked(cases, job, 0x100, 0x100, refused(cause))
 }
 
 // Of the causes 1 to 4 each line has one fewer: the first is named. Masks and words have a bit above every width.
 fn first_cause(cases: &mut Cases<'_, impl Print>) -> io::Result<()> {
-    wide(cases, numbers(1, 1, 2, 5), 0, cause::EXPONENT_BITS)?;
-    wide(cases, numbers(3, 1, 2, 5), 0, cause::FRACTION_BITS)?;
-    wide(cases, numbers(3, 4, 2, 5), 0, cause::OPERATION)?;
-    wide(cases, numbers(3, 4, 0, 5), 0, cause::MODE)
+    wide(cases, numbers(1, 1, 2, 5), 0, Cause::ExponentBits)?;
+    wide(cases, numbers(3, 1, 2, 5), 0, Cause::FractionBits)?;
+    wide(cases, numbers(3, 4, 2, 5), 0, Cause::Operation)?;
+    wide(cases, numbers(3, 4, 0, 5), 0, Cause::Mode)
 }
 
 // The same of malformed masks, with the words after them.
 fn first_mask(cases: &mut Cases<'_, impl Print>) -> io::Result<()> {
-    wide(cases, adding(3, 4, 0), 0, cause::MASK)?;
-    wide(cases, adding(3, 4, 0), 1, cause::SECOND_MASK)?;
-    wide(cases, adding(3, 4, 0), 2, cause::THIRD_MASK)?;
-    wide(cases, adding(3, 4, 0), 3, cause::CARRY_MASK)?;
-    wide(cases, adding(3, 4, 0), 4, cause::DROPPED_MASK)?;
-    wide(cases, adding(3, 4, 0), 5, cause::WORD)
+    wide(cases, adding(3, 4, 0), 0, Cause::Mask)?;
+    wide(cases, adding(3, 4, 0), 1, Cause::SecondMask)?;
+    wide(cases, adding(3, 4, 0), 2, Cause::ThirdMask)?;
+    wide(cases, adding(3, 4, 0), 3, Cause::CarryMask)?;
+    wide(cases, adding(3, 4, 0), 4, Cause::DroppedMask)?;
+    wide(cases, adding(3, 4, 0), 5, Cause::Word)
 }
 
 // Words alone too wide.
 fn words(cases: &mut Cases<'_, impl Print>, r1: u64, r2: u64) -> io::Result<()> {
-    asked(cases, open(adding(3, 4, 0)), r1, r2, refused(cause::WORD))
+    asked(cases, open(adding(3, 4, 0)), r1, r2, refused(Cause::Word))
 }
 
 // A value outside care, and a carry above the precision.
 fn masks(cases: &mut Cases<'_, impl Print>) -> io::Result<()> {
     let outside = masked_job(adding(3, 4, 0), free(), mask(1, 3), free(), free());
-    asked(cases, outside, 0, 0, refused(cause::SECOND_MASK))?;
+    asked(cases, outside, 0, 0, refused(Cause::SecondMask))?;
     let carry = masked_job(adding(3, 4, 0), free(), free(), free(), mask(0x20, 0x20));
-    asked(cases, carry, 0, 0, refused(cause::CARRY_MASK))
+    asked(cases, carry, 0, 0, refused(Cause::CarryMask))
 }
 
 pub(crate) fn bad_input(cases: &mut Cases<'_, impl Print>) -> io::Result<()> {

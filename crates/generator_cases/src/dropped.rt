@@ -2,7 +2,7 @@
 use crate::jobs::{
     adding, asked, both_words, dropping, eight, found, free, mask, none, numbers, open, refused,
 };
-use format::cause;
+use format::Cause;
 use job::Job;
 use job::words::masked_job;
 use mask::Mask;
@@ -112,7 +112,7 @@ fn malformed_mask(
     value: u64,
 ) -> io::Result<()> {
     let job = dropping(open(adding(3, 4, 0)), g, care, value);
-    asked(cases, job, 0, 0, refused(cause::DROPPED_MASK))
+    asked(cases, job, 0, 0, refused(Cause::DroppedMask))
 }
 
 // A g above 8, also where no bit is fixed; a bit above the g + 1 bits; a value outside care, also where no bit is fixed. A g up to 8 is taken.

@@ -1,9 +1,8 @@
 // Jobs and the replies to them: what the cases are made of, and the line of a case.
 use crate::line::{Question, Shown};
-use adder::Row;
-use bounds::{Bounds, Ends};
-use format::{Format, cause};
-use generator::{Case, Reply};
+use bounds::Ends;
+use format::{Format, Cause};
+use generator::Case;
 use job::words::{masked_job, wanted, with_wanted};
 use job::{Dropped, Job, Role, Setting, Wanted};
 use mask::Mask;
@@ -53,7 +52,7 @@ pub(crate) fn open(setting: Setting) -> Job {
 // The job with bounds on a word.
 pub(crate) fn bounding(job: Job, role: Role, low: u64, high: u64) -> Job {
     let mask = wanted(job, role).mask;
-    let bounds = Bounds::Between(Ends { low, high });
+    let bounds = Some(Ends { low, high });
     with_wanted(job, role, Wanted { mask, bounds })
 }
 
@@ -66,21 +65,21 @@ pub(crate) fn dropping(job: Job, g: u64, care: u64, value: u64) -> Job {
     }
 }
 
-pub(crate) fn found(a: u64, b: u64, c: u64, carries: u64) -> Reply {
-    Reply::Found(Case {
+pub(crate) fn found(a: u64, b: u64, c: u64, carries: u64) -> Result<Case, Cause> {
+    Ok(Case {
         a,
         b,
         c,
-        row: Row::Carries(carries),
+        row: Some(carries),
     })
 }
 
-pub(crate) fn refused(number: u64) -> Reply {
-    Reply::Refused(number)
+pub(crate) fn refused(cause: Cause) -> Result<Case, Cause> {
+    Err(cause)
 }
 
-pub(crate) fn none() -> Reply {
-    refused(cause::NO_CASE)
+pub(crate) fn none() -> Result<Case, Cause> {
+    refused(Cause::NoCase)
 }
 
 // A line: the generator is asked, and its reply held against the one expected.
@@ -89,7 +88,7 @@ pub(crate) fn asked(
     job: Job,
     r1: u64,
     r2: u64,
-    expected: Reply,
+    expected: Result<Case, Cause>,
 ) -> io::Result<()> {
     let reply = generator::generate(job, r1, r2);
     print!(cases.rt; "{}: {}", Question { job, r1, r2 }, Shown(reply))?;
@@ -100,8 +99,8 @@ pub(crate) fn asked(
 pub(crate) fn both_words(
     cases: &mut Cases<'_, impl Print>,
     job: Job,
-    zeros: Reply,
-    others: Reply,
+    zeros: Result<Case, Cause>,
+    others: Result<Case, Cause>,
 ) -> io::Result<()> {
     asked(cases, job, 0, 0, zeros)?;
     asked(cases, job, 0x4D, 0, others)

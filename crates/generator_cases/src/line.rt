@@ -1,7 +1,6 @@
 // What is asked, and what comes, as a line writes them.
-use adder::Row;
-use bounds::Bounds;
-use generator::Reply;
+use format::Cause;
+use generator::Case;
 use job::{Dropped, Job, Wanted};
 use mask::Mask;
 use std::fmt;
@@ -28,8 +27,8 @@ impl fmt::Display for NamedBounds<'_> {
     fn fmt<W: fmt::Write>(&self, f: &mut fmt::Formatter<W>) -> fmt::Result {
         let NamedBounds(name, wanted) = *self;
         match wanted.bounds {
-            Bounds::Unbounded => Ok(()),
-            Bounds::Between(ends) => {
+            None => Ok(()),
+            Some(ends) => {
                 write!(f, " {name} within {:016x} {:016x}", ends.low, ends.high)
             }
         }
@@ -79,18 +78,18 @@ impl fmt::Display for Question {
 
 // A reply: the case, or the number of the refusal.
 #[derive(Clone, Copy)]
-pub struct Shown(pub Reply);
+pub struct Shown(pub Result<Case, Cause>);
 
 impl fmt::Display for Shown {
     fn fmt<W: fmt::Write>(&self, f: &mut fmt::Formatter<W>) -> fmt::Result {
         let x = match self.0 {
-            Reply::Found(x) => x,
-            Reply::Refused(number) => return write!(f, "refused {number}"),
+            Ok(x) => x,
+            Err(cause) => return write!(f, "refused {cause}"),
         };
         write!(f, "found {:016x} {:016x} {:016x}", x.a, x.b, x.c)?;
         match x.row {
-            Row::Carries(carries) => write!(f, " {carries:016x}"),
-            Row::NoRow => write!(f, " -"),
+            Some(carries) => write!(f, " {carries:016x}"),
+            None => write!(f, " -"),
         }
     }
 }

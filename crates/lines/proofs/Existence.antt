@@ -25,7 +25,7 @@ module _ (s : List ℕ) where
       read : length s < suc longest → p.stopped ≡ false → p.lines < suc longest → (f : Result (Option (Entry × ℕ)) Cause) → first_in (drop p.at s) ≡ f → (t : List ℕ) × (x : Option Place) × Lists s p t x
       read short on few (Ok None) e = (_, _, end (omega arith) (inr (inr e)))
       read short on few (Err k) e = (_, _, refused (omega arith) (record { reading = on; most = omega arith }) e)
-      read short on few ((Ok (Some (d, n)))) e =
+      read short on few (Ok (Some (d, n))) e =
           let r = reply_exists d.job d.r1 d.r2 in
           (_, _, answered r.0 (omega arith) (record { reading = on; most = omega arith }) e r.1)
 

@@ -1,5 +1,7 @@
 -- What the definition of the listing amounts to: a file has one listing; every line brings it nearer to its end; and the file that is
 -- written of some entries lists as the replies to them, line by line. Assumes nothing.
+use Rattle.format.specs.Cause.{number, clear}
+use Rattle.format.proofs.Laws.{err_ok}
 use Rattle.generator.specs.declared.Case.{Case}
 use Rattle.std.specs.Prelude.{Option, Some, None, Result, Ok, Err}
 use Rattle.format.specs.declared.cause.Cause.{Cause}
@@ -15,10 +17,10 @@ use lib.Seq.{drop-drop}
 use Rattle.format.specs.declared.cause.Cause.TheVariants as cause
 use Rattle.job.specs.declared.Job.{Job}
 use Rattle.job.specs.Job.{request_cause}
-use Rattle.records.specs.Record.{first_in, record_cause, record_length}
+use Rattle.records.specs.Record.{First, first_in, record_cause, record_length}
 use Rattle.records.specs.File.{file_bytes, normalised_entries, Reads, end as no_byte, next as record_first, Writable, none as no_entry, more as entry_first}
 use Rattle.layout.specs.declared.Entry.{Entry}
-use Rattle.records.proofs.Causes.{first_job, first_none_left}
+use Rattle.records.proofs.Causes.{job_same, first_job, first_none_left}
 use Rattle.records.proofs.Files.{file_read}
 use Rattle.generator.specs.Promise.{Replied}
 use Rattle.generator.proofs.Replies.{reply_unique}
@@ -34,7 +36,7 @@ abbrev pub left : List ℕ → Place → ℕ
 left s p = 2 * (length s - p.at) + cond p.stopped 0 1
 
 -- a job's record has four bytes at least, and lies in the file
-pub job_within : (s : List ℕ) (at : ℕ) (e : Entry) (n : ℕ) → first_in (drop at s) ≡ (Ok (Some (e, n))) → (4 ≤ n) × (at + n ≤ length s)
+pub job_within : (s : List ℕ) (at : ℕ) (e : Entry) (n : ℕ) → first_in (drop at s) ≡ Ok (Some (e, n)) → (4 ≤ n) × (at + n ≤ length s)
 unfolding record_length
 job_within s at e n q =
     let t = first_job (drop at s) e n q in
@@ -61,7 +63,7 @@ lists_less {s} {p} (answered {e} {n} r short on at replied) =
 -- ---- a file has one listing
 
 -- where a record is to be read, the end comes only with the last byte
-ended : (s : List ℕ) (p : Place) → Reading p → Ended s p → first_in (drop p.at s) ≡ (Ok None)
+ended : (s : List ℕ) (p : Place) → Reading p → Ended s p → first_in (drop p.at s) ≡ Ok None
 ended s p on (inl stopped) = absurd (false≢true (sym on.reading ∙ stopped))
 ended s p on (inr (inl many)) = absurd (omega (arith, many, on.most))
 ended s p on (inr (inr none_left)) = none_left
@@ -74,33 +76,33 @@ lists_unique (long h) (answered r short on q replied) = absurd (omega (arith, h,
 lists_unique (end short e) (long g) = absurd (omega (arith, g, short))
 lists_unique (end short e) (end short₂ f) = (refl, refl)
 lists_unique {s} {p} (end short e) (refused {k} short₂ on q) =
-    let both : (Ok None) ≡ Err k = sym (ended s p on e) ∙ q in
+    let both : ◌≡◌ {A = First} (Ok None) (Err k) = sym (ended s p on e) ∙ q in
     absurd (let z : ◌≡◌ {A = ℕ} 0 1 = cc in omega arith)
 lists_unique {s} {p} (end short e) (answered {e = d} {n} r short₂ on q replied) =
-    let both : (Ok None) ≡ (Ok (Some (d, n))) = sym (ended s p on e) ∙ q in
+    let both : ◌≡◌ {A = First} (Ok None) (Ok (Some (d, n))) = sym (ended s p on e) ∙ q in
     absurd (let z : ◌≡◌ {A = ℕ} 0 1 = cc in omega arith)
 lists_unique (refused short on q) (long g) = absurd (omega (arith, g, short))
 lists_unique {s} {p} (refused {k} short on q) (end short₂ e) =
-    let both : (Ok None) ≡ Err k = sym (ended s p on e) ∙ q in
+    let both : ◌≡◌ {A = First} (Ok None) (Err k) = sym (ended s p on e) ∙ q in
     absurd (let z : ◌≡◌ {A = ℕ} 0 1 = cc in omega arith)
 lists_unique {s} {p} (refused {k} short on q) (refused {k = l} short₂ on₂ q₂) =
-    let both : Err k ≡ Err l = sym q ∙ q₂ in
+    let both : ◌≡◌ {A = First} (Err k) (Err l) = sym q ∙ q₂ in
     let same : k ≡ l = cc in
-    (ap (refused_line (p.lines + 1)) same, refl)
+    (ap (λ (m : Cause). refused_line (p.lines + 1) (number m)) same, refl)
 lists_unique (refused {k} short on q) (answered {e} {n} r short₂ on₂ q₂ replied) =
-    let both : Err k ≡ (Ok (Some (e, n))) = sym q ∙ q₂ in
+    let both : ◌≡◌ {A = First} (Err k) (Ok (Some (e, n))) = sym q ∙ q₂ in
     absurd (let z : ◌≡◌ {A = ℕ} 0 1 = cc in omega arith)
 lists_unique (answered r short on q replied) (long g) = absurd (omega (arith, g, short))
 lists_unique {s} {p} (answered {e} {n} r short on q replied) (end short₂ f) =
-    let both : (Ok None) ≡ (Ok (Some (e, n))) = sym (ended s p on f) ∙ q in
+    let both : ◌≡◌ {A = First} (Ok None) (Ok (Some (e, n))) = sym (ended s p on f) ∙ q in
     absurd (let z : ◌≡◌ {A = ℕ} 0 1 = cc in omega arith)
 lists_unique (answered {e} {n} r short on q replied) (refused {k} short₂ on₂ q₂) =
-    let both : Err k ≡ (Ok (Some (e, n))) = sym q₂ ∙ q in
+    let both : ◌≡◌ {A = First} (Err k) (Ok (Some (e, n))) = sym q₂ ∙ q in
     absurd (let z : ◌≡◌ {A = ℕ} 0 1 = cc in omega arith)
 lists_unique {s} {p} (answered {e} {n} r short on q replied) (answered {e = d} {n = m} r₂ short₂ on₂ q₂ replied₂) =
-    let both : (Ok (Some (e, n))) ≡ (Ok (Some (d, m))) = sym q ∙ q₂ in
-    let same_entry : e ≡ d = cc in
-    let same_length : n ≡ m = cc in
+    let both = job_same (sym q ∙ q₂) in
+    let same_entry : e ≡ d = both.0 in
+    let same_length : n ≡ m = both.1 in
     let same : r ≡ r₂ = reply_unique e.job e.r1 e.r2 r r₂ replied (subst (λ (x : Entry). Replied x.job x.r1 x.r2 r₂) (sym same_entry) replied₂) in (
       ap₂ (λ (d : Entry) (x : Result Case Cause). reply_line d.job.setting.format (p.lines + 1) x) same_entry same,
       ap₂ (λ (i : ℕ) (x : Result Case Cause). Some (record { at = p.at + i; lines = p.lines + 1; stopped = stops x })) same_length same,
@@ -119,19 +121,19 @@ listed_unique {s} (more {q = q} {u = u} a rest) (more {q = q₂} {u = v} b rest�
 -- ---- written files
 
 -- a job that was read is refused for no other cause than 7
-pub stops_none : (j : Job) (r1 r2 : ℕ) (r : Result Case Cause) → request_cause j r1 r2 ≡ 0 → Replied j r1 r2 r → stops r ≡ false
+pub stops_none : (j : Job) (r1 r2 : ℕ) (r : Result Case Cause) → request_cause j r1 r2 ≡ clear → Replied j r1 r2 r → stops r ≡ false
 stops_none j r1 r2 (Ok x) ok p = refl
-stops_none j r1 r2 (Err k) ok (inl p) = absurd (omega (arith, ok, p.0))
-stops_none j r1 r2 (Err k) ok (inr p) = ap not (eq-eqb k cause.NoCase p.1)
+stops_none j r1 r2 (Err k) ok (inl p) = absurd (err_ok (sym p ∙ ok))
+stops_none j r1 r2 (Err k) ok (inr p) = ap (λ (m : Cause). stops (Err m)) p.1
 
-read_taken : (s : List ℕ) (e : Entry) (n : ℕ) → first_in s ≡ (Ok (Some (e, n))) → request_cause e.job e.r1 e.r2 ≡ 0
+read_taken : (s : List ℕ) (e : Entry) (n : ℕ) → first_in s ≡ Ok (Some (e, n)) → request_cause e.job e.r1 e.r2 ≡ clear
 read_taken s e n q = let t = first_job s e n q in ap record_cause (sym t.entry) ∙ t.readable.sound
 
 reads_listed : (s u : List ℕ) (at n : ℕ) {es : List Entry} {t : List ℕ} → length s ≤ longest → n ≤ at → at ≤ length s → u ≡ drop at s → Reads u es → Lines n es t
     → Listed s (record { at = at; lines = n; stopped = false }) t
 reads_listed s u at n short few within is no_byte none = last (end short (inr (inr (first_none_left (drop at s) (ap length (sym is))))))
 reads_listed s u at n short few within is (record_first {e = e} {n = k} {es = es} q rest) (next {t = t} r replied lines) =
-    let job : first_in (drop at s) ≡ (Ok (Some (e, k))) = ap first_in (sym is) ∙ q in
+    let job : first_in (drop at s) ≡ Ok (Some (e, k)) = ap first_in (sym is) ∙ q in
     let w = job_within s at e k job in
     let going : stops r ≡ false = stops_none e.job e.r1 e.r2 r (read_taken u e k q) replied in
     let after : Listed s (record { at = at + k; lines = n + 1; stopped = false }) t =

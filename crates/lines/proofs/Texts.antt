@@ -127,12 +127,3 @@ row_most k None h = omega arith
 pub says_grown : {l r : Line} {bs : List ℕ} → Empty l → Grown l r bs → length bs ≤ 128 → Says r bs
 says_grown {l} {r} {bs} e g h =
     record { most = omega (arith, g.len, g.whole, e.len, h); text = g.text ∙ ap (λ (n : ℕ). take n l.bytes ++ bs) e.len }
-
--- the line for a number: 7, or another
-pub reply_none : (F : Format) (n k : ℕ) → k ≡ cause.NoCase → reply_line F n (Err k) ≡ none_line n
-unfolding reply_line
-reply_none F n k e = ap (λ (t : Bool). cond t (none_line n) (refused_line n k)) (eq-eqb k cause.NoCase e)
-
-pub reply_refused : (F : Format) (n k : ℕ) → (k ≡ cause.NoCase → ⊥) → reply_line F n (Err k) ≡ refused_line n k
-unfolding reply_line
-reply_refused F n k h = ap (λ (t : Bool). cond t (none_line n) (refused_line n k)) (ne_eqb k cause.NoCase h)

@@ -1,5 +1,6 @@
 -- The listing of a job file (document 01, "Cases, in hexadecimal", from "The listing program" on): which line comes next, and what comes
 -- after it. A place is the offset of the next record, the count of the lines before, and whether reading has stopped. Assumes nothing.
+use Rattle.format.specs.Cause.{number}
 use Rattle.generator.specs.declared.Case.{Case}
 use Rattle.std.specs.Prelude.{Option, Some, None, Result, Ok, Err}
 use Rattle.format.specs.declared.cause.Cause.{Cause}
@@ -18,7 +19,8 @@ longest = 65536
 -- "Another refusal prints `n refused k` .. and reading stops": other than 7
 abbrev pub stops : Result Case Cause → Bool
 stops (Ok x) = false
-stops (Err k) = not (eqb k cause.NoCase)
+stops (Err cause.NoCase) = false
+stops (Err k) = true
 
 -- a record is to be read at the place: reading has not stopped, and the count is one that a listing can have
 pub record Reading (p : Place) : Type 0 where
@@ -27,7 +29,7 @@ pub record Reading (p : Place) : Type 0 where
 
 -- no record is read at the place p of the file s: reading has stopped, no listing has so many lines, or no byte is left
 abbrev pub Ended : List ℕ → Place → Type 0
-Ended s p = (p.stopped ≡ true) ⊎ ((longest < p.lines) ⊎ (first_in (drop p.at s) ≡ (Ok None)))
+Ended s p = (p.stopped ≡ true) ⊎ ((longest < p.lines) ⊎ (first_in (drop p.at s) ≡ Ok None))
 
 -- the line that comes next at the place p of the file s, and what comes after it
 pub data Lists (s : List ℕ) (p : Place) : List ℕ → Option Place → Type 0 where
@@ -36,10 +38,10 @@ pub data Lists (s : List ℕ) (p : Place) : List ℕ → Option Place → Type 0
   -- "`end` is the last line .. and gives the count of the lines before it"
   end : length s ≤ longest → Ended s p → Lists s p (end_line p.lines) None
   -- a record that is refused in reading: the line counts, and reading stops
-  refused : {k : ℕ} → length s ≤ longest → Reading p → first_in (drop p.at s) ≡ Err k
-      → Lists s p (refused_line (p.lines + 1) k) (Some (record { at = p.at; lines = p.lines + 1; stopped = true }))
+  refused : {k : Cause} → length s ≤ longest → Reading p → first_in (drop p.at s) ≡ Err k
+      → Lists s p (refused_line (p.lines + 1) (number k)) (Some (record { at = p.at; lines = p.lines + 1; stopped = true }))
   -- a job: the line for the generator's reply to it
-  answered : {e : Entry} {n : ℕ} (r : Result Case Cause) → length s ≤ longest → Reading p → first_in (drop p.at s) ≡ (Ok (Some (e, n))) → Replied e.job e.r1 e.r2 r
+  answered : {e : Entry} {n : ℕ} (r : Result Case Cause) → length s ≤ longest → Reading p → first_in (drop p.at s) ≡ Ok (Some (e, n)) → Replied e.job e.r1 e.r2 r
       → Lists s p (reply_line e.job.setting.format (p.lines + 1) r) (Some (record { at = p.at + n; lines = p.lines + 1; stopped = stops r }))
 
 -- all the text from the place p on

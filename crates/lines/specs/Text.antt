@@ -1,4 +1,5 @@
 -- The text of the listing's lines as bytes of ASCII (document 01, "Cases, in hexadecimal", from "The listing program" on). Assumes nothing.
+use Rattle.format.specs.Cause.{number}
 use Rattle.std.specs.Prelude.{Option, Some, None, Result, Ok, Err}
 use Rattle.format.specs.declared.cause.Cause.{Cause}
 use Rattle.std.specs.Prelude.{◌≡◌, cond, ℕ, zero, suc, ◌+◌, ◌*◌, ◌/◌, ◌%◌, ◌≤◌, List, [], ◌∷◌, ◌++◌, length, take, ltb, eqb}
@@ -75,7 +76,8 @@ refused_line n k = decimal n ++ (refused_word ++ (decimal k ++ feed))
 -- the line for the reply to job n, in the job's format: 7 is "`n none`"
 unfoldable pub reply_line : Format → ℕ → Result Case Cause → List ℕ
 reply_line F n (Ok x) = found_line (word_digits F) n x
-reply_line F n (Err k) = cond (eqb k cause.NoCase) (none_line n) (refused_line n k)
+reply_line F n (Err cause.NoCase) = none_line n
+reply_line F n (Err k) = refused_line n (number k)
 
 -- "end "
 abbrev pub end_word : List ℕ

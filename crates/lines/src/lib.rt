@@ -9,10 +9,9 @@ ghost use Rattle.lines.specs.Listing.{start, stops, longest, Reading};
 ghost use Rattle.lines.specs.Step.{Steps, Answers};
 
 use format::Cause;
-use generator::{Reply, generate};
+use generator::{Case, generate};
 use layout::Entry;
 use reader::draw;
-use records::First;
 use say::{end_line, long_line, refused_line, reply_line};
 use text::Line;
 
@@ -29,18 +28,11 @@ pub struct Place {
     pub stopped: bool,
 }
 
-// What comes after a line.
-#[derive(Clone, Copy)]
-pub enum Then {
-    On(Place),
-    Done,
-}
-
-// A line, and what comes after it.
+// A line, and the place that comes after it, none after the last.
 #[derive(Clone, Copy)]
 pub struct Step {
     pub line: Line,
-    pub then: Then,
+    pub then: Option<Place>,
 }
 
 // Where a listing begins.
@@ -55,12 +47,13 @@ pub fn first_place() -> Place
 }
 
 // Whether reading stops after the reply.
-fn stops(reply: Reply) -> bool
+fn stops(reply: Result<Case, Cause>) -> bool
     ensures { result ≡ stops reply }
 {
     match reply {
-        Reply::Found(_) => false,
-        Reply::Refused(k) => k != Cause::NoCase,
+        Ok(_) => false,
+        Err(Cause::NoCase) => false,
+        Err(_) => true,
     }
 }
 
@@ -78,7 +71,7 @@ fn answered(entry: Entry, n: u64, next: usize) -> Step
     };
     Step {
         line,
-        then: Then::On(place),
+        then: Some(place),
     }
 }
 
@@ -99,31 +92,30 @@ pub fn next_line(file: &[u8], place: Place) -> Step
     if LONGEST < file.len() {
         return Step {
             line: long_line(),
-            then: Then::Done,
+            then: None,
         };
     }
     if !reading(place) {
         return Step {
             line: end_line(place.lines),
-            then: Then::Done,
+            then: None,
         };
     }
     let drawn = draw(file, place.at);
     let n = place.lines + 1;
-    let first = drawn.first;
-    match first {
-        First::End => Step {
+    match drawn.first {
+        Ok(None) => Step {
             line: end_line(place.lines),
-            then: Then::Done,
+            then: None,
         },
-        First::Refused(k) => Step {
-            line: refused_line(n, k),
-            then: Then::On(Place {
+        Err(cause) => Step {
+            line: refused_line(n, cause.number()),
+            then: Some(Place {
                 at: place.at,
                 lines: n,
                 stopped: true,
             }),
         },
-        First::Job(entry, _) => answered(entry, n, drawn.next),
+        Ok(Some((entry, _))) => answered(entry, n, drawn.next),
     }
 }

@@ -3,18 +3,17 @@ ghost use Rattle.std.specs.Prelude.{◌≤◌};
 ghost use Rattle.lines.specs.Text.{Room, Grown, Says, row_text, found_line, none_line, refused_line, reply_line, end_line, long_line};
 
 use crate::text::{Line, empty, with_decimal, with_text, with_word, word_digits};
-use adder::Row;
-use format::{Format, Cause};
-use generator::{Case, Reply};
+use format::{Cause, Format};
+use generator::Case;
 
 // With a space and the row in k digits, or a dash where there is none.
-fn with_row(line: Line, k: u64, row: Row) -> Line
+fn with_row(line: Line, k: u64, row: Option<u64>) -> Line
     requires { (k ≤ 16) × Room line 17 }
     ensures { Grown line result (row_text k row) }
 {
     match row {
-        Row::Carries(x) => with_word(line, k, x),
-        Row::NoRow => with_text(line, b" -"),
+        Some(x) => with_word(line, k, x),
+        None => with_text(line, b" -"),
     }
 }
 
@@ -28,8 +27,7 @@ fn found_line(k: u64, n: u64, x: Case) -> Line
     let a = with_word(found, k, x.a);
     let b = with_word(a, k, x.b);
     let c = with_word(b, k, x.c);
-    let row = x.row;
-    with_text(with_row(c, k, row), b"\n")
+    with_text(with_row(c, k, x.row), b"\n")
 }
 
 fn none_line(n: u64) -> Line
@@ -47,17 +45,14 @@ pub(crate) fn refused_line(n: u64, k: u64) -> Line
 }
 
 // The line for the reply to job n, in the job's format.
-pub(crate) fn reply_line(format: Format, n: u64, reply: Reply) -> Line
+#[tactic(auto, unfolding(crate::specs::Text::reply_line))]
+pub(crate) fn reply_line(format: Format, n: u64, reply: Result<Case, Cause>) -> Line
     ensures { Says result (reply_line format n reply) }
 {
     match reply {
-        Reply::Found(x) => found_line(word_digits(format), n, x),
-        Reply::Refused(k) => {
-            if k == Cause::NoCase {
-                return none_line(n);
-            }
-            refused_line(n, k)
-        }
+        Ok(x) => found_line(word_digits(format), n, x),
+        Err(Cause::NoCase) => none_line(n),
+        Err(cause) => refused_line(n, cause.number()),
     }
 }
 

@@ -4,7 +4,7 @@
 ghost use Rattle.std.specs.Prelude.{OnOk};
 ghost use Rattle.print.specs.Printed.{Prints};
 
-use lines::{Then, first_place, next_line};
+use lines::{first_place, next_line};
 use std::io;
 use std::io::Write;
 
@@ -12,8 +12,8 @@ use std::io::Write;
 pub fn print_listing<W: Write>(out: &mut W, file: &[u8]) -> io::Result<()>
     ensures { OnOk result (Prints file.now (W.contents out.old) (W.contents out.new)) }
 {
-    let mut next = Then::On(first_place());
-    while let Then::On(place) = next {
+    let mut next = Some(first_place());
+    while let Some(place) = next {
         let step = next_line(file, place);
         let bytes = step.line.bytes;
         let n = step.line.len;

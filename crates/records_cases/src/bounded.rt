@@ -1,6 +1,6 @@
 // W-207: the second map and the bounds that it announces, each low one before its high one; read, written, and each of their refusals.
 use crate::{dropped, reading, writing};
-use bounds::{Bounds, Ends};
+use bounds::Ends;
 use job::words::{wanted, with_wanted};
 use job::{Job, Role, Wanted};
 use layout::Entry;
@@ -69,7 +69,7 @@ pub(crate) const ORDER: &[&[u8]] = &[
 // The job with bounds of one word.
 fn bounded(job: Job, role: Role, low: u64, high: u64) -> Job {
     let mask = wanted(job, role).mask;
-    let bounds = Bounds::Between(Ends { low, high });
+    let bounds = Some(Ends { low, high });
     with_wanted(job, role, Wanted { mask, bounds })
 }
 

@@ -1,5 +1,6 @@
 // What stands first in given bytes, and the rest after it.
-use records::First;
+use format::Cause;
+use layout::Entry;
 use std::{fmt, io};
 
 // The example file of document 01: the jobs of cases 1 and 4.
@@ -9,14 +10,14 @@ pub(crate) fn file() -> [u8; 64] {
 
 // What stands first in the bytes.
 #[derive(Clone, Copy)]
-struct Shown(First);
+struct Shown(Result<Option<(Entry, usize)>, Cause>);
 
 impl fmt::Display for Shown {
     fn fmt<W: fmt::Write>(&self, f: &mut fmt::Formatter<W>) -> fmt::Result {
         match self.0 {
-            First::End => write!(f, "end"),
-            First::Job(_, n) => write!(f, "job of {n}"),
-            First::Refused(k) => write!(f, "refused {k}"),
+            Ok(None) => write!(f, "end"),
+            Ok(Some((_, n))) => write!(f, "job of {n}"),
+            Err(cause) => write!(f, "refused {cause}"),
         }
     }
 }

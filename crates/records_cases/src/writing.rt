@@ -1,11 +1,10 @@
 // Entries written into a buffer of 144 bytes, all 255 before.
 use crate::reading::{self, sameness};
-use format::Format;
+use format::{Cause, Format};
 use job::Setting;
 use job::words::masked_job;
 use layout::Entry;
 use mask::Mask;
-use records::{First, Writing};
 use std::{fmt, io};
 
 fn blank() -> [u8; 144] {
@@ -14,22 +13,22 @@ fn blank() -> [u8; 144] {
 
 // The count of bytes written, or the number of a refusal.
 #[derive(Clone, Copy)]
-struct Shown(Writing);
+struct Shown(Result<usize, Cause>);
 
 impl fmt::Display for Shown {
     fn fmt<W: fmt::Write>(&self, f: &mut fmt::Formatter<W>) -> fmt::Result {
         match self.0 {
-            Writing::Written(n) => write!(f, "written {n}"),
-            Writing::Refused(k) => write!(f, "refused {k}"),
+            Ok(n) => write!(f, "written {n}"),
+            Err(cause) => write!(f, "refused {cause}"),
         }
     }
 }
 
 // How many bytes a reply says are written.
-fn length(reply: Writing) -> usize {
+fn length(reply: Result<usize, Cause>) -> usize {
     match reply {
-        Writing::Written(n) => n,
-        Writing::Refused(_) => 0,
+        Ok(n) => n,
+        Err(_) => 0,
     }
 }
 
@@ -74,7 +73,7 @@ fn compare(rt: &impl Print, buffer: &[u8], s: &[u8], n: usize) -> io::Result<()>
 // Reads a record and writes its entry: the bytes that were read.
 pub(crate) fn back(rt: &impl Print, s: &[u8]) -> io::Result<()> {
     let first = records::read(s);
-    let First::Job(entry, n) = first else {
+    let Ok(Some((entry, n))) = first else {
         return Ok(());
     };
     let mut buffer = blank();

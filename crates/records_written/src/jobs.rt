@@ -1,5 +1,5 @@
 // Pseudo-random jobs by a congruential generator. Every state gives an entry and a room; no state's numbers are told by those of another.
-use bounds::{Bounds, Ends};
+use bounds::Ends;
 use format::Format;
 use job::{Dropped, Job, Setting, Wanted};
 use layout::Entry;
@@ -70,7 +70,7 @@ fn dropped(state: u64) -> Dropped {
 
 // The ends of an interval, both positive, both negative, or the low one negative: it is not above the high one, unless one is a NaN.
 fn ends(width: u64, state: u64) -> Ends {
-    let places = bits::minus(width, 1);
+    let places = width.saturating_sub(1);
     let sign = bits::power(places);
     let x = bits::low(word(state), places);
     let y = bits::low(word(next(state)), places);
@@ -90,24 +90,24 @@ fn ends(width: u64, state: u64) -> Ends {
 }
 
 // No bounds, or in one of three cases ends as above. Of these one in 16 has any two words, and one in 16 its ends exchanged.
-fn bounds(width: u64, state: u64) -> Bounds {
+fn bounds(width: u64, state: u64) -> Option<Ends> {
     if state % 3 != 0 {
-        return Bounds::Unbounded;
+        return None;
     }
     if state / 3 % 16 == 0 {
-        return Bounds::Between(Ends {
+        return Some(Ends {
             low: word(state),
             high: word(next(state)),
         });
     }
     let drawn = ends(width, state);
     if state / 144 % 16 == 0 {
-        return Bounds::Between(Ends {
+        return Some(Ends {
             low: drawn.high,
             high: drawn.low,
         });
     }
-    Bounds::Between(drawn)
+    Some(drawn)
 }
 
 fn wanted(width: u64, fixed: u64, bounded: u64) -> Wanted {

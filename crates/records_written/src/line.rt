@@ -1,6 +1,6 @@
 // A line: the reply, and all bytes of the buffer.
 use layout::Entry;
-use records::Writing;
+use format::Cause;
 use std::{fmt, io};
 
 // Bytes in two digits each.
@@ -18,13 +18,13 @@ impl fmt::Display for Digits<'_> {
 
 // The count of bytes written, or the number of a refusal.
 #[derive(Clone, Copy)]
-struct Shown(Writing);
+struct Shown(Result<usize, Cause>);
 
 impl fmt::Display for Shown {
     fn fmt<W: fmt::Write>(&self, f: &mut fmt::Formatter<W>) -> fmt::Result {
         match self.0 {
-            Writing::Written(n) => write!(f, "written {n}"),
-            Writing::Refused(number) => write!(f, "refused {number}"),
+            Ok(n) => write!(f, "written {n}"),
+            Err(cause) => write!(f, "refused {cause}"),
         }
     }
 }

@@ -3,7 +3,8 @@
 
 use mask::Mask;
 use std::{fmt, io};
-use whole::{Case, Job, Masks, Reply, Words};
+use format::Cause;
+use whole::{Case, Job, Masks, Words};
 
 fn free() -> Mask {
     Mask { care: 0, value: 0 }
@@ -28,16 +29,16 @@ fn words(x: u64, y: u64, z: u64) -> Words {
 
 // A reply: the case, or the number of the refusal.
 #[derive(Clone, Copy)]
-struct Shown(Reply);
+struct Shown(Result<Case, Cause>);
 
 impl fmt::Display for Shown {
     fn fmt<W: fmt::Write>(&self, f: &mut fmt::Formatter<W>) -> fmt::Result {
         match self.0 {
-            Reply::Found(c) => {
+            Ok(c) => {
                 let Case { x, y, z, carries } = c;
                 write!(f, "found {x:08x} {y:08x} {z:08x} {carries:09x}")
             }
-            Reply::Refused(k) => write!(f, "refused {k}"),
+            Err(cause) => write!(f, "refused {cause}"),
         }
     }
 }

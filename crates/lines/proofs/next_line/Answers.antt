@@ -1,4 +1,6 @@
 -- `lines::next_line` meets its contract: each way out is one of the listing's lines. Assumes nothing.
+use Rattle.std.proofs.Common.{rules}
+use Rattle.std.specs.Prelude.{None, Err}
 use Rattle.std.specs.Prelude.{Option, Some, Result, Ok}
 use Rattle.format.specs.declared.cause.Cause.{Cause}
 use mathlib.Core.Path.{◌≡◌, sym, ap, ◌∙◌, subst}
@@ -8,7 +10,7 @@ use native.Mathlib.Omega.{arith}
 use mathlib.Core.List.{List}
 use lib.ListN.{length, drop}
 use borrow.Author.Tests.{not-true, not-false}
-use Rattle.records.specs.Record.{first_in}
+use Rattle.records.specs.Record.{First, first_in}
 use Rattle.layout.specs.declared.Entry.{Entry}
 use Rattle.reader.specs.Drawn.{taken}
 use Rattle.reader.specs.declared.Drawn.{Drawn}
@@ -25,7 +27,7 @@ steps : {s : List ℕ} {p : Place} {l : Line} {bs : List ℕ} {x : Option Place}
 steps {s} {p} {l} {bs} {x} said lists = record { most = said.most; lists = subst (λ (t : List ℕ). Lists s p t x) (sym said.text) lists }
 
 -- an answer to the job that stands at the place
-answer : {s : List ℕ} {p : Place} {e : Entry} {n next : ℕ} {r : Step} → length s ≤ longest → Reading p → first_in (drop p.at s) ≡ (Ok (Some (e, n))) → next ≡ p.at + n
+answer : {s : List ℕ} {p : Place} {e : Entry} {n next : ℕ} {r : Step} → length s ≤ longest → Reading p → first_in (drop p.at s) ≡ Ok (Some (e, n)) → next ≡ p.at + n
     → Answers e (p.lines + 1) next r → Steps s p r
 answer {s} {p} {e} {n} {next} {r} short reads_on job at a =
     let on : Some (record { at = p.at + n; lines = p.lines + 1; stopped = stops a.reply }) ≡ r.then =
@@ -48,25 +50,25 @@ overflow_add-n c =
     let reads_on : Reading c.args.place = c.reading.ensures.0 (not-false c.reading.result c.if-not-reading.false-raw) in
     omega (arith, (reads_on).most)
 
-pub returns-in-End : goal.returns-in-End
-returns-in-End c =
+pub returns-in-Ok-None : goal.returns-in-Ok-None
+returns-in-Ok-None c =
     let short : length c.args.file.now ≤ longest = c.if-file-gt-LONGEST.false in
     let stands : first_in (drop c.args.place.at c.args.file.now) ≡ c.draw-drawn.result.first = sym (ap (λ (d : Drawn). d.first) c.draw-drawn.ensures) in
-    steps c.end_line-in-End.ensures (end (short) (inr (inr (stands ∙ c.in-End.is))))
+    steps c.end_line-in-Ok-None.ensures (end (short) (inr (inr (stands ∙ (let is : c.draw-drawn.result.first ≡ Ok None = search rules in is)))))
 
 pub returns-in-Err : goal.returns-in-Err
 returns-in-Err c =
     let short : length c.args.file.now ≤ longest = c.if-file-gt-LONGEST.false in
     let reads_on : Reading c.args.place = c.reading.ensures.0 (not-false c.reading.result c.if-not-reading.false-raw) in
     let stands : first_in (drop c.args.place.at c.args.file.now) ≡ c.draw-drawn.result.first = sym (ap (λ (d : Drawn). d.first) c.draw-drawn.ensures) in
-    steps c.refused_line.ensures (refused (short) (reads_on) (stands ∙ c.in-Err.is))
+    steps (rw (sym c.number.ensures) c.refused_line.ensures) (refused short reads_on (stands ∙ (let is : c.draw-drawn.result.first ≡ Err c.in-Err.cause = search rules in is)))
 
-pub returns-in-Job : goal.returns-in-Job
-returns-in-Job c =
+pub returns-in-Ok-Some : goal.returns-in-Ok-Some
+returns-in-Ok-Some c =
     let short : length c.args.file.now ≤ longest = c.if-file-gt-LONGEST.false in
     let reads_on : Reading c.args.place = c.reading.ensures.0 (not-false c.reading.result c.if-not-reading.false-raw) in
     let stands : first_in (drop c.args.place.at c.args.file.now) ≡ c.draw-drawn.result.first = sym (ap (λ (d : Drawn). d.first) c.draw-drawn.ensures) in
     let p = c.args.place in
-    let job = stands ∙ c.in-Job.is in
-    let next = ap (λ (x : Drawn). x.next) c.draw-drawn.ensures ∙ ap (λ (x : Result (Option (Entry × ℕ)) Cause). p.at + taken x) job in
+    let job : first_in (drop p.at c.args.file.now) ≡ Ok (Some (c.in-Ok-Some.entry, c.in-Ok-Some.field-0-0-1)) = stands ∙ (let is : c.draw-drawn.result.first ≡ Ok (Some (c.in-Ok-Some.entry, c.in-Ok-Some.field-0-0-1)) = search rules in is) in
+    let next = ap (λ (x : Drawn). x.next) c.draw-drawn.ensures ∙ ap (λ (x : First). p.at + taken x) job in
     answer (short) (reads_on) job next c.answered.ensures
