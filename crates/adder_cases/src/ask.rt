@@ -101,11 +101,7 @@ pub(crate) fn difference_row(
     b: u64,
     carries: u64,
 ) -> io::Result<()> {
-    row(
-        cases,
-        subtracting(z, a, b),
-        Ok(Some(carries)),
-    )
+    row(cases, subtracting(z, a, b), Ok(Some(carries)))
 }
 
 pub(crate) fn difference_no_row(

@@ -1,6 +1,6 @@
 -- Every row of the table holds: a test of a row that antt computes, and one law that turns a passed test into the row's claim.
 -- Assumes nothing.
-use Rattle.generator.specs.Promise.{Replied}
+use Rattle.generator.specs.Promise as generator
 use Rattle.std.specs.Prelude.{Option, Some, None, Result, Ok, Err, is_ok}
 use Rattle.format.specs.declared.cause.Cause.{Cause}
 use mathlib.Core.Path.{◌≡◌, refl, ap, subst, sym, ◌∙◌}
@@ -216,9 +216,9 @@ caused_is j k e r1 r2 h1 h2 = by (job_cause j) refl e
         let width = word_bits j.setting.format in
         taken_words j (first (word_cause width r1) (word_cause width r2)) ((both_none _ _ (word_none width r1) (word_none width r2)).1 (h1, h2))
 
-    by : (r : Check) → job_cause j ≡ r → is_refused k r ≡ true → (c : Cause) × (number c ≡ k) × Replied j r1 r2 (Err c)
+    by : (r : Check) → job_cause j ≡ r → is_refused k r ≡ true → (c : Cause) × (number c ≡ k) × generator.Replied j r1 r2 (Err c)
     by (Ok u) is t = absurd (false≢true t)
-    by (Err c) is t = (c, (eqb-true (number c) k t, inl (named ∙ is)))
+    by (Err c) is t = (c, eqb-true (number c) k t, inl (named ∙ is))
 
 no_case_is : (j : Job) (k : ℕ) → (is_ok (job_cause j) && (eqb k (number cause.NoCase) && each_case j (λ x y z. false))) ≡ true → Holds (refused j k)
 no_case_is j k e r1 r2 h1 h2 =
@@ -227,13 +227,14 @@ no_case_is j k e r1 r2 h1 h2 =
     let q = (and-eq-true_iff (eqb k (number cause.NoCase)) (each_case j test)).0 p.1 in
     let valid = (job_none j).0 (ok_clear p.0) in (
       cause.NoCase,
-      (sym (eqb-true k (number cause.NoCase) q.0), inr (
+      sym (eqb-true k (number cause.NoCase) q.0),
+      inr (
         record {
           taken = (request_none j r1 r2).1 (record { valid = valid; first_word = h1; second_word = h2 });
           none = λ a b c f. false≢true (every_case j test valid q.1 a b c f);
         },
         refl,
-      )),
+      ),
     )
 
 refused_is : (j : Job) (k : ℕ) → passes (refused j k) ≡ true → Holds (refused j k)

@@ -76,7 +76,10 @@ fn low_field(reach: u64, larger: Biased, smaller: Biased) -> Biased
         return Biased(0);
     }
     let gap = unit_of(larger).0.saturating_sub(unit_of(smaller).0);
-    field_of(Unit(wrapping_add_u64(reach, FAR_GAP).saturating_sub(gap)), 1)
+    field_of(
+        Unit(wrapping_add_u64(reach, FAR_GAP).saturating_sub(gap)),
+        1,
+    )
 }
 
 // The class of a pair, by the job's reach; free where that is 64 or more.

@@ -1,7 +1,7 @@
 // Jobs and the replies to them: what the cases are made of, and the line of a case.
 use crate::line::{Question, Shown};
 use bounds::Ends;
-use format::{Format, Cause};
+use format::{Cause, Format};
 use generator::Case;
 use job::words::{masked_job, wanted, with_wanted};
 use job::{Dropped, Job, Role, Setting, Wanted};

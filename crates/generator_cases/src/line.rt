@@ -28,9 +28,7 @@ impl fmt::Display for NamedBounds<'_> {
         let NamedBounds(name, wanted) = *self;
         match wanted.bounds {
             None => Ok(()),
-            Some(ends) => {
-                write!(f, " {name} within {:016x} {:016x}", ends.low, ends.high)
-            }
+            Some(ends) => { write!(f, " {name} within {:016x} {:016x}", ends.low, ends.high) }
         }
     }
 }

@@ -3,7 +3,7 @@ use mathlib.Core.Path.{◌≡◌, refl, sym, ap, ◌∙◌}
 use mathlib.Core.Logic.{◌↔◌}
 use Prim.Native.Nat.{ℕ}
 use Rattle.format.specs.Cause.{Check, clear, first}
-use Rattle.format.specs.Format.{Supported, word_bits, precision, format_cause}
+use Rattle.format.specs.Format.{Supported, word_bits, precision}
 use Rattle.format.proofs.Laws.{first_none, both_none, first_some, format_none, operation_none, mode_none, word_none}
 use Rattle.mask.specs.Mask.{WellFormed}
 use Rattle.mask.proofs.Checks.{masks_none}

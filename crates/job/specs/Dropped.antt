@@ -1,6 +1,6 @@
 -- What a job wants of the bits that rounding drops (document 02, W-206): "A fifth mask fixes any of the dropped bits and the sticky bit".
 -- Assumes nothing.
-use Rattle.std.specs.Prelude.{cond, ◌&&◌, ℕ, ◌+◌, ◌≤◌, eqb, leb}
+use Rattle.std.specs.Prelude.{cond, ◌&&◌, ◌+◌, ◌≤◌, eqb, leb}
 use Rattle.format.specs.declared.cause.Cause.TheVariants as cause
 use Rattle.format.specs.Cause.{Check, unless}
 use Rattle.format.specs.Limits.{most_dropped}

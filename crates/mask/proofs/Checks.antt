@@ -4,7 +4,7 @@
 use mathlib.Core.Logic.{◌↔◌}
 use mathlib.Core.Path.{◌≡◌, refl, sym, ap, ◌∙◌}
 use mathlib.Core.Bool.{Bool, true, false, and-eq-true_iff, false≢true}
-use Prim.Native.Nat.{ℕ, suc, ◌^◌}
+use Prim.Native.Nat.{ℕ, ◌^◌}
 use borrow.Author.Tests.{ltb-true, lt-ltb, eqb-true, eq-eqb}
 use lib.Bits.{bit_and}
 use lib.Dec.{ltb}

@@ -8,7 +8,7 @@ use native.Mathlib.Omega.{arith}
 use lib.Pow as pow
 use Rattle.format.specs.declared.Format.{Format}
 use Rattle.mask.proofs.ByParts.{meets_fields}
-use Rattle.word.specs.Word.{sign, fraction, word_of}
+use Rattle.word.specs.Word.{word_of}
 use Rattle.word.proofs.Fields.{together_lt, together_sign, together_biased, together_fraction}
 use Rattle.bounds.specs.Bounds.{unsigned, Within, ValidBounds}
 use Rattle.job.specs.declared.Wanted.{Wanted}

@@ -1,6 +1,6 @@
 -- The words that meet a mask with a fixed sign lie between two ends exactly where their other bits, read as a number, are in the range of the
 -- sign; and these numbers go from the least that meets the mask to the greatest. Assumes nothing.
-use Rattle.std.specs.Prelude.{Option, Some, None}
+use Rattle.std.specs.Prelude.{Some}
 use mathlib.Core.Logic.{◌↔◌, ◌⊎◌, inl, inr}
 use mathlib.Core.Path.{◌≡◌, sym, ap, ◌∙◌}
 use Prim.Native.Nat.{ℕ, zero, suc, ◌+◌, ◌-◌, ◌%◌, ◌^◌, ◌≤◌, ◌<◌}

@@ -3,10 +3,10 @@
 use Rattle.std.specs.Prelude.{Ok, Err}
 use Rattle.bounds.specs.declared.Ends.{Ends}
 use Rattle.std.specs.Prelude.{Option, Some, None}
-use mathlib.Core.Path.{◌≡◌, refl, sym, ap, ap₂, ◌∙◌}
+use mathlib.Core.Path.{◌≡◌, refl, ap, ap₂, ◌∙◌}
 use mathlib.Core.Logic.{◌↔◌}
 use mathlib.Core.Bool.{Bool, false, not}
-use Prim.Native.Nat.{ℕ, zero, suc, ◌+◌, ◌*◌, ◌^◌, ◌≤◌, ◌<◌}
+use Prim.Native.Nat.{ℕ, ◌+◌, ◌*◌, ◌^◌, ◌≤◌, ◌<◌}
 use native.Mathlib.Nat.{lt_of_lt_of_le}
 use native.Mathlib.Omega.{arith}
 use borrow.Author.Tests.{ltb-true, leb-true, lt-ltb, le-leb, not-true}
@@ -19,7 +19,7 @@ use Rattle.format.specs.declared.cause.Cause.TheVariants as cause
 use Rattle.format.specs.Cause.{Check, clear, unless, first}
 use Rattle.format.specs.Format.{word_bits, precision, Supported}
 use Rattle.format.specs.declared.Format.{Format}
-use Rattle.format.proofs.Laws.{first_none, both_none, unless_none, first_some}
+use Rattle.format.proofs.Laws.{first_none, both_none, unless_none}
 use Rattle.format.proofs.Room.{word_room}
 use Rattle.mask.specs.declared.Mask.{Mask}
 use Rattle.mask.specs.Mask.{WellFormed}

@@ -1,6 +1,6 @@
 -- Document 01's example file: the records of the jobs of cases 1 and 4, byte for byte, and what reading it gives; and a record with bounds
 -- (document 02, W-207). Computed. Assumes nothing.
-use Rattle.std.specs.Prelude.{Option, Some, None}
+use Rattle.std.specs.Prelude.{Some}
 use mathlib.Core.Path.{◌≡◌, refl}
 use mathlib.Core.List.{List, [], ◌∷◌}
 use Prim.Native.Nat.{ℕ}

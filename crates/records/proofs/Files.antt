@@ -1,7 +1,6 @@
 -- Whole files: entries that are written read back as those entries, each g taken as 0 where no dropped bit is fixed, and then end, and a
 -- file that is accepted to its end is what writing its entries gives. By induction, record by record. Assumes nothing.
 use Rattle.records.proofs.Causes.{job_same}
-use Rattle.std.specs.Prelude.{Some, Ok}
 use mathlib.Core.Path.{◌≡◌, refl, sym, ap₂, ◌∙◌, subst}
 use native.Mathlib.Omega.{arith}
 use Prim.Native.Nat.{ℕ}

@@ -2,16 +2,16 @@
 -- Assumes nothing.
 use Rattle.std.specs.Prelude.{Some, Ok, Err}
 use mathlib.Core.Path.{◌≡◌, refl, sym, ap, ◌∙◌}
-use Prim.Native.Nat.{ℕ, zero, suc, ◌≤◌, ◌<◌}
+use Prim.Native.Nat.{ℕ, ◌≤◌}
 use native.Mathlib.Omega.{arith}
-use borrow.Author.Tests.{le-leb, lt-leb}
+use borrow.Author.Tests.{le-leb}
 use mathlib.Core.List.{List, ◌++◌}
 use lib.ListN.{length, drop}
 use lib.Dec.{leb}
 use Rattle.format.specs.declared.cause.Cause.TheVariants as cause
 use Rattle.format.specs.Cause.{Check, clear, first, unless}
 use Rattle.format.specs.declared.cause.Cause.{Cause}
-use Rattle.format.proofs.Laws.{first_none, first_some}
+use Rattle.format.proofs.Laws.{first_none}
 use Rattle.numbers.specs.Number.{buffer_after}
 use Rattle.records.specs.Record.{record_cause, record_bytes, first_in, rest, write_cause, write_reply, writing, written}
 use Rattle.layout.specs.declared.Entry.{Entry}

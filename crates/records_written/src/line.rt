@@ -1,6 +1,6 @@
 // A line: the reply, and all bytes of the buffer.
-use layout::Entry;
 use format::Cause;
+use layout::Entry;
 use std::{fmt, io};
 
 // Bytes in two digits each.

@@ -2,7 +2,7 @@
 use Rattle.whole.specs.declared.Case.{Case}
 use Rattle.std.specs.Prelude.{Result, Ok, Err}
 use Rattle.format.specs.declared.cause.Cause.{Cause}
-use Rattle.std.specs.Prelude.{◌≡◌, ◌⊎◌, ◌<◌}
+use Rattle.std.specs.Prelude.{◌≡◌, ◌⊎◌}
 use Rattle.format.specs.declared.cause.Cause.TheVariants as cause
 use Rattle.whole.specs.declared.Job.{Job}
 use Rattle.format.specs.Cause.{clear}

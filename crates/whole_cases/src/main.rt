@@ -1,9 +1,9 @@
 // The whole-number generator on document 01's case 11, on fixed jobs of the lengths 31 and 32, and on one job for each refusal.
 #![tactic(auto)]
 
+use format::Cause;
 use mask::Mask;
 use std::{fmt, io};
-use format::Cause;
 use whole::{Case, Job, Masks, Words};
 
 fn free() -> Mask {

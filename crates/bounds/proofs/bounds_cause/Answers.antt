@@ -1,7 +1,4 @@
 -- `bounds::bounds_cause` meets its contract. Assumes nothing.
-use mathlib.Core.Path.{ap, ◌∙◌}
-use mathlib.Core.Bool.{Bool}
-use Rattle.format.specs.Cause.{unless}
 use Rattle.format.proofs.Laws.{supported_of, unsupported_of}
 use Rattle.bounds.specs.Bounds.{bounds_cause}
 use Rattle.bounds.proofs.bounds_cause.Goals as goal

@@ -1,7 +1,5 @@
 -- `bounds::ends_cause` meets its contract. Assumes nothing.
-use mathlib.Core.Path.{ap₂, ◌∙◌}
 use native.Mathlib.Omega.{arith}
-use Rattle.format.specs.Cause.{first}
 use Rattle.format.proofs.Laws.{supported_of, unsupported_of}
 use Rattle.format.proofs.Room.{word_room}
 use Rattle.bounds.specs.Bounds.{ends_cause}

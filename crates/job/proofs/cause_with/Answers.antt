@@ -1,5 +1,5 @@
 -- `job::cause_with` meets its contract: where the form of a job is refused the rest does not count. Assumes nothing.
-use Rattle.std.proofs.Common.{rules, sym, ◌∙◌}
+use Rattle.std.proofs.Common.{rules}
 use Rattle.job.proofs.Laws.{form_supported}
 use Rattle.job.proofs.cause_with.Goals as goal
 

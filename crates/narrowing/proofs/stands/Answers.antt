@@ -1,6 +1,6 @@
 -- `narrowing::stands` meets its contract. Assumes nothing.
 use Rattle.bounds.specs.declared.Ends.{Ends}
-use Rattle.std.specs.Prelude.{Option, Some, None}
+use Rattle.std.specs.Prelude.{Option}
 use mathlib.Core.Path.{sym, subst}
 use Rattle.bounds.specs.Bounds.{ValidBounds}
 use Rattle.format.proofs.Laws.{supported_of, unsupported_of}

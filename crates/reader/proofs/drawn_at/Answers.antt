@@ -2,8 +2,7 @@
 -- it lies in it. Assumes nothing.
 use Rattle.std.proofs.Common.{rules}
 use Rattle.std.specs.Prelude.{Err}
-use Rattle.std.specs.Prelude.{Option, Some, None, Result, Ok}
-use Rattle.format.specs.declared.cause.Cause.{Cause}
+use Rattle.std.specs.Prelude.{Some, None, Ok}
 use mathlib.Core.Path.{◌≡◌, refl, sym, ap, ◌∙◌}
 use Prim.Native.Nat.{ℕ, ◌+◌, ◌-◌}
 use native.Mathlib.Nat.{le_of_eq}

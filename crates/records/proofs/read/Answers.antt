@@ -1,5 +1,5 @@
 -- `records::read` meets its contract: the tests stand in the order of `read_cause`, the first two before the fields are read. Assumes nothing.
-use Rattle.std.proofs.Common.{rules, ◌≡◌, sym, ap, ap₂, ◌∙◌, ℕ, ◌^◌, ◌<◌, List, length, eqb-true, eq-eqb, Bool, true, false}
+use Rattle.std.proofs.Common.{rules, ◌≡◌, sym, ap, ap₂, ◌∙◌, ℕ, ◌^◌, ◌<◌, List, length, eqb-true, eq-eqb, Bool, false}
 use mathlib.Core.Bool.{false≢true}
 use mathlib.Core.Path.{subst}
 use Rattle.std.specs.Prelude.{eqb, ltb, leb, Err}
@@ -9,7 +9,7 @@ use Rattle.format.specs.declared.cause.Cause.TheVariants as cause
 use Rattle.format.specs.Cause.{Check, clear, first, unless}
 use Rattle.layout.specs.Fields.{word_bytes, map_width, entry_map}
 use Rattle.records.specs.Record.{map_bytes, record_cause, map_in, record_length, entry_in, read_reply, first_in}
-use Rattle.records.proofs.Causes.{word_in, first_none_left, early_cause, early_refused, late_with, early_none}
+use Rattle.records.proofs.Causes.{word_in, first_none_left, early_refused, late_with, early_none}
 use Rattle.records.proofs.RoundTrip.{entry_default}
 use Rattle.records.proofs.read.Goals as goal
 

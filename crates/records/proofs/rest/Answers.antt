@@ -4,7 +4,7 @@ use native.Mathlib.Nat.{le_of_eq}
 use native.Mathlib.Omega.{arith}
 use lib.ListN.{length-drop}
 use lib.Seq.{take_all}
-use Rattle.std.specs.Prelude.{Option, Some, None, Result, Ok, Err}
+use Rattle.std.specs.Prelude.{Some, None, Ok, Err}
 use Rattle.layout.specs.declared.Entry.{Entry}
 use Rattle.records.specs.Record.{First, first_in, rest_after, rest}
 use Rattle.records.proofs.Causes.{first_job, first_end}

@@ -2,7 +2,7 @@
 -- case is left, and the walks over the bits choose it. Assumes nothing.
 use Rattle.std.proofs.Common.{rules, ◌≡◌, refl, sym, ◌∙◌}
 use mathlib.Core.Bool.{false≢true}
-use mathlib.Core.Logic.{inl, inr}
+use mathlib.Core.Logic.{inr}
 use Rattle.format.specs.Cause.{clear}
 use Rattle.whole.specs.Job.{job_cause}
 use Rattle.whole.proofs.Taken.{job_none}

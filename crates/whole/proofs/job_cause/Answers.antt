@@ -1,5 +1,5 @@
 -- `whole::job_cause` meets its contract: a length that is refused names 12 before the masks and the words are looked at. Assumes nothing.
-use Rattle.std.proofs.Common.{rules, ◌≡◌, true, false}
+use Rattle.std.proofs.Common.{rules, ◌≡◌, true}
 use native.Mathlib.Omega.{arith}
 use Rattle.format.specs.Limits.{least_length, most_length, within}
 use Rattle.format.proofs.Laws.{within_holds}
