@@ -1,12 +1,11 @@
 -- Demand 3, undivided, of every reply that the promise allows. Assumes nothing.
-use Rattle.format.specs.Cause.{Check, clear}
-use Rattle.format.proofs.Laws.{err_ok, err_same}
+use Rattle.format.specs.Cause.{clear}
+use Rattle.format.proofs.Laws.{err_ok}
 use Rattle.std.specs.Prelude.{Result, Ok, Err}
 use Rattle.format.specs.declared.cause.Cause.{Cause}
 use mathlib.Core.Path.{◌≡◌, refl, sym, ap, ap₂, ◌∙◌}
 use mathlib.Core.Logic.{◌⊎◌, inl, inr}
 use Prim.Native.Nat.{ℕ, ◌<◌}
-use native.Mathlib.Omega.{arith}
 use lib.Bits.{bit_xor}
 use Rattle.format.specs.declared.cause.Cause.TheVariants as cause
 use Rattle.choice.specs.Choice.{Farther}

@@ -1,15 +1,14 @@
 -- A job that is taken has the replies of the same with g taken as 0 where no dropped bit is fixed (document 02, W-206), and no others: the
 -- same cases fit.
 -- Assumes nothing.
-use Rattle.format.specs.Cause.{Check, clear}
-use Rattle.format.proofs.Laws.{err_ok, err_same}
+use Rattle.format.specs.Cause.{clear}
+use Rattle.format.proofs.Laws.{err_ok}
 use mathlib.Core.Path.{sym}
 use Rattle.std.specs.Prelude.{Result, Ok, Err}
 use Rattle.format.specs.declared.cause.Cause.{Cause}
 use mathlib.Core.Path.{◌≡◌, refl, ap, ◌∙◌}
 use mathlib.Core.Logic.{◌↔◌, inl, inr}
 use Prim.Native.Nat.{ℕ}
-use native.Mathlib.Omega.{arith}
 use Rattle.job.specs.declared.Setting.{Setting}
 use Rattle.job.specs.declared.Job.{Job}
 use Rattle.job.specs.Dropped.{normalised_job}

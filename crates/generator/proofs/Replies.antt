@@ -1,6 +1,6 @@
 -- What the promise amounts to: a job and two random words have one reply; the number 7 stands exactly where no three words fit; and every
 -- fitting case is the reply to some two random words. Assumes nothing.
-use Rattle.format.specs.Cause.{Check, clear}
+use Rattle.format.specs.Cause.{clear}
 use Rattle.format.proofs.Laws.{err_ok, err_same}
 use Rattle.std.specs.Prelude.{Result, Ok, Err}
 use Rattle.format.specs.declared.cause.Cause.{Cause}

@@ -6,15 +6,13 @@ use Rattle.generator.specs.declared.Case.{Case}
 use Rattle.std.specs.Prelude.{Option, Some, None, Result, Ok, Err}
 use Rattle.format.specs.declared.cause.Cause.{Cause}
 use mathlib.Core.Path.{◌≡◌, refl, sym, ap, ap₂, ◌∙◌, subst}
-use mathlib.Core.Bool.{Bool, true, false, not, cond, false≢true}
+use mathlib.Core.Bool.{Bool, true, false, cond, false≢true}
 use mathlib.Core.Logic.{inl, inr}
 use Prim.Native.Nat.{ℕ, ◌+◌, ◌-◌, ◌*◌, ◌≤◌, ◌<◌}
 use native.Mathlib.Omega.{arith}
-use borrow.Author.Tests.{eq-eqb}
 use mathlib.Core.List.{List, ◌++◌}
 use lib.ListN.{length, drop, length-drop}
 use lib.Seq.{drop-drop}
-use Rattle.format.specs.declared.cause.Cause.TheVariants as cause
 use Rattle.job.specs.declared.Job.{Job}
 use Rattle.job.specs.Job.{request_cause}
 use Rattle.records.specs.Record.{First, first_in, record_cause, record_length}

@@ -1,5 +1,5 @@
 -- Laws of numbers as text, and of a line that grows. Assumes nothing.
-use Rattle.std.specs.Prelude.{Option, Some, None, Err}
+use Rattle.std.specs.Prelude.{Option, Some, None}
 use mathlib.Core.Path.{◌≡◌, refl, sym, ap, ◌∙◌, subst}
 use mathlib.Core.Bool.{Bool, true, false, cond}
 use Prim.Native.Nat.{ℕ, zero, suc, ◌+◌, ◌-◌, ◌*◌, ◌/◌, ◌%◌, ◌^◌, ◌≤◌, ◌<◌}
@@ -10,9 +10,8 @@ use mathlib.Core.List.{List, [], ◌∷◌, ◌++◌, append_assoc, append-nil}
 use lib.ListN.{length, take, set, length-append, length-set}
 use lib.Seq.{take-suc-set}
 use lib.Dec.{ltb}
-use borrow.Author.Tests.{lt-ltb, le-ltb, eq-eqb, ne_eqb, ltb-true, ltb-false}
-use Rattle.lines.specs.Text.{glyph, digits, places, decimal, word_digits, word, row_text, none_line, refused_line, reply_line, text, Empty, Room, Grown, Says}
-use Rattle.format.specs.declared.cause.Cause.TheVariants as cause
+use borrow.Author.Tests.{lt-ltb, le-ltb, ltb-true, ltb-false}
+use Rattle.lines.specs.Text.{glyph, digits, places, decimal, word_digits, word, row_text, text, Empty, Room, Grown, Says}
 use Rattle.format.specs.declared.Format.{Format}
 use Rattle.layout.proofs.JobLayout.{by_width}
 use Rattle.lines.specs.declared.text.Line.{Line}

@@ -2,7 +2,7 @@
 use Rattle.format.specs.Cause.{number}
 use Rattle.std.specs.Prelude.{Option, Some, None, Result, Ok, Err}
 use Rattle.format.specs.declared.cause.Cause.{Cause}
-use Rattle.std.specs.Prelude.{◌≡◌, cond, ℕ, zero, suc, ◌+◌, ◌*◌, ◌/◌, ◌%◌, ◌≤◌, List, [], ◌∷◌, ◌++◌, length, take, ltb, eqb}
+use Rattle.std.specs.Prelude.{◌≡◌, cond, ℕ, zero, suc, ◌+◌, ◌*◌, ◌/◌, ◌%◌, ◌≤◌, List, [], ◌∷◌, ◌++◌, length, take, ltb}
 use Rattle.format.specs.declared.cause.Cause.TheVariants as cause
 use Rattle.format.specs.declared.Format.{Format}
 use Rattle.layout.specs.Fields.{word_bytes}

@@ -23,9 +23,9 @@ pub struct Pair {
     pub b: u64,
 }
 
-// The operands that the random words choose: each bit of a, from the top, follows the first, and then each bit of b the second. None where
-// no case is left, and in
-// a format that is not supported. For a job that is refused the answer is free: a job is tested once, where the generator is asked.
+// The operands that the random words choose: each bit of a, from the top, follows the first, and then each bit of b the second. None where no
+// case is left, and in a format that is not supported. For a job that is refused the answer is free: a job is tested once, where the
+// generator is asked.
 pub fn choose(job: Job, r1: u64, r2: u64) -> Option<Pair>
     ensures unsupported { (Supported job.setting.format → ⊥) → result ≡ None }
     ensures chosen { Valid job → Chosen job r1 r2 result }

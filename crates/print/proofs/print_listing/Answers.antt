@@ -1,5 +1,5 @@
 -- `print::print_listing`: each line is appended to what is printed, and the listing goes on after it. Assumes nothing.
-use Rattle.std.specs.Prelude.{Option, Some, None}
+use Rattle.std.specs.Prelude.{Option}
 use Rattle.lines.specs.declared.Place.{Place}
 use Rattle.std.proofs.Common.{ℕ, List, [], ◌++◌, refl, sym, subst, append_assoc}
 use mathlib.Core.List.{append-nil}

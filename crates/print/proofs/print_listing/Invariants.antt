@@ -1,7 +1,5 @@
 -- `print::print_listing`: what is printed so far becomes a listing of the file by any text for the rest of it, and every line brings the listing
 -- nearer to its end. Assumes nothing.
-use Rattle.std.specs.Prelude.{Option, Some, None}
-use Rattle.lines.specs.declared.Place.{Place}
 use Rattle.std.proofs.Common.{ℕ, List, ◌++◌}
 use Rattle.std.specs.Io.KnownBytes.{Appends}
 use Rattle.lines.specs.Listing.{Listing}

@@ -3,13 +3,12 @@
 use mathlib.Core.Path.{refl, subst}
 use Prim.Native.Nat.{ℕ, ◌-◌, ◌^◌, ◌≤◌, ◌<◌}
 use native.Mathlib.Omega.{arith}
-use Rattle.mask.specs.Mask.{WellFormed, Meets}
+use Rattle.mask.specs.Mask.{WellFormed}
 use Rattle.mask.specs.Next.{MetFrom}
 use Rattle.job.specs.declared.Job.{Job}
 use Rattle.job.specs.Job.{Valid}
 use Rattle.word.specs.Masks.{exponent_mask}
 use Rattle.special.specs.Asked.{field_is}
-use Rattle.answers.specs.Kept.{Kept, NoPartner}
 use Rattle.pass.specs.declared.pairs.Pass.{Pass}
 use Rattle.pass.specs.Steps.{PassOf}
 use Rattle.pass.proofs.Spans.{met_field, partners_met, partners_join}
