@@ -1,6 +1,5 @@
 -- The bits of an exact result below the last one that is kept (document 02, W-206). Assumes nothing.
-use Rattle.std.specs.Prelude.{Option, Some, None}
-use Rattle.std.specs.Prelude.{Bool, true, false, ℕ, ◌^◌, leb}
+use Rattle.std.specs.Prelude.{Bool, true, false, ℕ, ◌^◌, leb, Option, Some, None}
 use Rattle.format.specs.declared.Format.{Format}
 use Rattle.word.specs.declared.Finite as record_of
 use Rattle.word.specs.declared.Operand as kind

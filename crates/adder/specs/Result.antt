@@ -1,8 +1,7 @@
 -- The rounded sum and difference of two words (document 01, "The rounded result"), and the reply of the public function.
 -- Assumes nothing.
-use Rattle.std.specs.Prelude.{Result, Ok}
 use Rattle.format.specs.declared.cause.Cause.{Cause}
-use Rattle.std.specs.Prelude.{cond, ℕ, ◌+◌, ◌-◌, ◌^◌, eqb, ltb}
+use Rattle.std.specs.Prelude.{cond, ℕ, ◌+◌, ◌-◌, ◌^◌, eqb, ltb, Result, Ok}
 use Rattle.format.specs.declared.Format.{Format}
 use Rattle.format.specs.Cause.{Check, first}
 use Rattle.format.specs.Format.{word_bits, format_cause, operation_cause, mode_cause, word_cause}

@@ -1,7 +1,6 @@
 -- The carry row of two words (document 01, "The carry row"; document 02, W-205), and the reply of the public function. Assumes nothing.
-use Rattle.std.specs.Prelude.{Option, Some, None, Result, Ok}
 use Rattle.format.specs.declared.cause.Cause.{Cause}
-use Rattle.std.specs.Prelude.{Bool, true, false, cond, ℕ, zero, suc, ◌+◌, ◌*◌, ◌%◌, ◌^◌, eqb, leb, ltb}
+use Rattle.std.specs.Prelude.{Bool, true, false, cond, ℕ, zero, suc, ◌+◌, ◌*◌, ◌%◌, ◌^◌, eqb, leb, ltb, Option, Some, None, Result, Ok}
 use Rattle.format.specs.declared.Format.{Format}
 use Rattle.format.specs.Cause.{Check, first}
 use Rattle.format.specs.Format.{precision, word_bits, format_cause, operation_cause, word_cause}

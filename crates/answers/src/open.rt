@@ -31,7 +31,7 @@ fn open_below(reach: u64, ea: Biased, eb: Biased, closed: u64) -> Biased
         return Biased(bit_at(closed, 0));
     }
     let far = ea.0 - (reach + FAR_GAP);
-    let from = eb.0 + far.saturating_sub(eb.0);
+    let from = eb.0.max(far);
     let run = run_from(closed, from - far + 1);
     if run == 0 {
         return eb;
@@ -54,7 +54,7 @@ fn open_above(reach: u64, ea: Biased, eb: Biased, end: Biased, closed: u64) -> B
         }
         return eb;
     }
-    let gap = far - far.saturating_sub(eb.0 - ea.0);
+    let gap = far.min(eb.0 - ea.0);
     let run = run_from(closed, gap);
     if far < gap + run {
         return end;
@@ -71,7 +71,7 @@ pub fn open_from(job: Job, ea: Biased, eb: Biased, end: Biased, table: &[u64; PL
     ensures { (eb.0 ≤ result.0) × (Valid job → ClassEnd job end → Kept job table.now → NoPartner job ea eb result) }
 {
     let reach = reach(job);
-    let larger = ea.0 + eb.0.saturating_sub(ea.0);
+    let larger = ea.0.max(eb.0);
     if larger <= reach + FAR_GAP {
         return eb;
     }

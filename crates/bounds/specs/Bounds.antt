@@ -1,8 +1,7 @@
 -- Bounds on a word (document 02, W-207): "a low and a high bound, both included, compared as numbers: -0 equals +0, infinities lie at the ends,
 -- and a NaN lies within no bounds". Words are compared by their rank, a whole number that rises with the number that a word stands for. What
 -- is within comes twice: with a capital, which laws read, and as a Bool, which a check computes. Assumes nothing.
-use Rattle.std.specs.Prelude.{Option, Some, None}
-use Rattle.std.specs.Prelude.{◌≡◌, Bool, true, false, not, cond, ◌&&◌, ℕ, ◌+◌, ◌-◌, ◌%◌, ◌^◌, ◌≤◌, ◌<◌, eqb, leb, ltb}
+use Rattle.std.specs.Prelude.{◌≡◌, Bool, true, false, not, cond, ◌&&◌, ℕ, ◌+◌, ◌-◌, ◌%◌, ◌^◌, ◌≤◌, ◌<◌, eqb, leb, ltb, Option, Some, None}
 use Rattle.format.specs.declared.Format.{Format}
 use Rattle.format.specs.declared.cause.Cause.TheVariants as cause
 use Rattle.format.specs.Cause.{Check, clear, unless, first}

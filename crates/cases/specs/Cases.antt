@@ -1,10 +1,8 @@
 -- The cases that document 01 marks with ● ("Cases, in hexadecimal"), and those of document 02, as rows of one table about the definitions.
 -- A `Claim` is a statement of one of the kinds that document 01 makes there, `Holds` is what it says, and `cases` is the table.
 -- Assumes nothing.
-use Rattle.std.specs.Prelude.{Result, Ok, Err}
 use Rattle.format.specs.declared.cause.Cause.{Cause}
-use Rattle.std.specs.Prelude.{Option, Some, None}
-use Rattle.std.specs.Prelude.{◌≡◌, ◌↔◌, ℕ, ◌^◌, ◌<◌}
+use Rattle.std.specs.Prelude.{◌≡◌, ◌↔◌, ℕ, ◌^◌, ◌<◌, Option, Some, None, Result, Ok, Err}
 use mathlib.Core.List.{List, [], ◌∷◌, ◌++◌, Memᴰ}
 use Rattle.format.specs.declared.Format.{Format}
 use Rattle.format.specs.Format.{word_bits}

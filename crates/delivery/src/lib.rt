@@ -32,7 +32,8 @@ fn deliver_numbers(out: &mut [u8], given: &[u64]) -> u64
     0
 }
 
-// Delivers an answer of so many numbers: they go into the buffer, and the number of its refusal is returned.
+// Delivers an answer of so many numbers: they go into the buffer and 0 is returned, or 11 where
+// it is too short; of a refusal its number, and nothing is written.
 pub fn deliver<const N: usize>(out: &mut [u8], answer: Result<[u64; N], Cause>) -> u64
     ensures { Delivered answer.entry out.old out.new result }
 {

@@ -2,9 +2,8 @@
 -- states. Beside that the reply about a proposed case ("Causes and replies"). Each statement comes twice: as a record, which laws and
 -- contracts read, and as a Bool, which confirmation computes; `proofs/Laws.antt` has that they say the same. Neither runs a search.
 -- Assumes nothing.
-use Rattle.std.specs.Prelude.{Option, Some, None, Result, Ok}
 use Rattle.format.specs.declared.cause.Cause.{Cause}
-use Rattle.std.specs.Prelude.{◌≡◌, Bool, ◌&&◌, ℕ, ◌^◌, ◌<◌, eqb}
+use Rattle.std.specs.Prelude.{◌≡◌, Bool, ◌&&◌, ℕ, ◌^◌, ◌<◌, eqb, Option, Some, None, Result, Ok}
 use Rattle.format.specs.declared.Format.{Format}
 use Rattle.format.specs.Cause.{Check, first}
 use Rattle.format.specs.Format.{word_bits, word_cause}

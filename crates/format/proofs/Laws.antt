@@ -2,12 +2,13 @@
 use mathlib.Core.Path.{◌≡◌, refl, sym, ap, ◌∙◌}
 use mathlib.Core.Bool.{Bool, true, false, and-eq-true_iff}
 use mathlib.Core.Logic.{◌↔◌}
-use Prim.Native.Nat.{ℕ, ◌^◌, ◌≤◌, ◌<◌}
+use Prim.Native.Nat.{ℕ, ◌-◌, ◌^◌, ◌≤◌, ◌<◌}
 use native.Mathlib.Omega.{arith}
 use borrow.Author.Tests.{ltb-true, leb-true, lt-ltb, le-leb}
 use lib.Dec.{ltb, leb}
+use lib.ListN.{get_or}
 use Rattle.format.specs.declared.Format.{Format}
-use Rattle.std.specs.Prelude.{Ok, Err, is_ok, is_err}
+use Rattle.std.specs.Prelude.{List, [], ◌∷◌, Ok, Err, is_ok, is_err}
 use Rattle.format.specs.declared.cause.Cause.{Cause}
 use Rattle.format.specs.declared.cause.Cause.TheVariants as cause
 use Rattle.format.specs.Cause.{number, Check, clear, unless, first}
@@ -39,6 +40,44 @@ number_positive cause.ThirdMask = omega arith
 number_positive cause.CarryMask = omega arith
 number_positive cause.DroppedMask = omega arith
 number_positive cause.Bounds = omega arith
+
+-- the causes in the order of their numbers, and the cause of a number
+causes : List Cause
+causes =
+    cause.ExponentBits ∷ cause.FractionBits ∷ cause.Operation ∷
+    cause.Mode ∷ cause.Mask ∷ cause.Word ∷
+    cause.NoCase ∷ cause.Cut ∷ cause.MapBits ∷
+    cause.DefaultField ∷ cause.Buffer ∷ cause.WholeLength ∷
+    cause.Clash ∷ cause.SecondMask ∷ cause.ThirdMask ∷
+    cause.CarryMask ∷ cause.DroppedMask ∷ cause.Bounds ∷ []
+
+cause_at : ℕ → Cause
+cause_at n = get_or causes (n - 1) cause.Bounds
+
+cause_back : (c : Cause) → cause_at (number c) ≡ c
+unfolding number cause_at causes
+cause_back cause.ExponentBits = refl
+cause_back cause.FractionBits = refl
+cause_back cause.Operation = refl
+cause_back cause.Mode = refl
+cause_back cause.Mask = refl
+cause_back cause.Word = refl
+cause_back cause.NoCase = refl
+cause_back cause.Cut = refl
+cause_back cause.MapBits = refl
+cause_back cause.DefaultField = refl
+cause_back cause.Buffer = refl
+cause_back cause.WholeLength = refl
+cause_back cause.Clash = refl
+cause_back cause.SecondMask = refl
+cause_back cause.ThirdMask = refl
+cause_back cause.CarryMask = refl
+cause_back cause.DroppedMask = refl
+cause_back cause.Bounds = refl
+
+-- no two causes have one number
+pub number_same : (c d : Cause) → number c ≡ number d → c ≡ d
+number_same c d e = sym (cause_back c) ∙ ap cause_at e ∙ cause_back d
 
 -- a check names one cause
 pub err_same : {c d : Cause} → ◌≡◌ {A = Check} (Err c) (Err d) → c ≡ d

@@ -1,4 +1,4 @@
-// Number formats, the numbers of the refusals, and the checks of plain numbers.
+// Number formats, the refusals with their numbers, and the checks of plain numbers.
 #![tactic(auto)]
 
 pub mod cause;

@@ -3,10 +3,9 @@
 -- Assumes nothing.
 use Rattle.format.specs.Cause.{clear}
 use Rattle.format.proofs.Laws.{err_ok}
-use mathlib.Core.Path.{sym}
 use Rattle.std.specs.Prelude.{Result, Ok, Err}
 use Rattle.format.specs.declared.cause.Cause.{Cause}
-use mathlib.Core.Path.{◌≡◌, refl, ap, ◌∙◌}
+use mathlib.Core.Path.{◌≡◌, refl, ap, ◌∙◌, sym}
 use mathlib.Core.Logic.{◌↔◌, inl, inr}
 use Prim.Native.Nat.{ℕ}
 use Rattle.job.specs.declared.Setting.{Setting}

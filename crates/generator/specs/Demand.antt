@@ -1,9 +1,8 @@
 -- Demand 3 in one statement, sentence by sentence: of the reply p to a job j and two random words against which no cause stands. That none
 -- stands is `Request`: a supported format, either operation, each of the modes, five well-formed masks, that of the dropped bits with a g of
 -- 8 at most, bounds that are numbers in order (W-207) or none, and words no wider than the format. Assumes nothing.
-use Rattle.std.specs.Prelude.{Result, Ok, Err}
 use Rattle.format.specs.declared.cause.Cause.{Cause}
-use Rattle.std.specs.Prelude.{◌≡◌, ◌⊎◌, ◌↔◌, ℕ, ◌<◌}
+use Rattle.std.specs.Prelude.{◌≡◌, ◌⊎◌, ◌↔◌, ℕ, ◌<◌, Result, Ok, Err}
 use Rattle.std.specs.Int.Bits.{bit_xor}
 use Rattle.format.specs.declared.cause.Cause.TheVariants as cause
 use Rattle.job.specs.declared.Job.{Job}
@@ -32,7 +31,7 @@ pub record Reachable (j : Job) (a b c : ℕ) : Type 0 where
   pub reply : Replied j r1 r2 (Ok case)
   pub only : (p : Result Case Cause) → Replied j r1 r2 p → p ≡ Ok case
 
--- "no case" is the number 7
+-- "no case" is the cause `NoCase`, whose number is 7
 pub record Demand3 (j : Job) (r1 r2 : ℕ) (p : Result Case Cause) : Type 0 where
   -- "'no case' is said exactly when no three words of the format .. fit": W-206, "when c is the rounded result and the case meets everything
   -- that its job states"

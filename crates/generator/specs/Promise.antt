@@ -1,8 +1,7 @@
 -- The promise of the case generator: the reply to a job and two random words, by cases (document 01, "Masks and choice", "Causes and
 -- replies"). `Fits` tells a fitting case by sums, and no search stands in it. Assumes nothing.
-use Rattle.std.specs.Prelude.{Result, Ok, Err}
 use Rattle.format.specs.declared.cause.Cause.{Cause}
-use Rattle.std.specs.Prelude.{◌≡◌, ◌⊎◌, ℕ, ◌<◌}
+use Rattle.std.specs.Prelude.{◌≡◌, ◌⊎◌, ℕ, Result, Ok, Err}
 use Rattle.format.specs.declared.cause.Cause.TheVariants as cause
 use Rattle.format.specs.Cause.{clear}
 use Rattle.choice.specs.Choice.{ClosestPair}

@@ -1,4 +1,4 @@
-// The case generator: of a job and two random words the chosen case with its row, or the number of the refusal.
+// The case generator: of a job and two random words the chosen case with its row, or the refusal.
 #![tactic(auto)]
 
 ghost use Rattle.std.specs.Prelude.{◌≡◌};
@@ -27,16 +27,8 @@ fn result_of(job: Job, a: u64, b: u64) -> u64
     requires { Request job a b }
     ensures { result ≡ result_of job.setting.format job.setting.operation job.setting.mode a b }
 {
-    match rounded_result(
-        job.setting.format,
-        job.setting.operation,
-        job.setting.mode,
-        a,
-        b,
-    ) {
-        Ok(word) => word,
-        Err(_) => 0,
-    }
+    let setting = job.setting;
+    rounded_result(setting.format, setting.operation, setting.mode, a, b).unwrap_or(0)
 }
 
 // The carry row of a and b.
@@ -44,10 +36,7 @@ fn row_of(job: Job, a: u64, b: u64) -> Option<u64>
     requires { Request job a b }
     ensures { result ≡ row_of job.setting.format job.setting.operation a b }
 {
-    match carry_row(job.setting.format, job.setting.operation, a, b) {
-        Ok(row) => row,
-        Err(_) => None,
-    }
+    carry_row(job.setting.format, job.setting.operation, a, b).unwrap_or(None)
 }
 
 // The case whose operands are a and b.

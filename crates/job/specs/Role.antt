@@ -1,6 +1,5 @@
 -- The words of a case by their role, one definition for each use of "a, b, c" (document 01, "Masks and choice"). Assumes nothing.
-use Rattle.std.specs.Prelude.{None}
-use Rattle.std.specs.Prelude.{ℕ}
+use Rattle.std.specs.Prelude.{ℕ, None}
 use Rattle.mask.specs.declared.Mask.{Mask}
 use Rattle.job.specs.declared.Setting.{Setting}
 use Rattle.job.specs.declared.Wanted.{Wanted}

@@ -1,8 +1,7 @@
 -- The fields of a job record (document 01, "Job files"; document 02, W-202, W-206 and W-207): its layout, the numbers of an entry in that
 -- layout and the entry of such numbers, with the map that goes with them. An entry is a job with its two random words. A record's map is one
 -- number: its first map byte, and 256 times its second one where it has one. Assumes nothing.
-use Rattle.std.specs.Prelude.{Option, Some, None}
-use Rattle.std.specs.Prelude.{Bool, cond, ◌&&◌, ◌||◌, ℕ, ◌+◌, ◌*◌, ◌/◌, List, [], ◌∷◌, ◌++◌, get_or, eqb, leb}
+use Rattle.std.specs.Prelude.{Bool, cond, ◌&&◌, ◌||◌, ℕ, ◌+◌, ◌*◌, ◌/◌, List, [], ◌∷◌, ◌++◌, get_or, eqb, leb, Option, Some, None}
 use Rattle.bits.specs.Bit.{bit}
 use Rattle.format.specs.declared.Format.{Format}
 use Rattle.format.specs.Format.{word_bits}

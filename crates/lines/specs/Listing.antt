@@ -2,9 +2,8 @@
 -- after it. A place is the offset of the next record, the count of the lines before, and whether reading has stopped. Assumes nothing.
 use Rattle.format.specs.Cause.{number}
 use Rattle.generator.specs.declared.Case.{Case}
-use Rattle.std.specs.Prelude.{Option, Some, None, Result, Ok, Err}
 use Rattle.format.specs.declared.cause.Cause.{Cause}
-use Rattle.std.specs.Prelude.{◌≡◌, Bool, true, false, ◌⊎◌, ℕ, ◌+◌, ◌≤◌, ◌<◌, List, [], ◌∷◌, ◌++◌, length, drop}
+use Rattle.std.specs.Prelude.{◌≡◌, Bool, true, false, ◌⊎◌, ℕ, ◌+◌, ◌≤◌, ◌<◌, List, [], ◌∷◌, ◌++◌, length, drop, Option, Some, None, Result, Ok, Err}
 use Rattle.format.specs.declared.cause.Cause.TheVariants as cause
 use Rattle.records.specs.Record.{first_in}
 use Rattle.layout.specs.declared.Entry.{Entry}

@@ -1,8 +1,7 @@
 -- What a step of the listing replies: a line that can be printed, and what comes after it (`Listing`). Assumes nothing.
 use Rattle.generator.specs.declared.Case.{Case}
-use Rattle.std.specs.Prelude.{Some, Result}
 use Rattle.format.specs.declared.cause.Cause.{Cause}
-use Rattle.std.specs.Prelude.{◌≡◌, ℕ, ◌≤◌, List, length}
+use Rattle.std.specs.Prelude.{◌≡◌, ℕ, ◌≤◌, List, length, Some, Result}
 use Rattle.layout.specs.declared.Entry.{Entry}
 use Rattle.generator.specs.Promise.{Replied}
 use Rattle.lines.specs.Text.{text, Says, reply_line}

@@ -2,8 +2,7 @@
 -- mask, and lies in an interval; where there are no bounds, it meets the mask. `allowed_fields` is the one law for a, b and c. Assumes nothing.
 -- Internal: no public contract cites this.
 use Rattle.bounds.specs.declared.Ends.{Ends}
-use Rattle.std.specs.Prelude.{Option, Some, None}
-use Rattle.std.specs.Prelude.{ℕ, ◌-◌, ◌*◌, ◌^◌, ◌≤◌, ◌<◌}
+use Rattle.std.specs.Prelude.{ℕ, ◌-◌, ◌*◌, ◌^◌, ◌≤◌, ◌<◌, Option, Some, None}
 use Rattle.format.specs.declared.Format.{Format}
 use Rattle.mask.specs.Mask.{Meets}
 use Rattle.word.specs.Masks.{sign_mask, exponent_mask, fraction_mask}

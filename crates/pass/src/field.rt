@@ -35,20 +35,20 @@ fn far_end(job: Job, pass: Pass, ea: Biased, table: &[u64; PLACES]) -> Biased
     ensures { (ea.0 ≤ result.0) × (Valid job → PassOf job pass → Kept job table.now → OnlyFar job ea result) }
 {
     if !pass.signs {
-        return Biased(ea.0 + (pass.past.0 - 1).saturating_sub(ea.0));
+        return Biased(ea.0.max(pass.past.0 - 1));
     }
     let gap = far_gap(job);
     if ea.0 <= gap {
         return ea;
     }
     if all_closed(job, table) {
-        return Biased(ea.0 + pass.end.0.saturating_sub(gap - 1).saturating_sub(ea.0));
+        return Biased(ea.0.max(pass.end.0.saturating_sub(gap - 1)));
     }
     if pass.zero {
         return ea;
     }
     let near = near_from(job, pass, Biased(ea.0 - gap));
-    Biased(ea.0 + near.0.saturating_sub(gap - 1).saturating_sub(ea.0))
+    Biased(ea.0.max(near.0.saturating_sub(gap - 1)))
 }
 
 // From n on, the next field of a that meets its mask and may admit a case, where none below n does. What one is far below was asked with the

@@ -66,7 +66,7 @@ pub(crate) fn first_from(job: Job, start: Exponents) -> Exponents
     let mut eb = start.b;
     'pairs: while ea.0 < past {
         let span = span_of(job, pass, ea);
-        let from = Biased(eb.0 + span.from.0.saturating_sub(eb.0));
+        let from = Biased(eb.0.max(span.from.0));
         eb = partner_from(job, pass, ea, from, span.end, &table);
         while eb.0 < span.end.0 {
             if answers::admits(job, ea, eb, pass.end, &mut table) {

@@ -57,7 +57,7 @@ fn sum_from(job: Job, pass: Pass, larger: Biased) -> Biased
         return larger;
     }
     let near = near_from(job, pass, Biased(larger.0 - 1));
-    Biased(larger.0 + near.0.saturating_sub(larger.0))
+    Biased(larger.0.max(near.0))
 }
 
 // The fields of b that are left to ask with one of a, where no smaller field of a has a case. With no signs left for finite operands they

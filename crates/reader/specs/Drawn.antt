@@ -1,7 +1,6 @@
 -- What a reader of a job file draws (document 01, "Job files": "The listing program draws its jobs through a reader that carries the lent
 -- file along"): what stands at an offset of the file, and the offset after it. Assumes nothing.
-use Rattle.std.specs.Prelude.{Some, None, Ok, Err}
-use Rattle.std.specs.Prelude.{ℕ, ◌+◌, List, drop}
+use Rattle.std.specs.Prelude.{ℕ, ◌+◌, List, drop, Some, None, Ok, Err}
 use Rattle.records.specs.Record.{First, first_in}
 use Rattle.reader.specs.declared.Drawn.{Drawn}
 

@@ -1,8 +1,7 @@
 -- What it means that no cause stands against an entry: the job is valid and the random words have their width, so every number fits its
 -- byte count. And what a reply of reading says of the bytes. Assumes nothing.
-use Rattle.std.specs.Prelude.{Ok, Err}
 use Rattle.bounds.specs.declared.Ends.{Ends}
-use Rattle.std.specs.Prelude.{Option, Some, None}
+use Rattle.std.specs.Prelude.{Option, Some, None, Ok, Err}
 use mathlib.Core.Path.{◌≡◌, refl, ap, ap₂, ◌∙◌}
 use mathlib.Core.Logic.{◌↔◌}
 use mathlib.Core.Bool.{Bool, false, not}

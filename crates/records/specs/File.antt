@@ -1,6 +1,5 @@
 -- Job files (document 01, "Job files"): records one after the other. Assumes nothing.
-use Rattle.std.specs.Prelude.{Some, Ok}
-use Rattle.std.specs.Prelude.{◌≡◌, ℕ, List, [], ◌∷◌, ◌++◌, drop}
+use Rattle.std.specs.Prelude.{◌≡◌, ℕ, List, [], ◌∷◌, ◌++◌, drop, Some, Ok}
 use Rattle.format.specs.Cause.{clear}
 use Rattle.records.specs.Version.{Version, Takes}
 use Rattle.records.specs.Record.{record_bytes, record_cause, first_by, first_in}

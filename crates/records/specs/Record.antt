@@ -1,8 +1,7 @@
 -- Job records (document 01, "Job files", "Causes and replies"; document 02, W-202, W-206, W-207): the bytes of a job's record, what stands first in a list of bytes and
 -- the rest after it, and what writing does to a buffer. An entry is a job with its two random words. Assumes nothing.
-use Rattle.std.specs.Prelude.{Option, Some, None, Result, Ok, Err}
 use Rattle.format.specs.declared.cause.Cause.{Cause}
-use Rattle.std.specs.Prelude.{not, ℕ, suc, ◌+◌, ◌^◌, List, [], ◌∷◌, ◌++◌, length, get_or, take, drop, leb, ltb}
+use Rattle.std.specs.Prelude.{not, ℕ, suc, ◌+◌, ◌^◌, List, [], ◌∷◌, ◌++◌, length, get_or, take, drop, leb, ltb, Option, Some, None, Result, Ok, Err}
 use Rattle.bits.specs.Bit.{bit}
 use Rattle.format.specs.declared.cause.Cause.TheVariants as cause
 use Rattle.format.specs.Cause.{Check, unless, first}
@@ -78,7 +77,7 @@ First = Result (Option (Entry × ℕ)) Cause
 abbrev pub read_reply : Check → Entry → ℕ → First
 read_reply check e n = first check (Ok (Some (e, n)))
 
--- what stands first, with words of `word` bytes: "with no byte left it says end", else a job with its length, or the number of a refusal
+-- what stands first, with words of `word` bytes: "with no byte left it says end", else a job with its length, or a refusal
 unfoldable pub first_with : ℕ → ℕ → List ℕ → First
 first_with bits word [] = Ok None
 first_with bits word (b ∷ bs) = read_reply (read_cause bits word (b ∷ bs)) (entry_in word (b ∷ bs)) (record_length word (map_in (b ∷ bs)))

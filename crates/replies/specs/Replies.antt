@@ -1,9 +1,8 @@
 -- Each exported function's answer, numbers or a refusal, from the reply of the function that it exports (document 01, "Causes and replies"). Where a job
 -- is wanted it is given as a job record; bytes after the record play no part, and no bytes at all are a record cut short. Assumes nothing.
 use Rattle.generator.specs.declared.Case.{Case}
-use Rattle.std.specs.Prelude.{Option, Some, None, Result, Ok, Err, Bool, true, false}
 use Rattle.format.specs.declared.cause.Cause.{Cause}
-use Rattle.std.specs.Prelude.{◌≡◌, ℕ, List, [], ◌∷◌}
+use Rattle.std.specs.Prelude.{◌≡◌, ℕ, List, [], ◌∷◌, Option, Some, None, Result, Ok, Err, Bool, true, false}
 use Rattle.format.specs.declared.cause.Cause.TheVariants as cause
 use Rattle.format.specs.declared.Format.{Format}
 use Rattle.mask.specs.declared.Mask.{Mask}

@@ -56,7 +56,7 @@ pub fn of_first(first: Result<Option<(Entry, usize)>, Cause>) -> Result<[u64; 1]
 fn of_confirmed(confirmed: Result<bool, Cause>) -> Result<[u64; 1], Cause>
     ensures { result ≡ of_confirmed confirmed }
 {
-    if confirmed? { Ok([1]) } else { Ok([0]) }
+    Ok([u64::from(confirmed?)])
 }
 
 // The confirmation of a case for the job of a record; no byte at all is a record cut short.

@@ -1,8 +1,7 @@
 -- The operands that two random words choose (document 01, "Masks and choice": "the smallest a exclusive-or the first word, .. and then the
 -- smallest b exclusive-or the second"). Assumes nothing.
 use Rattle.search.specs.declared.Pair.{Pair}
-use Rattle.std.specs.Prelude.{Option, Some, None}
-use Rattle.std.specs.Prelude.{ℕ}
+use Rattle.std.specs.Prelude.{ℕ, Option, Some, None}
 use Rattle.choice.specs.Choice.{ClosestPair}
 use Rattle.job.specs.declared.Job.{Job}
 use Rattle.fit.specs.Fit.{Fitting}

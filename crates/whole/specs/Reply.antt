@@ -1,8 +1,7 @@
 -- The reply to a job, by cases (document 01, "Causes and replies"). Assumes nothing.
 use Rattle.whole.specs.declared.Case.{Case}
-use Rattle.std.specs.Prelude.{Result, Ok, Err}
 use Rattle.format.specs.declared.cause.Cause.{Cause}
-use Rattle.std.specs.Prelude.{◌≡◌, ◌⊎◌}
+use Rattle.std.specs.Prelude.{◌≡◌, ◌⊎◌, Result, Ok, Err}
 use Rattle.format.specs.declared.cause.Cause.TheVariants as cause
 use Rattle.whole.specs.declared.Job.{Job}
 use Rattle.format.specs.Cause.{clear}

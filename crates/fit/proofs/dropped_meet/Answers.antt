@@ -1,6 +1,5 @@
 -- `fit::dropped_meet` meets its contract: a mask that fixes no bit is met whatever the bits are. Assumes nothing.
-use Rattle.std.specs.Prelude.{ℕ}
-use Rattle.std.specs.Prelude.{Option}
+use Rattle.std.specs.Prelude.{Option, ℕ}
 use mathlib.Core.Path.{sym, ap, ◌∙◌}
 use Rattle.fit.specs.Fit.{below_in, part_meets}
 use Rattle.fit.proofs.Laws.{part_meets_true, unfixed_met}

@@ -1,7 +1,6 @@
 -- `lines::next_line` meets its contract: each way out is one of the listing's lines. Assumes nothing.
 use Rattle.std.proofs.Common.{rules}
-use Rattle.std.specs.Prelude.{None, Err}
-use Rattle.std.specs.Prelude.{Option, Some, Ok}
+use Rattle.std.specs.Prelude.{Option, Some, Ok, None, Err}
 use mathlib.Core.Path.{◌≡◌, sym, ap, ◌∙◌, subst}
 use mathlib.Core.Logic.{inl, inr, ⊎_elim}
 use Prim.Native.Nat.{ℕ, ◌+◌, ◌≤◌}

@@ -1,8 +1,7 @@
 -- `reader::drawn_at` meets its contract: the part from the offset on is what is left of the file there, and a record that stands first in
 -- it lies in it. Assumes nothing.
 use Rattle.std.proofs.Common.{rules}
-use Rattle.std.specs.Prelude.{Err}
-use Rattle.std.specs.Prelude.{Some, None, Ok}
+use Rattle.std.specs.Prelude.{Some, None, Ok, Err}
 use mathlib.Core.Path.{◌≡◌, refl, sym, ap, ◌∙◌}
 use Prim.Native.Nat.{ℕ, ◌+◌, ◌-◌}
 use native.Mathlib.Nat.{le_of_eq}

@@ -22,23 +22,23 @@ returns-then-bit_at-eq1 c = (
 pub returns-then-far-gap : goal.returns-then-far-gap
 returns-then-far-gap c =
     let closed_at : (d : Biased) → c.args.eb.0 ≤ d.0
-    → (far_gap c.args.reach < far_gap c.args.reach - c.saturating_sub.result + c.run_from-run.result) ⊎ (d.0 < c.args.eb.0 + c.run_from-run.result)
-    → bit c.args.closed (closed_bit c.args.reach 1 (low_field c.args.reach d c.args.ea).0) ≡ 1 = λ d from reach. run_over c.args.reach c.args.closed c.args.ea.0 c.args.eb.0 d.0 (far_gap c.args.reach - c.saturating_sub.result) c.run_from-run.result
-    (omega (arith, c.if-ea-eq0.false)) c.requires.1 from (omega (arith, c.saturating_sub.ensures)) reach c.run_from-run.ensures.1 in
+    → (far_gap c.args.reach < c.min-gap.result + c.run_from-run.result) ⊎ (d.0 < c.args.eb.0 + c.run_from-run.result)
+    → bit c.args.closed (closed_bit c.args.reach 1 (low_field c.args.reach d c.args.ea).0) ≡ 1 = λ d from reach. run_over c.args.reach c.args.closed c.args.ea.0 c.args.eb.0 d.0 (c.min-gap.result) c.run_from-run.result
+    (omega (arith, c.if-ea-eq0.false)) c.requires.1 from (omega (arith, c.min-gap.ensures)) reach c.run_from-run.ensures.1 in
     (omega (arith, c.requires.2), omega arith, λ d from l. closed_at d from (inl (omega (arith, c.if-far-gap.true))))
 
 pub returns-then-end-eb : goal.returns-then-end-eb
 returns-then-end-eb c =
     let closed_at : (d : Biased) → c.args.eb.0 ≤ d.0
-    → (far_gap c.args.reach < far_gap c.args.reach - c.saturating_sub.result + c.run_from-run.result) ⊎ (d.0 < c.args.eb.0 + c.run_from-run.result)
-    → bit c.args.closed (closed_bit c.args.reach 1 (low_field c.args.reach d c.args.ea).0) ≡ 1 = λ d from reach. run_over c.args.reach c.args.closed c.args.ea.0 c.args.eb.0 d.0 (far_gap c.args.reach - c.saturating_sub.result) c.run_from-run.result
-    (omega (arith, c.if-ea-eq0.false)) c.requires.1 from (omega (arith, c.saturating_sub.ensures)) reach c.run_from-run.ensures.1 in
+    → (far_gap c.args.reach < c.min-gap.result + c.run_from-run.result) ⊎ (d.0 < c.args.eb.0 + c.run_from-run.result)
+    → bit c.args.closed (closed_bit c.args.reach 1 (low_field c.args.reach d c.args.ea).0) ≡ 1 = λ d from reach. run_over c.args.reach c.args.closed c.args.ea.0 c.args.eb.0 d.0 (c.min-gap.result) c.run_from-run.result
+    (omega (arith, c.if-ea-eq0.false)) c.requires.1 from (omega (arith, c.min-gap.ensures)) reach c.run_from-run.ensures.1 in
     (omega (arith, c.requires.2), omega arith, λ d from l. closed_at d from (inr (omega (arith, c.if-end-eb.true, c.requires.2))))
 
 pub returns : goal.returns
 returns c =
     let closed_at : (d : Biased) → c.args.eb.0 ≤ d.0
-    → (far_gap c.args.reach < far_gap c.args.reach - c.saturating_sub.result + c.run_from-run.result) ⊎ (d.0 < c.args.eb.0 + c.run_from-run.result)
-    → bit c.args.closed (closed_bit c.args.reach 1 (low_field c.args.reach d c.args.ea).0) ≡ 1 = λ d from reach. run_over c.args.reach c.args.closed c.args.ea.0 c.args.eb.0 d.0 (far_gap c.args.reach - c.saturating_sub.result) c.run_from-run.result
-    (omega (arith, c.if-ea-eq0.false)) c.requires.1 from (omega (arith, c.saturating_sub.ensures)) reach c.run_from-run.ensures.1 in
+    → (far_gap c.args.reach < c.min-gap.result + c.run_from-run.result) ⊎ (d.0 < c.args.eb.0 + c.run_from-run.result)
+    → bit c.args.closed (closed_bit c.args.reach 1 (low_field c.args.reach d c.args.ea).0) ≡ 1 = λ d from reach. run_over c.args.reach c.args.closed c.args.ea.0 c.args.eb.0 d.0 (c.min-gap.result) c.run_from-run.result
+    (omega (arith, c.if-ea-eq0.false)) c.requires.1 from (omega (arith, c.min-gap.ensures)) reach c.run_from-run.ensures.1 in
     (omega arith, omega (arith, c.if-end-eb.false, c.requires.2), λ d from l. closed_at d from (inr (omega arith)))

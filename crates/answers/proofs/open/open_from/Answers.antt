@@ -24,7 +24,7 @@ pub bounds-table-at : goal.bounds-table-at
 bounds-table-at c = omega (arith, (rw c.reach-reach.ensures at c.closed_place-at.ensures), c.reach-reach.ensures, reach_most c.args.job)
 
 pub open_below-requires : goal.open_below-requires
-open_below-requires c = (omega (arith, c.reach-reach.ensures, reach_most c.args.job), omega (arith, c.if-larger-reach.false, c.saturating_sub.ensures, c.if-eb-ea.true), omega (arith, c.if-end-larger.false, c.saturating_sub.ensures), omega (arith, c.if-eb-ea.true))
+open_below-requires c = (omega (arith, c.reach-reach.ensures, reach_most c.args.job), omega (arith, c.if-larger-reach.false, c.max-larger.ensures, c.if-eb-ea.true), omega (arith, c.if-end-larger.false, c.max-larger.ensures), omega (arith, c.if-eb-ea.true))
 
 pub returns-then-eb-ea : goal.returns-then-eb-ea
 returns-then-eb-ea c =
@@ -33,7 +33,7 @@ returns-then-eb-ea c =
       λ valid end kept d from l.
           let closed = (rw c.reach-reach.ensures at c.open_below.ensures).1 d from l in
           partner_closed a.job a.table.now a.end (record { order = 0; larger = a.ea; smaller = d }) valid end kept (record { order_lt = omega arith; ordered = closed.0 })
-          (omega (arith, c.if-larger-reach.false, c.saturating_sub.ensures, c.if-eb-ea.true, c.reach-reach.ensures)) (omega (arith, c.if-end-larger.false, c.saturating_sub.ensures, c.if-eb-ea.true))
+          (omega (arith, c.if-larger-reach.false, c.max-larger.ensures, c.if-eb-ea.true, c.reach-reach.ensures)) (omega (arith, c.if-end-larger.false, c.max-larger.ensures, c.if-eb-ea.true))
           (subst (λ (n : ℕ). bit (get_or a.table.now n 0) (closed_bit (reach a.job) 0 (low_field (reach a.job) a.ea d).0) ≡ 1) ((rw c.reach-reach.ensures at c.closed_place-at.ensures)) closed.1),
     )
 
@@ -47,7 +47,7 @@ pub bounds-table-at-2 : goal.bounds-table-at-2
 bounds-table-at-2 c = omega (arith, (rw c.reach-reach.ensures at c.closed_place-at-2.ensures), c.reach-reach.ensures, reach_most c.args.job)
 
 pub open_above-requires : goal.open_above-requires
-open_above-requires c = (omega (arith, c.reach-reach.ensures, reach_most c.args.job), omega (arith, c.if-eb-ea.false), omega (arith, c.if-end-larger.false, c.saturating_sub.ensures, c.if-eb-ea.false))
+open_above-requires c = (omega (arith, c.reach-reach.ensures, reach_most c.args.job), omega (arith, c.if-eb-ea.false), omega (arith, c.if-end-larger.false, c.max-larger.ensures, c.if-eb-ea.false))
 
 pub returns : goal.returns
 returns c =
@@ -56,6 +56,6 @@ returns c =
       λ valid end kept d from l.
           let above = (rw c.reach-reach.ensures at c.open_above.ensures) in
           partner_closed a.job a.table.now a.end (record { order = 1; larger = d; smaller = a.ea }) valid end kept (record { order_lt = omega arith; ordered = omega (arith, c.if-eb-ea.false) })
-          (omega (arith, c.if-larger-reach.false, c.saturating_sub.ensures, c.if-eb-ea.false, c.reach-reach.ensures)) (omega (arith, above.1))
+          (omega (arith, c.if-larger-reach.false, c.max-larger.ensures, c.if-eb-ea.false, c.reach-reach.ensures)) (omega (arith, above.1))
           (subst (λ (n : ℕ). bit (get_or a.table.now n 0) (closed_bit (reach a.job) 1 (low_field (reach a.job) d a.ea).0) ≡ 1) ((rw c.reach-reach.ensures at c.closed_place-at-2.ensures)) (above.2 d from l)),
     )

@@ -14,13 +14,10 @@ use Rattle.pass.proofs.field.far_end.Goals as goal
 pub overflow_sub-pass : goal.overflow_sub-pass
 overflow_sub-pass c = omega (arith, pow_pos c.args.job.setting.format.w, c.requires.1)
 
-pub overflow_add-result : goal.overflow_add-result
-overflow_add-result c = record { fits = omega (arith, c.saturating_sub.ensures) }
-
 pub returns-then-not-pass : goal.returns-then-not-pass
 returns-then-not-pass c =
     let a = c.args in
-    let over = c.saturating_sub.ensures in (
+    let over = c.max.ensures in (
       omega arith,
       λ valid is kept d e from to P.
           only_far a.job valid d e (omega (arith, c.requires.1))
@@ -33,14 +30,11 @@ returns-then-ea-gap c = (omega arith, λ valid is kept d e from to. absurd (omeg
 pub overflow_sub-gap : goal.overflow_sub-gap
 overflow_sub-gap c = omega (arith, c.if-ea-gap.false, c.far_gap-gap.ensures.1)
 
-pub overflow_add-result-then-all_closed : goal.overflow_add-result-then-all_closed
-overflow_add-result-then-all_closed c = record { fits = omega (arith, c.saturating_sub-then-all_closed-2.ensures, c.saturating_sub-then-all_closed.type_inv) }
-
 pub returns-then-all_closed : goal.returns-then-all_closed
 returns-then-all_closed c =
     let a = c.args in
-    let one = c.saturating_sub-then-all_closed.ensures in
-    let two = c.saturating_sub-then-all_closed-2.ensures in
+    let one = c.saturating_sub.ensures in
+    let two = c.max-then-all_closed.ensures in
     let large = c.if-ea-gap.false in
     let gap = c.far_gap-gap.ensures.1 in (
       omega arith,
@@ -62,15 +56,12 @@ near_from-near-requires c = c.requires.0
 pub overflow_sub-gap-2 : goal.overflow_sub-gap-2
 overflow_sub-gap-2 c = omega (arith, c.if-ea-gap.false, c.far_gap-gap.ensures.1)
 
-pub overflow_add-result-2 : goal.overflow_add-result-2
-overflow_add-result-2 c = record { fits = omega (arith, c.saturating_sub-3.ensures, c.saturating_sub-2.type_inv) }
-
 pub returns : goal.returns
 returns c =
     let a = c.args in
     let near = c.near_from-near in
     let one = c.saturating_sub-2.ensures in
-    let two = c.saturating_sub-3.ensures in
+    let two = c.max-2.ensures in
     let large = c.if-ea-gap.false in
     let gap = c.far_gap-gap.ensures.1 in
     let never = c.if-pass.false in (

@@ -3,7 +3,7 @@
 use mathlib.Core.Bool.{false≢true}
 use mathlib.Core.Logic.{inl}
 use mathlib.Core.Path.{sym, ◌∙◌}
-use Prim.Native.Nat.{◌+◌, ◌-◌, ◌≤◌}
+use Prim.Native.Nat.{◌+◌, ◌≤◌}
 use native.Mathlib.Omega.{arith}
 use Rattle.job.specs.Job.{Valid}
 use Rattle.special.specs.Asked.{field_is, PairFits}
@@ -51,7 +51,7 @@ loop-eb-preserved c =
     let l = c.loop-eb in
     record {
       valid = valid;
-      a_exponent = inside.meets (omega (arith, c.loop-eb-test.true, l.invariant.0, c.partner_from-eb.ensures.0, c.saturating_sub.ensures));
+      a_exponent = inside.meets (omega (arith, c.loop-eb-test.true, l.invariant.0, c.partner_from-eb.ensures.0, c.max.ensures));
       b_exponent = (l.invariant.1 valid).1 (omega (arith, c.loop-eb-test.true, inside.within));
     } in
     let l = c.loop-eb in
@@ -83,8 +83,8 @@ pairs-preserved c =
     let over-at : Valid c.args.job → NoneBefore c.args.job (record { a = c.pairs.ea; b = c.pairs.eb })
     → c.span_of-span.result.end.0 ≤ c.loop-eb.eb.0 → NoneBelow c.args.job (field_is (c.pairs.ea.0 + 1)) = λ valid none over. let is = c.pass_of-pass.ensures.1 valid in
     none_over c.args.job c.pairs.ea c.pairs.eb c.span_of-span.result none
-    (c.span_of-span.ensures.1 valid is (λ d e l. none d e (inl l))) (field_is (c.pairs.eb.0 + c.saturating_sub.result)) c.partner_from-eb.result c.loop-eb.eb
-    (omega (arith, c.saturating_sub.ensures)) (c.partner_from-eb.ensures.1 valid is (c.pairs.invariant.0 valid)).1 (c.loop-eb.invariant.1 valid).2 over in (
+    (c.span_of-span.ensures.1 valid is (λ d e l. none d e (inl l))) (field_is c.max.result) c.partner_from-eb.result c.loop-eb.eb
+    (omega (arith, c.max.ensures)) (c.partner_from-eb.ensures.1 valid is (c.pairs.invariant.0 valid)).1 (c.loop-eb.invariant.1 valid).2 over in (
       λ valid. (c.loop-eb.invariant.1 valid).0,
       λ valid none.
           let j = c.args.job in
@@ -103,14 +103,14 @@ returns-then-admits c =
     let l = c.loop-eb in
     record {
       valid = valid;
-      a_exponent = inside.meets (omega (arith, c.loop-eb-test.true, l.invariant.0, c.partner_from-eb.ensures.0, c.saturating_sub.ensures));
+      a_exponent = inside.meets (omega (arith, c.loop-eb-test.true, l.invariant.0, c.partner_from-eb.ensures.0, c.max.ensures));
       b_exponent = (l.invariant.1 valid).1 (omega (arith, c.loop-eb-test.true, inside.within));
     } in
     let before_at : Valid c.args.job → NoneBefore c.args.job (record { a = c.pairs.ea; b = c.pairs.eb })
     → NoneBefore c.args.job (record { a = c.pairs.ea; b = c.loop-eb.eb }) = λ valid none. let is = c.pass_of-pass.ensures.1 valid in
     none_before c.args.job c.pairs.ea c.pairs.eb c.span_of-span.result none
-    (c.span_of-span.ensures.1 valid is (λ d e l. none d e (inl l))) (field_is (c.pairs.eb.0 + c.saturating_sub.result)) c.partner_from-eb.result c.loop-eb.eb
-    (omega (arith, c.saturating_sub.ensures)) (c.partner_from-eb.ensures.1 valid is (c.pairs.invariant.0 valid)).1 (c.loop-eb.invariant.1 valid).2 in
+    (c.span_of-span.ensures.1 valid is (λ d e l. none d e (inl l))) (field_is c.max.result) c.partner_from-eb.result c.loop-eb.eb
+    (omega (arith, c.max.ensures)) (c.partner_from-eb.ensures.1 valid is (c.pairs.invariant.0 valid)).1 (c.loop-eb.invariant.1 valid).2 in
     let l = c.loop-eb in
     λ valid none.
     let got = c.admits.ensures.exact (asked-at valid) (c.pass_of-pass.ensures.1 valid).end (l.invariant.1 valid).0 in

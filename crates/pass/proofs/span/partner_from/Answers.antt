@@ -1,7 +1,7 @@
 -- `pass::span::partner_from` meets its contract: fields that do not meet b's mask are passed over by `partners_met`, those that closed
 -- classes or c's mask rule out by `asked_from`. Assumes nothing.
 use mathlib.Core.Path.{refl, subst}
-use Prim.Native.Nat.{ℕ, ◌-◌, ◌^◌, ◌≤◌, ◌<◌}
+use Prim.Native.Nat.{ℕ, ◌<◌}
 use native.Mathlib.Omega.{arith}
 use Rattle.mask.specs.Mask.{WellFormed}
 use Rattle.mask.specs.Next.{MetFrom}

@@ -11,14 +11,11 @@ returns-then-larger-far_gap c = (omega arith, λ valid is o E e from to. absurd 
 pub near_from-near-requires : goal.near_from-near-requires
 near_from-near-requires c = c.requires
 
-pub overflow_add-result : goal.overflow_add-result
-overflow_add-result c = record { fits = omega (arith, c.saturating_sub.ensures, c.near_from-near.type_inv) }
-
 pub returns : goal.returns
 returns c =
     let a = c.args in
     let near = c.near_from-near in
-    let over = c.saturating_sub.ensures in
+    let over = c.max.ensures in
     let large = c.if-larger-far_gap.false in
     let gap = c.far_gap.ensures.1 in (
       omega arith,
