@@ -1,4 +1,5 @@
 // What is asked, and what comes, as a line writes them.
+use bounds::Ends;
 use format::Cause;
 use generator::Case;
 use job::{Dropped, Job, Wanted};
@@ -28,7 +29,7 @@ impl fmt::Display for NamedBounds<'_> {
         let NamedBounds(name, wanted) = *self;
         match wanted.bounds {
             None => Ok(()),
-            Some(ends) => { write!(f, " {name} within {:016x} {:016x}", ends.low, ends.high) }
+            Some(Ends { low, high }) => write!(f, " {name} within {low:016x} {high:016x}"),
         }
     }
 }

@@ -50,11 +50,7 @@ pub fn first_place() -> Place
 fn stops(reply: Result<Case, Cause>) -> bool
     ensures { result ≡ stops reply }
 {
-    match reply {
-        Ok(_) => false,
-        Err(Cause::NoCase) => false,
-        Err(_) => true,
-    }
+    !matches!(reply, Ok(_) | Err(Cause::NoCase))
 }
 
 // Line n for the generator's reply to an entry; the next record stands at `next`.
@@ -79,10 +75,7 @@ fn answered(entry: Entry, n: u64, next: usize) -> Step
 fn reading(place: Place) -> bool
     ensures { (result ≡ true → Reading place) × (result ≡ false → (place.stopped ≡ true) ⊎ (longest < place.lines)) }
 {
-    if place.stopped {
-        return false;
-    }
-    place.lines <= MOST_LINES
+    !place.stopped && place.lines <= MOST_LINES
 }
 
 // The line that comes next at a place of a file, and what comes after it.

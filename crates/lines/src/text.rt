@@ -49,9 +49,9 @@ fn glyph(d: u64) -> u8
     ensures { result ≡ glyph d }
 {
     if d < 10 {
-        (48 + d) as u8
+        b'0' + d as u8
     } else {
-        (87 + d) as u8
+        b'a' - 10 + d as u8
     }
 }
 

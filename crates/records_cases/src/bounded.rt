@@ -77,8 +77,7 @@ fn bounded(job: Job, role: Role, low: u64, high: u64) -> Job {
 fn with(entry: Entry, role: Role, low: u64, high: u64) -> Entry {
     Entry {
         job: bounded(entry.job, role, low, high),
-        r1: entry.r1,
-        r2: entry.r2,
+        ..entry
     }
 }
 

@@ -43,11 +43,7 @@ fn with(entry: Entry, g: u64, care: u64, value: u64) -> Entry {
         mask: Mask { care, value },
     };
     job.dropped = dropped;
-    Entry {
-        job,
-        r1: entry.r1,
-        r2: entry.r2,
-    }
+    Entry { job, ..entry }
 }
 
 // The longest record without bounds.

@@ -26,20 +26,15 @@ impl fmt::Display for Shown {
 
 // How many bytes a reply says are written.
 fn length(reply: Result<usize, Cause>) -> usize {
-    match reply {
-        Ok(n) => n,
-        Err(_) => 0,
-    }
+    reply.unwrap_or(0)
 }
 
 // Whether the bytes from n on are as they were.
 fn kept(rt: &impl Print, buffer: &[u8], n: usize) -> io::Result<()> {
     let before = blank();
-    if n <= buffer.len() {
-        if n <= 144 {
-            let same = sameness(buffer[n..] == before[n..]);
-            println!(rt; ", after it {same}")?;
-        }
+    if n <= buffer.len() && n <= before.len() {
+        let same = sameness(buffer[n..] == before[n..]);
+        println!(rt; ", after it {same}")?;
     }
     Ok(())
 }
@@ -61,19 +56,16 @@ pub(crate) fn show(rt: &impl Print, entry: Entry, room: usize) -> io::Result<()>
 
 // Whether the first n bytes are the same.
 fn compare(rt: &impl Print, buffer: &[u8], s: &[u8], n: usize) -> io::Result<()> {
-    if n <= buffer.len() {
-        if n <= s.len() {
-            let same = sameness(buffer[..n] == s[..n]);
-            print!(rt; ", record {same}")?;
-        }
+    if n <= buffer.len() && n <= s.len() {
+        let same = sameness(buffer[..n] == s[..n]);
+        print!(rt; ", record {same}")?;
     }
     Ok(())
 }
 
 // Reads a record and writes its entry: the bytes that were read.
 pub(crate) fn back(rt: &impl Print, s: &[u8]) -> io::Result<()> {
-    let first = records::read(s);
-    let Ok(Some((entry, n))) = first else {
+    let Ok(Some((entry, n))) = records::read(s) else {
         return Ok(());
     };
     let mut buffer = blank();

@@ -72,11 +72,8 @@ pub extern "C" fn vindacsor_join(
 ) -> u64
     ensures { Delivered (of_joined (join (mask_from care value) (mask_from care2 value2))) out.old out.new result }
 {
-    let one = Mask { care, value };
-    let other = Mask {
-        care: care2,
-        value: value2,
-    };
+    let one = mask_of(care, value);
+    let other = mask_of(care2, value2);
     deliver(out, replies::of_joined(join(one, other)))
 }
 
