@@ -3,14 +3,14 @@
 -- Assumes nothing.
 use mathlib.Core.Path.{◌≡◌, refl, sym, ap, ◌∙◌}
 use mathlib.Core.Bool.{Bool, true, false, not, cond, ◌&&◌, ◌||◌, true≢false, and-eq-true_iff}
-use Prim.Native.Nat.{ℕ, zero, suc, ◌*◌, ◌%◌, ◌^◌, ◌≤◌, ◌<◌}
+use Prim.Native.Nat.{ℕ, zero, suc, ◌+◌, ◌*◌, ◌%◌, ◌^◌, ◌≤◌, ◌<◌}
 use native.Mathlib.Nat.{zero-mul, one-mul, zero-div, mod-lt}
 use native.Mathlib.Decide.{dec_lt}
 use native.Mathlib.Omega.{arith}
 use borrow.Author.Tests.{ltb-true, eqb-true, eqb-false, eq-eqb, ne_eqb}
-use mathlib.Core.List.{List, [], ◌∷◌, ◌++◌, map}
+use mathlib.Core.List.{List, [], ◌∷◌, ◌++◌}
 use mathlib.Core.Logic.{◌⊎◌, inl, inr}
-use lib.ListN.{length, get_or, take, drop}
+use lib.ListN.{length, get_or, take, drop, set}
 use lib.Dec.{eqb, ltb}
 use lib.Bits.{bit_or, or_zero_r, or_comm, or_lt}
 use lib.Pow.{pow-lt, pow_pos}
@@ -23,7 +23,7 @@ use Rattle.numbers.specs.Number.{number}
 use Rattle.numbers.specs.Numbers.{total, numbers}
 use Rattle.layout.specs.Layout.{sizes, map_of, is_default, says_default}
 use Rattle.layout.specs.declared.Slot.{Slot}
-use Rattle.numbers.proofs.BySizes.{Fits, none, more}
+use Rattle.numbers.proofs.BySizes.{Fits, none, more, drop_one, place_one}
 
 -- ---- the columns of a layout
 abbrev pub counts : List Slot → List ℕ
@@ -63,11 +63,14 @@ sizes_most (p ∷ ps) m =
     (λ e. rw (e, zero-mul p.size) (omega (arith, sizes_most ps m)))
     (λ e. rw (e, one-mul p.size) (omega (arith, sizes_most ps m)))
 
--- ---- the byte counts are mapped from the layout
-pub sizes_map : (ps : List Slot) (m : ℕ) → sizes ps m ≡ map (λ p. bit m p.bit * p.size) ps
-unfolding sizes
-sizes_map [] m = refl
-sizes_map (p ∷ ps) m = ap (λ (ks : List ℕ). bit m p.bit * p.size ∷ ks) (sizes_map ps m)
+-- ---- a turn of the loop over a layout
+module _ (ps : List Slot) (i : ℕ) (d : Slot) (h : i < length ps) where
+  pub sizes_turn : (m : ℕ) (l : List ℕ) → i < length l
+      → take (i + 1) (set l i (bit m (get_or ps i d).bit * (get_or ps i d).size)) ++ sizes (drop (i + 1) ps) m ≡ take i l ++ sizes (drop i ps) m
+  unfolding sizes
+  sizes_turn m l g =
+      place_one l (sizes (drop (i + 1) ps) m) i (bit m (get_or ps i d).bit * (get_or ps i d).size) g
+      ∙ ap (λ (qs : List Slot). take i l ++ sizes qs m) (sym (drop_one ps i d h))
 
 -- ---- turns of the loop over the fields: m is the map of the numbers passed
 module _ (m : ℕ) (p : Slot) (n : ℕ) (ps : List Slot) (ns : List ℕ) where

@@ -1,4 +1,3 @@
-pub mod Mapped
 pub mod ByMap
 pub mod JobLayout
 pub mod Maps

@@ -106,7 +106,12 @@ fn size(slot: Slot, map: u64) -> usize
 pub fn field_sizes(word: usize, map: u64) -> [usize; NUMBERS]
     ensures { result ≡ field_sizes word map }
 {
-    layout(word).map(|slot| size(slot, map))
+    let slots = layout(word);
+    let mut sizes = [0; NUMBERS];
+    for (i, &slot) in slots.iter().enumerate() {
+        sizes[i] = size(slot, map);
+    }
+    sizes
 }
 
 // The map bits of the fields that have a default: each of their numbers that is not 0 sets the bit of its field.

@@ -1,16 +1,14 @@
 -- Numbers as bytes: k bytes of a number below 256^k read back as the number, and bytes that are read write back as they were.
 -- Bytes put one after the other are put together. Assumes nothing.
 use mathlib.Core.Path.{◌≡◌, refl, sym, ap, ap₂, ◌∙◌}
-use Prim.Native.Nat.{ℕ, zero, suc, ◌+◌, ◌*◌, ◌/◌, ◌%◌, ◌^◌, ◌≤◌, ◌<◌}
+use Prim.Native.Nat.{ℕ, zero, suc, ◌+◌, ◌*◌, ◌/◌, ◌%◌, ◌^◌, ◌-◌, ◌≤◌, ◌<◌}
 use native.Mathlib.Nat.{add-zero, mod-eq_of_lt, div-eq_of_lt, mod-add-div, add-mul-mod_self_left, add-mul-div_left, pow-suc, mul_comm, div-lt_iff_lt-mul, zero-lt-suc, div-div-eq-div-mul, div-one, lt_of_lt_of_le, pow-le-pow_right, min-le_left}
 use native.Mathlib.Omega.{arith}
 use native.Mathlib.Numerals.{add-one}
 use mathlib.Core.List.{List, [], ◌∷◌, ◌++◌, append_assoc}
-use lib.ListN.{length, take, drop, set, length-append, length-take, length-drop, take-append-drop}
-use lib.Seq.{length-take-le, get_or-drop, take_at, drop_at, take_all, take-suc-set, drop-drop}
+use lib.ListN.{length, get_or, take, drop, set, length-append, length-take, length-drop, take-append-drop}
+use lib.Seq.{length-take-le, get_or-drop, take_at, drop_at, drop-cons, take_all, take-suc-set, drop-drop}
 use borrow.Rule.Slice.PartMut.{put_mid}
-use mir.Syntax.{w64}
-use Rattle.std.specs.Int.{from_le_bytes}
 use mathlib.Core.Bool.{Bool, cond}
 use borrow.Author.Tests.{le-leb, lt-leb}
 use Rattle.numbers.specs.Number.{Bytes, little_endian, number, number_within, put, put_within}
@@ -66,37 +64,27 @@ left_suc x i = div-div-eq-div-mul x (256 ^ i) 256 ∙ ap (λ (u : ℕ). x / u) (
 pub number_take_lt : (k : ℕ) (s : List ℕ) → Bytes s → number (take k s) < 256 ^ k
 number_take_lt k s b = lt_of_lt_of_le (number_lt (take k s) (bytes_take k s b)) (pow-le-pow_right {n = 256} (omega arith) {j = k} (rw length-take (min-le_left k (length s))))
 
--- zeros after the bytes change nothing
-zeros_after : (s t : List ℕ) → number t ≡ 0 → number (s ++ t) ≡ number s
+-- one more byte in front
+number_cons : (s : List ℕ) (p k : ℕ) → p < length s → number (take (suc k) (drop p s)) ≡ get_or s p 0 + 256 * number (take k (drop (suc p) s))
 unfolding number
-zeros_after [] t h = h
-zeros_after (b ∷ s) t h = ap (λ (n : ℕ). b + 256 * n) (zeros_after s t h)
+number_cons s p k h = rw (drop-cons s p 0 h)
 
-zeros_drop : (k : ℕ) (s : List ℕ) → number s ≡ 0 → number (drop k s) ≡ 0
-unfolding number
-zeros_drop zero s h = h
-zeros_drop (suc k) [] h = h
-zeros_drop (suc k) (b ∷ s) h = zeros_drop k s (omega arith)
+-- a turn of the loop that reads: the byte before those passed is taken in
+pub read_more : (s : List ℕ) (at k i n : ℕ) → 0 < i → i ≤ k → at + k ≤ length s → n ≡ number (take (k - i) (drop (at + i) s))
+    → n * 256 + get_or s (at + (i - 1)) 0 ≡ number (take (k - (i - 1)) (drop (at + (i - 1)) s))
+read_more s at k i n pos le fits e =
+    let p : ℕ = at + (i - 1) in
+    let back : suc p ≡ at + i = omega arith in
+    let count : k - (i - 1) ≡ suc (k - i) = omega arith in
+    let more : number (take (suc (k - i)) (drop p s)) ≡ get_or s p 0 + 256 * number (take (k - i) (drop (suc p) s)) = number_cons s p (k - i) (omega arith) in
+    let rest : number (take (k - i) (drop (suc p) s)) ≡ n = ap (λ (q : ℕ). number (take (k - i) (drop q s))) back ∙ sym e in
+    let same : n * 256 + get_or s p 0 ≡ get_or s p 0 + 256 * n = omega arith in
+    same ∙ ap (λ (u : ℕ). get_or s p 0 + 256 * u) (sym rest) ∙ sym more ∙ ap (λ (q : ℕ). number (take q (drop p s))) (sym count)
 
--- eight bytes stand for the same number in std
-eight_bytes : (s : List ℕ) → length s ≡ 8 → from_le_bytes w64 s ≡ number s
-unfolding number
-eight_bytes (a ∷ b ∷ c ∷ d ∷ e ∷ f ∷ g ∷ h ∷ []) l = omega arith
-eight_bytes [] l = absurd (omega arith)
-eight_bytes (_ ∷ []) l = absurd (omega arith)
-eight_bytes (_ ∷ _ ∷ []) l = absurd (omega arith)
-eight_bytes (_ ∷ _ ∷ _ ∷ []) l = absurd (omega arith)
-eight_bytes (_ ∷ _ ∷ _ ∷ _ ∷ []) l = absurd (omega arith)
-eight_bytes (_ ∷ _ ∷ _ ∷ _ ∷ _ ∷ []) l = absurd (omega arith)
-eight_bytes (_ ∷ _ ∷ _ ∷ _ ∷ _ ∷ _ ∷ []) l = absurd (omega arith)
-eight_bytes (_ ∷ _ ∷ _ ∷ _ ∷ _ ∷ _ ∷ _ ∷ []) l = absurd (omega arith)
-eight_bytes (_ ∷ _ ∷ _ ∷ _ ∷ _ ∷ _ ∷ _ ∷ _ ∷ _ ∷ t) l = absurd (omega arith)
-
--- bytes copied to the front of eight zeros
-pub copied_number : (bs zeros : List ℕ) (k : ℕ) → length bs ≡ k → k ≤ 8 → length zeros ≡ 8 → number zeros ≡ 0
-    → from_le_bytes w64 (bs ++ drop k zeros) ≡ number bs
-copied_number bs zeros k long le eight none =
-    eight_bytes (bs ++ drop k zeros) (omega (arith, length-append bs (drop k zeros), length-drop k zeros)) ∙ zeros_after bs (drop k zeros) (zeros_drop k zeros none)
+-- before the last turn seven bytes are passed at most
+pub read_small : (s : List ℕ) (at k i n : ℕ) → Bytes s → 0 < i → k ≤ 8 → n ≡ number (take (k - i) (drop (at + i) s)) → n < 256 ^ 7
+read_small s at k i n b pos le e =
+    rw e (lt_of_lt_of_le (number_take_lt (k - i) (drop (at + i) s) (bytes_drop (at + i) s b)) (pow-le-pow_right {n = 256} (omega arith) {j = 7} (omega arith)))
 
 -- ---- bytes put into a buffer
 pub put_none : (s : List ℕ) (at : ℕ) → put s at [] ≡ s

@@ -19,9 +19,11 @@ fn number_at(s: &[u8], at: usize, k: usize) -> u64
     requires { (k ≤ 8) × (at + k ≤ length s.now) }
     ensures { result ≡ number (take k (drop at s.now)) }
 {
-    let mut bytes = [0; MOST_BYTES];
-    bytes[..k].copy_from_slice(&s[at..at + k]);
-    u64::from_le_bytes(bytes)
+    let mut n = 0;
+    for i in (0..k).rev() {
+        n = n * 256 + wide(s[at + i]);
+    }
+    n
 }
 
 // The number of the k bytes from `at` on where these are bytes of s and no more than a u64 has, else 0.

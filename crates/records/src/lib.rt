@@ -115,7 +115,7 @@ fn entry_in(s: &[u8], map: u64, format: Format) -> Entry
 fn read_reply(entry: Entry, map: u64, n: usize) -> Result<Option<(Entry, usize)>, Cause>
     ensures { result ≡ read_reply (first (record_cause entry) (unless (eqb (entry_map entry) map) cause.DefaultField)) entry n }
 {
-    entry_cause(entry)?;
+    entry_cause(entry)?; // 10 comes after the causes of the entry
     unless(entry_map(entry) == map, Cause::DefaultField)?;
     Ok(Some((entry, n)))
 }

@@ -1,11 +1,10 @@
 -- `fit::carries_meet` meets its contract: a valid job has a row or none. Assumes nothing.
-use Rattle.std.specs.Prelude.{Option}
-use mathlib.Core.Path.{◌≡◌, sym, ap, ◌∙◌}
+use mathlib.Core.Path.{◌≡◌, sym, ◌∙◌}
 use Prim.Native.Nat.{ℕ}
 use native.Mathlib.Omega.{arith}
 use Rattle.adder.specs.Row.{row_of}
 use Rattle.adder.proofs.Causes.{row_row}
-use Rattle.fit.specs.Fit.{part_meets}
+use Rattle.std.proofs.lemmas.Grind.{common_steps}
 use Rattle.fit.proofs.Laws.{words_fit}
 use Rattle.fit.proofs.carries_meet.Goals as goal
 
@@ -15,7 +14,7 @@ returns-in-Ok c =
     let r = row_row S.format S.operation c.args.a c.args.b (words_fit S c.requires.0 c.args.a c.args.b c.requires.1 c.requires.2) in
     let e = sym c.in-Ok.is ∙ c.carry_row.ensures ∙ r in
     let w : c.in-Ok.row ≡ row_of S.format S.operation c.args.a c.args.b = cc in
-    c.part_meets.ensures ∙ ap (λ (n : Option ℕ). part_meets n c.args.carries) w
+    grind (arith, common_steps, c.part_meets.ensures, w)
 
 pub returns-in-Err : goal.returns-in-Err
 returns-in-Err c =

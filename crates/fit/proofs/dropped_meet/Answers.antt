@@ -1,7 +1,8 @@
 -- `fit::dropped_meet` meets its contract: a mask that fixes no bit is met whatever the bits are. Assumes nothing.
-use Rattle.std.specs.Prelude.{Option, ℕ}
-use mathlib.Core.Path.{sym, ap, ◌∙◌}
-use Rattle.fit.specs.Fit.{below_in, part_meets}
+use mathlib.Core.Path.{sym}
+use native.Mathlib.Omega.{arith}
+use Rattle.std.proofs.lemmas.Grind.{common_steps}
+use Rattle.fit.specs.Fit.{below_in}
 use Rattle.fit.proofs.Laws.{part_meets_true, unfixed_met}
 use Rattle.fit.proofs.dropped_meet.Goals as goal
 
@@ -15,4 +16,4 @@ returns-then-dropped-eq0 c =
 pub returns : goal.returns
 returns c =
     let below = c.below_last-below.ensures.0 (c.requires.0.format, c.requires.1.g_most) in
-    c.part_meets.ensures ∙ ap (λ (b : Option ℕ). part_meets b c.args.dropped.mask) below
+    grind (arith, common_steps, c.part_meets.ensures, below)
